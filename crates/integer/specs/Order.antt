@@ -1,0 +1,86 @@
+-- The order of the integers: a ≤ b exactly when b is a and a natural number more. Assumes nothing.
+use mathlib.Core.Path.{_≡_, refl, sym, _∙_, ap, ap₂, subst}
+use mathlib.Core.Bool.{Bool, true, false, not, cond}
+use Prim.Native.Nat.{ℕ, zero, suc, _+_, _*_, _-_, _<_, _≤_, zero-le, suc-le-suc}
+use native.Mathlib.Nat as N
+use native.Mathlib.Omega.{arith}
+use lib.Dec.{T, ltb, leb, ltb→lt, nltb→le, leb→le, le→leb}
+use lib.IntN.{ℤ, pos, negsuc, negℤ, natAbs, subℕ, _+ℤ_, _-ℤ_, _*ℤ_, +ℤ-assoc, +ℤ-comm, +ℤ-idr, +ℤ-invr, +ℤ-invl, negℤ-+ℤ, negℤ-negℤ}
+use lib.Signed.{leZ, ltZ, _≤ℤ_, _<ℤ_, leZ-yes}
+use Rattle.integer.specs.Ring.{ring, distr}
+
+at-cond : (c : Bool) (x y : ℤ) (P : ℤ → Type 0) → (T c → P x) → (T (not c) → P y) → P (cond c x y)
+at-cond true x y P f g = f tt
+at-cond false x y P f g = g tt
+
+-- a − b for b ≤ a, and for a < b
+pub sub-ge : (a b : ℕ) → b ≤ a → subℕ a b ≡ pos (a - b)
+sub-ge a b h = at-cond (ltb a b) (negsuc (b - suc a)) (pos (a - b)) (λ (z : ℤ). z ≡ pos (a - b)) (λ t. absurd (clash (ltb→lt a b t))) (λ t. refl)
+  where
+    clash : a < b → ⊥
+    clash k = omega arith
+
+pub sub-lt : (a b : ℕ) → a < b → subℕ a b ≡ negsuc (b - suc a)
+sub-lt a b h = at-cond (ltb a b) (negsuc (b - suc a)) (pos (a - b)) (λ (z : ℤ). z ≡ negsuc (b - suc a)) (λ t. refl) (λ t. absurd (clash (nltb→le a b t)))
+  where
+    clash : b ≤ a → ⊥
+    clash k = omega arith
+
+less : (a b : ℤ) → T (leZ a b) → (n : ℕ) × (b ≡ a +ℤ pos n)
+less (pos a) (pos b) t = (b - a, ap pos (more (leb→le a b t)))
+  where
+    more : a ≤ b → b ≡ a + (b - a)
+    more h = omega arith
+less (pos a) (negsuc b) t = absurd t
+less (negsuc a) (pos b) t = (b + suc a, sym (sub-ge (b + suc a) (suc a) (omega arith) ∙ ap pos back))
+  where
+    back : b + suc a - suc a ≡ b
+    back = omega arith
+less (negsuc a) (negsuc b) t = (a - b, sym (sub-lt (a - b) (suc a) (omega arith) ∙ ap negsuc (back (leb→le b a t))))
+  where
+    back : b ≤ a → suc a - suc (a - b) ≡ b
+    back h = omega arith
+
+pub ≤ℤ-diff : {a b : ℤ} → a ≤ℤ b → (n : ℕ) × (b ≡ a +ℤ pos n)
+≤ℤ-diff {a} {b} h = less a b (h .le)
+
+more : (a : ℤ) (n : ℕ) → T (leZ a (a +ℤ pos n))
+more (pos a) n = le→leb a (a + n) (omega arith)
+more (negsuc a) n = at-cond (ltb n (suc a)) (negsuc (suc a - suc n)) (pos (n - suc a)) (λ (z : ℤ). T (leZ (negsuc a) z)) (λ t. le→leb (suc a - suc n) a (omega arith)) (λ t. tt)
+
+pub ≤ℤ-more : (a : ℤ) (n : ℕ) → a ≤ℤ (a +ℤ pos n)
+≤ℤ-more a n = leZ-yes (more a n)
+
+by-diff : {a b : ℤ} (n : ℕ) → b ≡ a +ℤ pos n → a ≤ℤ b
+by-diff {a} {b} n e = subst (λ (x : ℤ). a ≤ℤ x) (sym e) (≤ℤ-more a n)
+
+pub ≤ℤ-trans : {a b c : ℤ} → a ≤ℤ b → b ≤ℤ c → a ≤ℤ c
+≤ℤ-trans {a} {b} {c} h k =
+    let (m, p) = ≤ℤ-diff h in
+    let (n, q) = ≤ℤ-diff k in
+    by-diff (m + n) (q ∙ ap (λ (x : ℤ). x +ℤ pos n) p ∙ +ℤ-assoc a (pos m) (pos n))
+
+swap : (a n c : ℤ) → (a +ℤ n) +ℤ c ≡ (a +ℤ c) +ℤ n
+swap a n c = simp ring
+
+pub ≤ℤ-+ : {a b : ℤ} (c : ℤ) → a ≤ℤ b → (a +ℤ c) ≤ℤ (b +ℤ c)
+≤ℤ-+ {a} {b} c h = let (m, p) = ≤ℤ-diff h in by-diff m (ap (λ (x : ℤ). x +ℤ c) p ∙ swap a (pos m) c)
+
+pub ≤ℤ-* : {a b : ℤ} (k : ℕ) → a ≤ℤ b → (a *ℤ pos k) ≤ℤ (b *ℤ pos k)
+≤ℤ-* {a} {b} k h = let (m, p) = ≤ℤ-diff h in by-diff (m * k) (ap (λ (x : ℤ). x *ℤ pos k) p ∙ distr a (pos m) (pos k))
+
+-- |z| ≤ k exactly when -k ≤ z ≤ k
+pub natAbs-upper : (z : ℤ) {k : ℕ} → natAbs z ≤ k → z ≤ℤ pos k
+natAbs-upper (pos n) {k} h = leZ-yes (le→leb n k h)
+natAbs-upper (negsuc n) h = leZ-yes tt
+
+pub natAbs-lower : (z : ℤ) {k : ℕ} → natAbs z ≤ k → negℤ (pos k) ≤ℤ z
+natAbs-lower (pos n) {k = zero} h = leZ-yes (le→leb 0 n zero-le)
+natAbs-lower (pos n) {k = suc k} h = leZ-yes tt
+natAbs-lower (negsuc n) {k = zero} h = absurd (N.not-suc-le-zero h)
+natAbs-lower (negsuc n) {k = suc k} h = leZ-yes (le→leb n k (N.le-of-suc-le-suc h))
+
+pub between : (z : ℤ) (k : ℕ) → negℤ (pos k) ≤ℤ z → z ≤ℤ pos k → natAbs z ≤ k
+between (pos n) k h g = leb→le n k (g .le)
+between (negsuc n) zero h g = absurd (h .le)
+between (negsuc n) (suc k) h g = suc-le-suc (leb→le n k (h .le))

@@ -1,0 +1,45 @@
+-- The rule of the tables: each one's sizes add up to at most 2 * 10 ^ 12, by one test; so a partial number is no larger. Assumes nothing.
+use mathlib.Core.Bool.{Bool, true, false}
+use mathlib.Core.List.{List, [], _∷_}
+use Prim.Native.Nat.{ℕ, zero, suc, _≤_, zero-le}
+use native.Mathlib.Nat as N
+use lib.Dec.{T, leb, leb→le}
+use lib.ListN.{getD}
+use lib.IntN.{ℤ, pos, natAbs}
+use Rattle.ternary.specs.Size.{horner-le, worked-is, inner-le}
+use Rattle.ternary.specs.WorkingRule.{coefs, sumAbs, worked, rowsOf, innerOf}
+use Rattle.ternary.specs.Coefficients.{tables, coeff}
+
+abbrev both : Bool → Bool → Bool
+both true b = b
+both false b = false
+
+both-left : (a b : Bool) → T (both a b) → T a
+both-left true b t = tt
+both-left false b t = t
+
+both-right : (a b : Bool) → T (both a b) → T b
+both-right true b t = t
+both-right false b t = absurd t
+
+size : List ℤ → ℕ
+size t = sumAbs (coefs (λ (i : ℕ). getD t i (pos 0)) 0 20)
+
+every : List (List ℤ) → Bool
+every [] = true
+every (t ∷ ts) = both (leb (size t) 2000000000000) (every ts)
+
+at-each : (ts : List (List ℤ)) → T (every ts) → (s : ℕ) → size (getD ts s []) ≤ 2000000000000
+unfolding every size sumAbs coefs
+at-each [] t s = zero-le
+at-each (x ∷ ts) t zero = leb→le (size x) 2000000000000 (both-left (leb (size x) 2000000000000) (every ts) t)
+at-each (x ∷ ts) t (suc s) = at-each ts (both-right (leb (size x) 2000000000000) (every ts) t) s
+
+pub small : (s : ℕ) → sumAbs (coefs (coeff s) 0 20) ≤ 2000000000000
+unfolding size every sumAbs coefs
+small s = at-each tables tt s
+
+pub worked-small : (s n1 n2 d : ℕ) → n1 ≤ d → n2 ≤ d → natAbs (worked n1 n2 d (rowsOf (coeff s))) ≤ 2000000000000
+worked-small s n1 n2 d h1 h2 =
+    rw (← worked-is (coeff s) n1 n2 d)
+    (N.le-trans (horner-le n1 d (coefs (innerOf (coeff s) n2 d) 0 8) h1) (N.le-trans (inner-le (coeff s) n2 d h2) (small s)))
