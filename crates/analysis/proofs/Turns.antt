@@ -7,10 +7,11 @@ use native.Mathlib.Omega.{arith}
 use native.Mathlib.Numerals.{add-one}
 use lib.ListN.{length, getD, drop, drop-of-length-le}
 use lib.Seq.{drop-cons}
-use borrow.Author.Tests.{le-leb, lt-leb}
+use lib.Dec.{eqb, leb}
+use borrow.Author.Tests.{le-leb, lt-leb, eqb-false}
 use Rattle.analysis.specs.declared.Checked.{Checked}
 use Rattle.analysis.specs.declared.Checked.the-variants.{InRange, Refused}
-use Rattle.analysis.specs.Check.{inRange, allInRange, totalOf, refusalOf, AtFault, answerOf, Checking}
+use Rattle.analysis.specs.Check.{inRange, allInRange, totalOf, totalFits, refusalBy, refusalOf, AtFault, answerOf, Checking, Fault}
 
 module _ (k : ℕ) (a : List ℕ) (h : k < length a) where
   pub all-go : inRange k (getD a k 0) ≡ true → allInRange k (drop k a) ≡ allInRange (k + 1) (drop (k + 1) a)
@@ -23,29 +24,41 @@ module _ (k : ℕ) (a : List ℕ) (h : length a ≤ k) where
   pub all-end : allInRange k (drop k a) ≡ true
   all-end = rw drop-of-length-le
 
-module _ (a : List ℕ) where
-  pub refused-range : allInRange 0 a ≡ false → refusalOf a ≡ 5
+pub fits-low : (t : ℕ) → t < 999900 → totalFits t ≡ false
+unfolding totalFits
+fits-low t h = simp (lt-leb _ _ h)
+
+pub fits-high : (t : ℕ) → 999900 ≤ t → totalFits t ≡ leb t 1000100
+unfolding totalFits
+fits-high t h = simp (le-leb _ _ h)
+
+five : (t u : Bool) → refusalBy t u ≡ 5 → t ≡ false
+five false u h = refl
+five true true h = absurd (omega arith)
+five true false h = absurd (omega arith)
+
+six : (t u : Bool) → (refusalBy t u ≡ 0 → ⊥) → (refusalBy t u ≡ 5 → ⊥) → refusalBy t u ≡ 6
+six false u n m = absurd (m refl)
+six true true n m = absurd (n refl)
+six true false n m = refl
+
+-- the number that the code finds is that of the analysis, and the answers with it
+module _ (a : List ℕ) (code : ℕ) (f : Fault a code) (fits : Bool) (e : fits ≡ totalFits (totalOf a)) (n : ℕ) (r : n ≡ refusalBy (eqb code 14) fits) where
+  number : n ≡ refusalOf a
   unfolding refusalOf
-  refused-range h = rw h
+  number = r ∙ rw (f .ranges, e)
 
-  pub refused-low : allInRange 0 a ≡ true → totalOf a < 999900 → refusalOf a ≡ 6
-  unfolding refusalOf
-  refused-low h l = rw (h, lt-leb _ _ l)
+  pub answer-none : n ≡ 0 → Checking a InRange
+  answer-none z = let d : refusalOf a ≡ 0 = sym number ∙ z in record { answer = rw d; code = λ h. absurd (omega arith) }
 
-  pub refused-high : allInRange 0 a ≡ true → 999900 ≤ totalOf a → 1000100 < totalOf a → refusalOf a ≡ 6
-  unfolding refusalOf
-  refused-high h l k = rw (h, le-leb _ _ l, lt-leb _ _ k)
+  pub answer-range : n ≡ 5 → Checking a (Refused n code)
+  answer-range z =
+      let d : refusalOf a ≡ 5 = sym number ∙ z in
+      let g : code < 14 = let x = eqb-false code 14 (five (eqb code 14) fits (sym r ∙ z)) in let y = f .within in omega (arith, x) in
+      record { answer = rw (z, d); code = λ _. f .fault g }
 
-  pub not-refused : allInRange 0 a ≡ true → 999900 ≤ totalOf a → totalOf a ≤ 1000100 → refusalOf a ≡ 0
-  unfolding refusalOf
-  not-refused h l k = rw (h, le-leb _ _ l, le-leb _ _ k)
-
-  -- the answers
-  pub answer-range : (code : ℕ) → allInRange 0 a ≡ false → AtFault a code → Checking a (Refused 5 code)
-  answer-range code h f = record { answer = rw (refused-range h); code = λ _. f }
-
-  pub answer-total : refusalOf a ≡ 6 → Checking a (Refused 6 0)
-  answer-total e = record { answer = rw e; code = λ d. absurd (omega arith) }
-
-  pub answer-none : refusalOf a ≡ 0 → Checking a InRange
-  answer-none e = record { answer = rw e; code = λ d. absurd (omega arith) }
+  pub answer-total : (n ≡ 0 → ⊥) → (n ≡ 5 → ⊥) → Checking a (Refused n 0)
+  answer-total z w =
+      let s : n ≡ 6 = r ∙ six (eqb code 14) fits (λ y. z (r ∙ y)) (λ y. w (r ∙ y)) in
+      let d : refusalOf a ≡ 6 = sym number ∙ s in
+      record { answer = rw (s, d); code = λ h. absurd (omega arith) }

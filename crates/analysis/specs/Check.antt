@@ -54,10 +54,19 @@ abbrev pub totalOf : List ℕ → ℕ
 totalOf [] = 0
 totalOf (x ∷ xs) = x + totalOf xs
 
--- the number with which an analysis is refused, 5 before 6; 0 where it is in range
+-- is a total in its range?
+unfoldable pub totalFits : ℕ → Bool
+totalFits total = ifElse (leb 999900 total) (leb total 1000100) false
+
+-- 5 where the ranges do not hold, then 6 where the total does not, else 0
+abbrev pub refusalBy : Bool → Bool → ℕ
+refusalBy false total = 5
+refusalBy true false = 6
+refusalBy true true = 0
+
+-- the number with which an analysis is refused; 0 where it is in range
 unfoldable pub refusalOf : List ℕ → ℕ
-refusalOf a =
-    ifElse (allInRange 0 a) (ifElse (leb 999900 (totalOf a)) (ifElse (leb (totalOf a) 1000100) 0 6) 6) 5
+refusalOf a = refusalBy (allInRange 0 a) (totalFits (totalOf a))
 
 -- is `code` at fault, its amount outside its range or absent where it may not be?
 abbrev pub AtFault : List ℕ → ℕ → Type 0
@@ -80,6 +89,5 @@ pub record Checking (a : List ℕ) (r : Checked) : Type 0 where
 -- what a search for a code at fault finds: `r`, or CODES where there is none
 pub record Fault (a : List ℕ) (r : ℕ) : Type 0 where
   pub within : r ≤ CODES
-  pub none : r ≡ CODES → allInRange 0 a ≡ true
-  pub some : r < CODES → allInRange 0 a ≡ false
+  pub ranges : eqb r CODES ≡ allInRange 0 a
   pub fault : r < CODES → AtFault a r

@@ -10,7 +10,7 @@ use lib.ListN.{length, getD, drop, drop-of-length-le}
 use lib.Seq.{drop-cons}
 use borrow.Author.Tests.{eqb-true, eqb-false, leb-true, leb-false}
 use Rattle.analysis.specs.Register.{ifElse, statusOf}
-use Rattle.analysis.specs.Check.{leastOf, greatestOf, requiredOf, inRange, allInRange, totalOf, refusalOf}
+use Rattle.analysis.specs.Check.{leastOf, greatestOf, requiredOf, inRange, allInRange, totalOf, totalFits, refusalBy, refusalOf}
 
 -- the sum of the amounts from code k on
 pub total-go : (k : ℕ) (a : List ℕ) → k < length a → totalOf (drop k a) ≡ getD a k 0 + totalOf (drop (k + 1) a)
@@ -73,24 +73,27 @@ pub all-at : (a : List ℕ) (k : ℕ) → allInRange 0 a ≡ true → k < length
 all-at a k h l = let e : 0 + k ≡ k = omega arith in rw e at (all-from a 0 k h l)
 
 -- what it says that an analysis is not refused
-refusal-none : (t u v : Bool) → _≡_ {A = ℕ} (ifElse t (ifElse u (ifElse v 0 6) 6) 5) 0 → (t ≡ true) × (u ≡ true) × (v ≡ true)
-refusal-none true true true h = (refl, refl, refl)
-refusal-none true true false h = absurd (omega arith)
-refusal-none true false v h = absurd (omega arith)
-refusal-none false u v h = absurd (omega arith)
+refusal-none : (t u : Bool) → refusalBy t u ≡ 0 → (t ≡ true) × (u ≡ true)
+refusal-none true true h = (refl, refl)
+refusal-none true false h = absurd (omega arith)
+refusal-none false u h = absurd (omega arith)
 
 module _ (a : List ℕ) (h : refusalOf a ≡ 0) where
   pub passed-ranges : allInRange 0 a ≡ true
   unfolding refusalOf
-  passed-ranges = refusal-none (allInRange 0 a) (leb 999900 (totalOf a)) (leb (totalOf a) 1000100) h .0
+  passed-ranges = refusal-none (allInRange 0 a) (totalFits (totalOf a)) h .0
+
+  passed-total : totalFits (totalOf a) ≡ true
+  unfolding refusalOf
+  passed-total = refusal-none (allInRange 0 a) (totalFits (totalOf a)) h .1
 
   pub passed-least : 999900 ≤ totalOf a
-  unfolding refusalOf
-  passed-least = leb-true 999900 (totalOf a) (refusal-none (allInRange 0 a) (leb 999900 (totalOf a)) (leb (totalOf a) 1000100) h .1)
+  unfolding totalFits
+  passed-least = leb-true 999900 (totalOf a) (all-head (leb 999900 (totalOf a)) (leb (totalOf a) 1000100) passed-total .0)
 
   pub passed-greatest : totalOf a ≤ 1000100
-  unfolding refusalOf
-  passed-greatest = leb-true (totalOf a) 1000100 (refusal-none (allInRange 0 a) (leb 999900 (totalOf a)) (leb (totalOf a) 1000100) h .2)
+  unfolding totalFits
+  passed-greatest = leb-true (totalOf a) 1000100 (all-head (leb 999900 (totalOf a)) (leb (totalOf a) 1000100) passed-total .1)
 
 -- the ranges as inequalities, code by code, and the total
 pub record WithinRanges (a : List ℕ) : Type 0 where

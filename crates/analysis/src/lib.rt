@@ -3,7 +3,7 @@
 ghost use mathlib.Core.Path.{_≡_};
 ghost use Prim.Native.Nat.{ℕ, _+_, _<_, _≤_};
 ghost use Rattle.analysis.specs.Register.{CODES};
-ghost use Rattle.analysis.specs.Check.{inRange, totalOf, Fault, Checking};
+ghost use Rattle.analysis.specs.Check.{inRange, totalOf, totalFits, refusalBy, Fault, Checking};
 
 // Indices of an analysis: the codes 1 to 13, and 0, which is no code.
 pub const CODES: usize = 14;
@@ -92,24 +92,46 @@ fn total(amounts: [u32; CODES]) -> u64
     sum
 }
 
+// Is the total in its range?
+fn total_fits(sum: u64) -> bool
+    ensures { λ r. ⌜ r ≡ totalFits sum ⌝ }
+{
+    if sum < 999900 {
+        return false;
+    }
+    sum <= 1000100
+}
+
+// 5 where an amount is out of its range, then 6 where the total is, else 0.
+fn refusal(ranges: bool, total: bool) -> u32
+    ensures { λ r. ⌜ r ≡ refusalBy ranges total ⌝ }
+{
+    if !ranges {
+        return 5;
+    }
+    if !total {
+        return 6;
+    }
+    0
+}
+
 // Is the analysis in range, or with which number is it refused?
 pub fn check(a: Analysis) -> Checked
     ensures { λ r. ⌜ Checking (a .amounts) r ⌝ }
 {
     let amounts = a.amounts;
     let code = first_fault(amounts);
-    if code < CODES {
+    let sum = total(amounts);
+    let fits = total_fits(sum);
+    let number = refusal(code == CODES, fits);
+    if number == 0 {
+        return Checked::InRange;
+    }
+    if number == 5 {
         return Checked::Refused {
-            number: 5,
+            number,
             code: code as u32,
         };
     }
-    let sum = total(amounts);
-    if sum < 999900 {
-        return Checked::Refused { number: 6, code: 0 };
-    }
-    if 1000100 < sum {
-        return Checked::Refused { number: 6, code: 0 };
-    }
-    Checked::InRange
+    Checked::Refused { number, code: 0 }
 }

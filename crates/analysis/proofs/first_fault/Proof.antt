@@ -1,7 +1,7 @@
 use mathlib.Core.Path.{_≡_, sym, ap, _∙_, refl}
 use Prim.Native.Nat.{ℕ, suc, _+_, _-_, _*_, _≤_, _<_}
 use native.Mathlib.Omega.{arith}
-use borrow.Author.Tests.{not-true, not-false}
+use borrow.Author.Tests.{not-true, not-false, eq-eqb, ne-eqb}
 use lib.ListN.{length, getD, drop}
 use Rattle.analysis.specs.Check.{allInRange}
 use Rattle.analysis.proofs.Turns.{all-go, all-stop, all-end}
@@ -31,15 +31,14 @@ in-range-requires : tie.Need-in-range-requires Inv-loop μ-loop
 in-range-requires c κs = search needs
 
 returns : tie.Need-returns Inv-loop μ-loop
-returns c = 
+returns c =
     let a = c .before .before .before .before .args in
     let l = c .before .before .before .loop in
     let h : l .code < length (a .t1) = omega arith in
     let f = sym (c .before .in-range .ensures) ∙ not-true _ (c .if1 .taken) in
     record {
       within = search needs;
-      none = λ e. absurd (omega arith);
-      some = λ _. sym (sym (all-stop (l .code) (a .t1) h f) ∙ l .inv .2);
+      ranges = ne-eqb (l .code) 14 (λ e. omega arith) ∙ sym (all-stop (l .code) (a .t1) h f) ∙ l .inv .2;
       fault = λ _. f;
     }
 
@@ -50,7 +49,7 @@ loop-less : tie.Need-loop-less Inv-loop μ-loop
 loop-less c = search needs
 
 loop-again : tie.Need-loop-again Inv-loop μ-loop
-loop-again c = 
+loop-again c =
     let a = c .before .before .before .before .args in
     let l = c .before .before .before .loop in
     let h : l .code < length (a .t1) = omega arith in
@@ -58,14 +57,13 @@ loop-again c =
     (search needs, search needs, sym (all-go (l .code) (a .t1) h f) ∙ l .inv .2)
 
 returns-2 : tie.Need-returns-2 Inv-loop μ-loop
-returns-2 c = 
+returns-2 c =
     let a = c .before .before .args in
     let l = c .before .loop in
     let h : length (a .t1) ≤ l .code = omega arith in
     record {
       within = search needs;
-      none = λ _. sym (sym (all-end (l .code) (a .t1) h) ∙ l .inv .2);
-      some = λ e. absurd (omega arith);
+      ranges = eq-eqb (l .code) 14 (omega arith) ∙ sym (all-end (l .code) (a .t1) h) ∙ l .inv .2;
       fault = λ e. absurd (omega arith);
     }
 
