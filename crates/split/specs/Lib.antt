@@ -3,6 +3,7 @@ pub mod Split
 pub mod Rating
 pub mod Spread
 pub mod Clean
+pub mod Exact
 pub mod Start
 pub mod Move
 pub mod Search
