@@ -4,3 +4,11 @@ pub mod Rating
 pub mod Start
 pub mod Move
 pub mod Search
+pub mod Folds
+pub mod Members
+pub mod Rows
+pub mod Moves
+pub mod Tests
+pub mod Steps
+pub mod Scan
+pub mod Orders
