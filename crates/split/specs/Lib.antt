@@ -12,3 +12,5 @@ pub mod Tests
 pub mod Steps
 pub mod Scan
 pub mod Orders
+pub mod Turns
+pub mod Runs
