@@ -7,3 +7,13 @@ pub mod Exact
 pub mod Start
 pub mod Move
 pub mod Search
+pub mod Folds
+pub mod Members
+pub mod Rows
+pub mod Moves
+pub mod Tests
+pub mod Steps
+pub mod Scan
+pub mod Orders
+pub mod Turns
+pub mod Runs
