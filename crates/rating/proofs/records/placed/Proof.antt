@@ -1,0 +1,26 @@
+use borrow.Author.Needs.{needs}
+use Rattle.rating.proofs.records.placed.Statement.{statement}
+use Rattle.rating.proofs.records.placed.Tie as tie
+use Rattle.rating.proofs.records.placed.Reads as reads
+use Rattle.rating.proofs.records.placed.Lts as lts
+use Rattle.rating.proofs.records.rank.Reads as rank-reads
+use Rattle.systems.proofs.has.Reads as has-reads
+
+-- src/records.rt:40:9
+has-requires : tie.Need-has-requires
+has-requires c κs = search needs
+
+-- src/records.rt:41:9
+returns : tie.Need-returns
+returns c = ?
+
+-- src/records.rt:43:5
+rank-requires : tie.Need-rank-requires
+rank-requires c κs = search needs
+
+-- src/records.rt:37:1
+returns-2 : tie.Need-returns-2
+returns-2 c = ?
+
+pub placed-spec : {M : Type 1} → statement M
+placed-spec = tie.close (tie.spec has-requires returns rank-requires returns-2)

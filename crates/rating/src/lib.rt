@@ -1,0 +1,2 @@
+// The rating of an analysis.
+mod records;
