@@ -14,3 +14,5 @@ pub mod Scan
 pub mod Orders
 pub mod Turns
 pub mod Runs
+pub mod Tables
+pub mod Starts
