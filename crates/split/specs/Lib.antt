@@ -16,3 +16,5 @@ pub mod Turns
 pub mod Runs
 pub mod Tables
 pub mod Starts
+pub mod Clean
+pub mod Find
