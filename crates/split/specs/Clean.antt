@@ -28,9 +28,9 @@ pub start-clean : (mix ch : List ℕ) (k : ℕ) → Clean ch k (startOf mix ch k
 unfolding startOf givenOf
 start-clean mix ch k = record {
   none = λ s c h l e.
-  let row : (0 + (s * COMPONENTS + c)) / COMPONENTS ≡ s = omega arith in
-  let column : (0 + (s * COMPONENTS + c)) % COMPONENTS ≡ c = omega arith in
-  getD-table (startCell mix ch k) CELLS 0 (s * COMPONENTS + c) (omega arith) ∙ ap₂ (givenOf mix ch k) row column ∙ rw (e, givenOf);
+      let row : (0 + (s * COMPONENTS + c)) / COMPONENTS ≡ s = omega arith in
+      let column : (0 + (s * COMPONENTS + c)) % COMPONENTS ≡ c = omega arith in
+      getD-table (startCell mix ch k) CELLS 0 (s * COMPONENTS + c) (omega arith) ∙ ap₂ (givenOf mix ch k) row column ∙ rw (e, givenOf);
 }
 
 held-is : (ch : List ℕ) (k s c : ℕ) → s < k → hasOf (systemOf ch s) c ≡ true → heldOf ch k s c ≡ true
@@ -54,10 +54,10 @@ module _ (ch : List ℕ) (k : ℕ) (a : List ℕ) (d m : ℕ) (so : Sound ch k a
       let b : Between ch k m = bt ch k a d m so fit in
       record {
         none = λ s c h l e.
-        cell-same a (giverOf m) (takerOf m) (componentOf m) d (so .stock .long) (omega arith) (omega arith) (component-low ch k a d m so fit) (b .apart) s c
+            cell-same a (giverOf m) (takerOf m) (componentOf m) d (so .stock .long) (omega arith) (omega arith) (component-low ch k a d m so fit) (b .apart) s c
             (other s c (giverOf m) l e (held-is ch k (giverOf m) (componentOf m) (b .from) (b .gives)))
             (other s c (takerOf m) l e (held-is ch k (takerOf m) (componentOf m) (b .to) (b .takes)))
-        ∙ cl .none s c h l e;
+            ∙ cl .none s c h l e;
       }
 
 pub step-clean : (ch : List ℕ) (k limit allowance : ℕ) (a : List ℕ) (l r m : ℕ) → Sound ch k a → turnOf ch k limit allowance a l r ≡ Move m → Clean ch k a → Clean ch k (stepOf a m l)

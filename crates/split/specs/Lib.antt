@@ -18,3 +18,4 @@ pub mod Tables
 pub mod Starts
 pub mod Clean
 pub mod Find
+pub mod Finds
