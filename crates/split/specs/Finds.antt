@@ -23,7 +23,8 @@ use Rattle.split.specs.Folds.{all-each, all-of, some-each, some-of}
 use Rattle.split.specs.Members.{both-left, both-right}
 use Rattle.split.specs.Starts.{start-sums, start-stock, start-sound}
 use Rattle.split.specs.Runs.{Kept, Reached, reached-kept, reached-falls, reached-rounds, result-kept, result-says, result-rounds, larger-allowance}
-use Rattle.split.specs.Clean.{Clean, start-clean, reached-clean, result-clean}
+use Rattle.split.specs.Clean.{Clean}
+use Rattle.split.specs.CleanCells.{start-clean, reached-clean, result-clean}
 
 -- ---- the tests of the input
 

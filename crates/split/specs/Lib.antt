@@ -1,6 +1,8 @@
 pub mod Fold
 pub mod Split
 pub mod Rating
+pub mod Spread
+pub mod Clean
 pub mod Start
 pub mod Move
 pub mod Search
@@ -16,6 +18,6 @@ pub mod Turns
 pub mod Runs
 pub mod Tables
 pub mod Starts
-pub mod Clean
+pub mod CleanCells
 pub mod Find
 pub mod Finds
