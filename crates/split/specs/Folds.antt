@@ -8,7 +8,7 @@ use native.Mathlib.Omega.{arith}
 use lib.Dec.{eqb}
 use lib.IntN.{ℤ}
 use borrow.Author.Tests.{eqb-true, eqb-false, eq-eqb, ne-eqb}
-use Rattle.split.specs.Fold.{sumTo, maxTo, greatestTo, leastTo, first}
+use Rattle.split.specs.Fold.{sumTo, maxTo, greatestTo, leastTo, allTo, someTo, first}
 
 pub sum-none : (f : ℕ → ℕ) → 0 ≡ sumTo f 0
 unfolding sumTo
@@ -145,3 +145,34 @@ pub least-same : (u v : ℕ → ℤ) (k n : ℕ) → 0 < k → n ≤ k → ((i :
 unfolding leastTo
 least-same u v k zero p l h = h 0 p
 least-same u v k (suc n) p l h = rw (least-same u v k n p (omega arith) h, h n (omega arith))
+
+-- a test of each number below n, and of some number
+pub all-each : (p : ℕ → Bool) (n i : ℕ) → allTo p n ≡ true → i < n → p i ≡ true
+unfolding allTo
+all-each p zero i e l = absurd (not-suc-le-zero l)
+all-each p (suc n) i e l = go (p n) refl (eqb n i) refl (λ f l′. all-each p n i f l′)
+  where
+    go : (b : Bool) → p n ≡ b → (q : Bool) → eqb n i ≡ q → (allTo p n ≡ true → i < n → p i ≡ true) → p i ≡ true
+    go true z true y next = ap p (sym (eqb-true n i y)) ∙ z
+    go true z false y next = next (rw z at e) (omega (arith, eqb-false n i y))
+    go false z q y next = absurd (let w : false ≡ true = rw z at e in let u : _≡_ {A = ℕ} 0 1 = cc in omega arith)
+
+pub all-of : (p : ℕ → Bool) (n : ℕ) → ((i : ℕ) → i < n → p i ≡ true) → allTo p n ≡ true
+unfolding allTo
+all-of p zero h = refl
+all-of p (suc n) h = rw (h n (omega arith)) (all-of p n (λ i l. h i (omega arith)))
+
+pub some-each : (p : ℕ → Bool) (n i : ℕ) → someTo p n ≡ false → i < n → p i ≡ false
+unfolding someTo
+some-each p zero i e l = absurd (not-suc-le-zero l)
+some-each p (suc n) i e l = go (p n) refl (eqb n i) refl (λ f l′. some-each p n i f l′)
+  where
+    go : (b : Bool) → p n ≡ b → (q : Bool) → eqb n i ≡ q → (someTo p n ≡ false → i < n → p i ≡ false) → p i ≡ false
+    go false z true y next = ap p (sym (eqb-true n i y)) ∙ z
+    go false z false y next = next (rw z at e) (omega (arith, eqb-false n i y))
+    go true z q y next = absurd (let w : true ≡ false = rw z at e in let u : _≡_ {A = ℕ} 0 1 = cc in omega arith)
+
+pub some-of : (p : ℕ → Bool) (n : ℕ) → ((i : ℕ) → i < n → p i ≡ false) → someTo p n ≡ false
+unfolding someTo
+some-of p zero h = refl
+some-of p (suc n) h = rw (h n (omega arith)) (some-of p n (λ i l. h i (omega arith)))

@@ -4,6 +4,9 @@ pub mod Rating
 pub mod Spread
 pub mod Clean
 pub mod Exact
+pub mod Fits
+pub mod Rated
+pub mod Refused
 pub mod Start
 pub mod Move
 pub mod Search
@@ -17,3 +20,8 @@ pub mod Scan
 pub mod Orders
 pub mod Turns
 pub mod Runs
+pub mod Tables
+pub mod Starts
+pub mod CleanCells
+pub mod Find
+pub mod Finds

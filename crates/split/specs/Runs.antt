@@ -38,7 +38,7 @@ module _ (ch : List ℕ) (k : ℕ) (limit allowance : ℕ) (P : List ℕ → ℕ
   run-ind zero a l r = spent a l r
   run-ind (suc n) a l r = step n a l r (λ b l′ r′. run-ind n b l′ r′) (turnOf ch k limit allowance a l r) refl
 
--- (a) and (b): a split that is sound stays so, and each component's sum over the systems is kept, at each turn and at the end
+-- a sound split stays sound, and each component's sum over the systems is kept, at each turn and at the end
 pub step-keeps : (ch : List ℕ) (k : ℕ) (limit allowance : ℕ) (a : List ℕ) (l r m c : ℕ) → Sound ch k a → turnOf ch k limit allowance a l r ≡ Move m → c < COMPONENTS → columnOf k (stepOf a m l) c ≡ columnOf k a c
 step-keeps ch k limit allowance a l r m c s t h = moved-keeps ch k a (2 ^ l) m s (moves ch k limit allowance a l r m t .fit) c h
 
@@ -63,6 +63,19 @@ reached-kept {ch} {k} {limit} {level} {allowance} s (moved {b = b} {l = l} {r = 
     let kept = reached-kept s x in
     record { sound = sound-step ch k limit allowance b l r m (kept .sound) t; sums = λ c h. step-keeps ch k limit allowance b l r m c (kept .sound) t h ∙ kept .sums c h }
 reached-kept s (halved x t) = reached-kept s x
+
+-- the imbalance of a state that is reached has fallen with every round
+pub reached-falls : {ch : List ℕ} {k : ℕ} {limit level allowance : ℕ} {a b : List ℕ} {l r : ℕ} → Reached ch k limit level allowance a b l r
+    → imbalanceOf (numberAt ch b) k + r ≤ imbalanceOf (numberAt ch a) k
+reached-falls start = omega arith
+reached-falls {ch} {k} {limit} {level} {allowance} (moved {b = b} {l = l} {r = r} m x t) = omega (arith, reached-falls x, step-lowers ch k limit allowance b l r m t)
+reached-falls (halved x t) = reached-falls x
+
+-- there are never more rounds than the allowance
+pub reached-rounds : {ch : List ℕ} {k : ℕ} {limit level allowance : ℕ} {a b : List ℕ} {l r : ℕ} → Reached ch k limit level allowance a b l r → r ≤ allowance
+reached-rounds start = omega arith
+reached-rounds {ch} {k} {limit} {level} {allowance} (moved {b = b} {l = l} {r = r} m x t) = omega (arith, reached-rounds x, moves ch k limit allowance b l r m t .unspent)
+reached-rounds (halved x t) = reached-rounds x
 
 pub result-kept : (ch : List ℕ) (k : ℕ) (limit allowance n : ℕ) (a : List ℕ) (l r : ℕ) → Sound ch k a → Kept ch k a (runOf ch k limit allowance n a l r .cells)
 result-kept ch k limit allowance n a l r =
@@ -103,7 +116,7 @@ on-rate ch k limit allowance a l r s false false e f t =
 pub rates : (ch : List ℕ) (k : ℕ) (limit allowance : ℕ) (a : List ℕ) (l r s : ℕ) → turnOf ch k limit allowance a l r ≡ Rate s → (spreadOf (numberAt ch a) k ≤ limit) × (s ≡ spreadOf (numberAt ch a) k)
 rates ch k limit allowance a l r s t = on-rate ch k limit allowance a l r s _ _ refl refl t
 
--- (c): the split that is found has the spread that the answer says, which the limit allows
+-- the split that is found has the spread that the answer says, which the limit allows
 abbrev Says : List ℕ → ℕ → ℕ → Found → Type 0
 Says ch k limit o = (s q : ℕ) → o .search ≡ Balanced s q → (s ≡ spreadOf (numberAt ch (o .cells)) k) × (s ≤ limit)
 
@@ -119,7 +132,19 @@ result-says ch k limit allowance n a l r =
     (λ b l′ r′ o t ih. ih)
     n a l r
 
--- (d): a larger allowance leaves a rated result as it was
+-- after no more rounds than the allowance
+pub result-rounds : (ch : List ℕ) (k : ℕ) (limit allowance n : ℕ) (a : List ℕ) (l r s q : ℕ) → runOf ch k limit allowance n a l r .search ≡ Balanced s q → r ≤ allowance → q ≤ allowance
+result-rounds ch k limit allowance n a l r =
+    run-ind ch k limit allowance (λ b l′ r′ o. (s q : ℕ) → o .search ≡ Balanced s q → r′ ≤ allowance → q ≤ allowance)
+    (λ b l′ r′ s q e h. absurd (let z : _≡_ {A = ℕ} 0 1 = cc in omega arith))
+    (λ b l′ r′ w t s q e h.
+    let u : r′ ≡ q = cc in
+    omega arith)
+    (λ b l′ r′ m o t ih s q e h. ih s q e (omega (arith, h, moves ch k limit allowance b l′ r′ m t .unspent)))
+    (λ b l′ r′ o t ih s q e h. ih s q e h)
+    n a l r
+
+-- a larger allowance leaves a rated result as it was
 turn-more : (ch : List ℕ) (k : ℕ) (limit few many : ℕ) (a : List ℕ) (l r : ℕ) → (r ≡ few → ⊥) → (r ≡ many → ⊥) → turnOf ch k limit many a l r ≡ turnOf ch k limit few a l r
 turn-more ch k limit few many a l r h g = go (leb (spreadOf (numberAt ch a) k) limit) refl
   where
