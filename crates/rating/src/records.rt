@@ -3,6 +3,7 @@
 ghost use mathlib.Core.Path.{_≡_};
 ghost use Prim.Native.Nat.{ℕ, _+_, _*_, _/_, _%_, _<_, _≤_};
 ghost use mathlib.Core.Bool.{cond};
+ghost use lib.ListN.{getD};
 ghost use Rattle.split.specs.Split.{rankOf, componentAt, heldOf, systemOf, cellsOf, amountsOf};
 ghost use Rattle.rating.specs.Records.{placedAt, codeOf, systemAt, codeAt, systemsOf, codesOf, amountAt, cellAt, matchesAt, fitsOf};
 
@@ -65,14 +66,182 @@ fn code_of(c: usize) -> u8
     if c < COMPONENTS { codes[c] } else { 0 }
 }
 
+// The system in place s, 0 where there is none.
+fn system_of(systems: &[u8; SYSTEMS], s: usize) -> u8
+    ensures { λ r. ⌜ r ≡ systemOf (now (systems .entry)) s ⌝ }
+{
+    if s < SYSTEMS { systems[s] } else { 0 }
+}
+
+// The amount of record i, 0 where there is none.
+fn amount(amounts: &[u32; RECORDS], i: usize) -> u32
+    ensures { λ r. ⌜ r ≡ getD (now (amounts .entry)) i 0 ⌝ }
+{
+    if i < RECORDS { amounts[i] } else { 0 }
+}
+
+// The amount in cell i, 0 where there is none.
+fn cell(cells: &[u32; CELLS], i: usize) -> u32
+    ensures { λ r. ⌜ r ≡ getD (now (cells .entry)) i 0 ⌝ }
+{
+    if i < CELLS { cells[i] } else { 0 }
+}
+
 // The system of record r, 0 beyond the last.
 fn system_at(systems: &[u8; SYSTEMS], count: usize, r: usize) -> u8
-    ensures { λ r_. ⌜ r_ ≡ systemAt (now (systems .entry)) count r ⌝ }
+    requires { ⌜ count ≤ 8 ⌝ }
+    ensures { λ x. ⌜ x ≡ systemAt (now (systems .entry)) count r ⌝ }
 {
-    let s = r / 3;
-    if s < count {
-        system_of(systems, s)
+    if r < 3 * count {
+        system_of(systems, r / 3)
     } else {
         0
     }
+}
+
+// The code of record r, 0 beyond the last.
+fn code_at(systems: &[u8; SYSTEMS], count: usize, r: usize) -> u8
+    requires { ⌜ count ≤ 8 ⌝ }
+    ensures { λ x. ⌜ x ≡ codeAt (now (systems .entry)) count r ⌝ }
+{
+    if r < 3 * count {
+        code_of(component_at(system_of(systems, r / 3), r % 3))
+    } else {
+        0
+    }
+}
+
+// The amount of record r in the cells, 0 beyond the last.
+fn amount_at(systems: &[u8; SYSTEMS], count: usize, cells: &[u32; CELLS], r: usize) -> u32
+    requires { ⌜ count ≤ 8 ⌝ }
+    ensures { λ x. ⌜ x ≡ amountAt (now (systems .entry)) count (now (cells .entry)) r ⌝ }
+{
+    if r < 3 * count {
+        let c = component_at(system_of(systems, r / 3), r % 3);
+        cell(cells, r / 3 * COMPONENTS + c)
+    } else {
+        0
+    }
+}
+
+// The amount of cell i in the records' amounts, 0 where no record has it.
+fn cell_at(systems: &[u8; SYSTEMS], count: usize, amounts: &[u32; RECORDS], i: usize) -> u32
+    requires { ⌜ count ≤ 8 ⌝ }
+    ensures { λ x. ⌜ x ≡ cellAt (now (systems .entry)) count (now (amounts .entry)) i ⌝ }
+{
+    let s = i / COMPONENTS;
+    let c = i % COMPONENTS;
+    if count <= s {
+        return 0;
+    }
+    let system = system_of(systems, s);
+    if !systems::has(system, c) {
+        return 0;
+    }
+    amount(amounts, 3 * s + rank(system, c))
+}
+
+// The systems of the records of so many chosen systems.
+pub(crate) fn systems_of(systems: &[u8; SYSTEMS], count: usize) -> [u8; RECORDS]
+    requires { ⌜ count ≤ 8 ⌝ }
+    ensures { λ r. ⌜ r ≡ systemsOf (now (systems .entry)) count ⌝ }
+{
+    let mut out = [0u8; RECORDS];
+    let mut r = 0;
+    while r < RECORDS {
+        out[r] = system_at(systems, count, r);
+        r += 1;
+    }
+    out
+}
+
+// The codes of the records of so many chosen systems.
+pub(crate) fn codes_of(systems: &[u8; SYSTEMS], count: usize) -> [u8; RECORDS]
+    requires { ⌜ count ≤ 8 ⌝ }
+    ensures { λ r. ⌜ r ≡ codesOf (now (systems .entry)) count ⌝ }
+{
+    let mut out = [0u8; RECORDS];
+    let mut r = 0;
+    while r < RECORDS {
+        out[r] = code_at(systems, count, r);
+        r += 1;
+    }
+    out
+}
+
+// The cells' amounts in record order.
+pub(crate) fn amounts_of(
+    systems: &[u8; SYSTEMS],
+    count: usize,
+    cells: &[u32; CELLS],
+) -> [u32; RECORDS]
+    requires { ⌜ count ≤ 8 ⌝ }
+    ensures { λ r. ⌜ r ≡ amountsOf (now (systems .entry)) count (now (cells .entry)) ⌝ }
+{
+    let mut out = [0u32; RECORDS];
+    let mut r = 0;
+    while r < RECORDS {
+        out[r] = amount_at(systems, count, cells, r);
+        r += 1;
+    }
+    out
+}
+
+// The records' amounts in their cells.
+pub(crate) fn cells_of(
+    systems: &[u8; SYSTEMS],
+    count: usize,
+    amounts: &[u32; RECORDS],
+) -> [u32; CELLS]
+    requires { ⌜ count ≤ 8 ⌝ }
+    ensures { λ r. ⌜ r ≡ cellsOf (now (systems .entry)) count (now (amounts .entry)) ⌝ }
+{
+    let mut out = [0u32; CELLS];
+    let mut i = 0;
+    while i < CELLS {
+        out[i] = cell_at(systems, count, amounts, i);
+        i += 1;
+    }
+    out
+}
+
+// Whether record r is of the system and the component expected of it.
+fn matches(
+    systems: &[u8; SYSTEMS],
+    count: usize,
+    found: &[u8; RECORDS],
+    codes: &[u8; RECORDS],
+    r: usize,
+) -> bool
+    requires { ⌜ (count ≤ 8) × (r < 9) ⌝ }
+    ensures { λ x. ⌜ x ≡ matchesAt (now (systems .entry)) count (now (found .entry)) (now (codes .entry)) r ⌝ }
+{
+    if found[r] != system_at(systems, count, r) {
+        return false;
+    }
+    codes[r] == code_at(systems, count, r)
+}
+
+// Whether the records, so many of each system and code, are those of the chosen systems.
+pub(crate) fn fits(
+    systems: &[u8; SYSTEMS],
+    count: usize,
+    records: usize,
+    found: &[u8; RECORDS],
+    codes: &[u8; RECORDS],
+) -> bool
+    requires { ⌜ count ≤ 3 ⌝ }
+    ensures { λ r. ⌜ r ≡ fitsOf (now (systems .entry)) count records (now (found .entry)) (now (codes .entry)) ⌝ }
+{
+    if records != 3 * count {
+        return false;
+    }
+    let mut r = records;
+    while 0 < r {
+        r -= 1;
+        if !matches(systems, count, found, codes, r) {
+            return false;
+        }
+    }
+    true
 }

@@ -1,3 +1,10 @@
+-- `rating::records::placed` meets its contract. Assumes nothing.
+use mathlib.Core.Path.{_≡_, sym, ap, ap₂, _∙_}
+use mathlib.Core.Bool.{Bool}
+use Prim.Native.Nat.{ℕ}
+use lib.Dec.{eqb}
+use borrow.Author.Tests.{not-true, not-false}
+use Rattle.split.specs.Split.{both, rankOf}
 use borrow.Author.Needs.{needs}
 use Rattle.rating.proofs.records.placed.Statement.{statement}
 use Rattle.rating.proofs.records.placed.Tie as tie
@@ -12,7 +19,7 @@ has-requires c κs = search needs
 
 -- src/records.rt:41:9
 returns : tie.Need-returns
-returns c = ?
+returns c = sym (ap (λ (b : Bool). both b (eqb (rankOf (c .before .before .args .system) (c .before .before .args .c)) (c .before .before .args .j))) (sym (c .before .has .ensures) ∙ not-true _ (c .if1 .taken)))
 
 -- src/records.rt:43:5
 rank-requires : tie.Need-rank-requires
