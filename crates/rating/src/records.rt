@@ -67,30 +67,30 @@ fn code_of(c: usize) -> u8
 }
 
 // The system in place s, 0 where there is none.
-fn system_of(systems: &[u8; SYSTEMS], s: usize) -> u8
-    ensures { λ r. ⌜ r ≡ systemOf (now (systems .entry)) s ⌝ }
+fn system_of(systems: [u8; SYSTEMS], s: usize) -> u8
+    ensures { λ r. ⌜ r ≡ systemOf systems s ⌝ }
 {
     if s < SYSTEMS { systems[s] } else { 0 }
 }
 
 // The amount of record i, 0 where there is none.
-fn amount(amounts: &[u32; RECORDS], i: usize) -> u32
-    ensures { λ r. ⌜ r ≡ getD (now (amounts .entry)) i 0 ⌝ }
+fn amount(amounts: [u32; RECORDS], i: usize) -> u32
+    ensures { λ r. ⌜ r ≡ getD amounts i 0 ⌝ }
 {
     if i < RECORDS { amounts[i] } else { 0 }
 }
 
 // The amount in cell i, 0 where there is none.
-fn cell(cells: &[u32; CELLS], i: usize) -> u32
-    ensures { λ r. ⌜ r ≡ getD (now (cells .entry)) i 0 ⌝ }
+fn cell(cells: [u32; CELLS], i: usize) -> u32
+    ensures { λ r. ⌜ r ≡ getD cells i 0 ⌝ }
 {
     if i < CELLS { cells[i] } else { 0 }
 }
 
 // The system of record r, 0 beyond the last.
-fn system_at(systems: &[u8; SYSTEMS], count: usize, r: usize) -> u8
+fn system_at(systems: [u8; SYSTEMS], count: usize, r: usize) -> u8
     requires { ⌜ count ≤ 8 ⌝ }
-    ensures { λ x. ⌜ x ≡ systemAt (now (systems .entry)) count r ⌝ }
+    ensures { λ x. ⌜ x ≡ systemAt systems count r ⌝ }
 {
     if r < 3 * count {
         system_of(systems, r / 3)
@@ -100,9 +100,9 @@ fn system_at(systems: &[u8; SYSTEMS], count: usize, r: usize) -> u8
 }
 
 // The code of record r, 0 beyond the last.
-fn code_at(systems: &[u8; SYSTEMS], count: usize, r: usize) -> u8
+fn code_at(systems: [u8; SYSTEMS], count: usize, r: usize) -> u8
     requires { ⌜ count ≤ 8 ⌝ }
-    ensures { λ x. ⌜ x ≡ codeAt (now (systems .entry)) count r ⌝ }
+    ensures { λ x. ⌜ x ≡ codeAt systems count r ⌝ }
 {
     if r < 3 * count {
         code_of(component_at(system_of(systems, r / 3), r % 3))
@@ -112,9 +112,9 @@ fn code_at(systems: &[u8; SYSTEMS], count: usize, r: usize) -> u8
 }
 
 // The amount of record r in the cells, 0 beyond the last.
-fn amount_at(systems: &[u8; SYSTEMS], count: usize, cells: &[u32; CELLS], r: usize) -> u32
+fn amount_at(systems: [u8; SYSTEMS], count: usize, cells: [u32; CELLS], r: usize) -> u32
     requires { ⌜ count ≤ 8 ⌝ }
-    ensures { λ x. ⌜ x ≡ amountAt (now (systems .entry)) count (now (cells .entry)) r ⌝ }
+    ensures { λ x. ⌜ x ≡ amountAt systems count cells r ⌝ }
 {
     if r < 3 * count {
         let c = component_at(system_of(systems, r / 3), r % 3);
@@ -125,9 +125,9 @@ fn amount_at(systems: &[u8; SYSTEMS], count: usize, cells: &[u32; CELLS], r: usi
 }
 
 // The amount of cell i in the records' amounts, 0 where no record has it.
-fn cell_at(systems: &[u8; SYSTEMS], count: usize, amounts: &[u32; RECORDS], i: usize) -> u32
+fn cell_at(systems: [u8; SYSTEMS], count: usize, amounts: [u32; RECORDS], i: usize) -> u32
     requires { ⌜ count ≤ 8 ⌝ }
-    ensures { λ x. ⌜ x ≡ cellAt (now (systems .entry)) count (now (amounts .entry)) i ⌝ }
+    ensures { λ x. ⌜ x ≡ cellAt systems count amounts i ⌝ }
 {
     let s = i / COMPONENTS;
     let c = i % COMPONENTS;
@@ -142,9 +142,9 @@ fn cell_at(systems: &[u8; SYSTEMS], count: usize, amounts: &[u32; RECORDS], i: u
 }
 
 // The systems of the records of so many chosen systems.
-pub(crate) fn systems_of(systems: &[u8; SYSTEMS], count: usize) -> [u8; RECORDS]
+pub(crate) fn systems_of(systems: [u8; SYSTEMS], count: usize) -> [u8; RECORDS]
     requires { ⌜ count ≤ 8 ⌝ }
-    ensures { λ r. ⌜ r ≡ systemsOf (now (systems .entry)) count ⌝ }
+    ensures { λ r. ⌜ r ≡ systemsOf systems count ⌝ }
 {
     let mut out = [0u8; RECORDS];
     let mut r = 0;
@@ -156,9 +156,9 @@ pub(crate) fn systems_of(systems: &[u8; SYSTEMS], count: usize) -> [u8; RECORDS]
 }
 
 // The codes of the records of so many chosen systems.
-pub(crate) fn codes_of(systems: &[u8; SYSTEMS], count: usize) -> [u8; RECORDS]
+pub(crate) fn codes_of(systems: [u8; SYSTEMS], count: usize) -> [u8; RECORDS]
     requires { ⌜ count ≤ 8 ⌝ }
-    ensures { λ r. ⌜ r ≡ codesOf (now (systems .entry)) count ⌝ }
+    ensures { λ r. ⌜ r ≡ codesOf systems count ⌝ }
 {
     let mut out = [0u8; RECORDS];
     let mut r = 0;
@@ -171,12 +171,12 @@ pub(crate) fn codes_of(systems: &[u8; SYSTEMS], count: usize) -> [u8; RECORDS]
 
 // The cells' amounts in record order.
 pub(crate) fn amounts_of(
-    systems: &[u8; SYSTEMS],
+    systems: [u8; SYSTEMS],
     count: usize,
-    cells: &[u32; CELLS],
+    cells: [u32; CELLS],
 ) -> [u32; RECORDS]
     requires { ⌜ count ≤ 8 ⌝ }
-    ensures { λ r. ⌜ r ≡ amountsOf (now (systems .entry)) count (now (cells .entry)) ⌝ }
+    ensures { λ r. ⌜ r ≡ amountsOf systems count cells ⌝ }
 {
     let mut out = [0u32; RECORDS];
     let mut r = 0;
@@ -189,12 +189,12 @@ pub(crate) fn amounts_of(
 
 // The records' amounts in their cells.
 pub(crate) fn cells_of(
-    systems: &[u8; SYSTEMS],
+    systems: [u8; SYSTEMS],
     count: usize,
-    amounts: &[u32; RECORDS],
+    amounts: [u32; RECORDS],
 ) -> [u32; CELLS]
     requires { ⌜ count ≤ 8 ⌝ }
-    ensures { λ r. ⌜ r ≡ cellsOf (now (systems .entry)) count (now (amounts .entry)) ⌝ }
+    ensures { λ r. ⌜ r ≡ cellsOf systems count amounts ⌝ }
 {
     let mut out = [0u32; CELLS];
     let mut i = 0;
@@ -207,14 +207,14 @@ pub(crate) fn cells_of(
 
 // Whether record r is of the system and the component expected of it.
 fn matches(
-    systems: &[u8; SYSTEMS],
+    systems: [u8; SYSTEMS],
     count: usize,
-    found: &[u8; RECORDS],
-    codes: &[u8; RECORDS],
+    found: [u8; RECORDS],
+    codes: [u8; RECORDS],
     r: usize,
 ) -> bool
     requires { ⌜ (count ≤ 8) × (r < 9) ⌝ }
-    ensures { λ x. ⌜ x ≡ matchesAt (now (systems .entry)) count (now (found .entry)) (now (codes .entry)) r ⌝ }
+    ensures { λ x. ⌜ x ≡ matchesAt systems count found codes r ⌝ }
 {
     if found[r] != system_at(systems, count, r) {
         return false;
@@ -224,14 +224,14 @@ fn matches(
 
 // Whether the records, so many of each system and code, are those of the chosen systems.
 pub(crate) fn fits(
-    systems: &[u8; SYSTEMS],
+    systems: [u8; SYSTEMS],
     count: usize,
     records: usize,
-    found: &[u8; RECORDS],
-    codes: &[u8; RECORDS],
+    found: [u8; RECORDS],
+    codes: [u8; RECORDS],
 ) -> bool
     requires { ⌜ count ≤ 3 ⌝ }
-    ensures { λ r. ⌜ r ≡ fitsOf (now (systems .entry)) count records (now (found .entry)) (now (codes .entry)) ⌝ }
+    ensures { λ r. ⌜ r ≡ fitsOf systems count records found codes ⌝ }
 {
     if records != 3 * count {
         return false;

@@ -27,7 +27,9 @@ rank-requires c κs = search needs
 
 -- src/records.rt:37:1
 returns-2 : tie.Need-returns-2
-returns-2 c = ?
+returns-2 c = sym (
+    ap₂ (λ (b : Bool) (n : ℕ). both b (eqb n (c .before .before .before .args .j)))
+    (sym (c .before .before .has .ensures) ∙ not-false _ (c .before .if1 .left)) (sym (c .rank .ensures .0)))
 
 pub placed-spec : {M : Type 1} → statement M
 placed-spec = tie.close (tie.spec has-requires returns rank-requires returns-2)

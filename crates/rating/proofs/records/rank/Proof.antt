@@ -48,10 +48,10 @@ loop-less c = search needs
 loop-again : tie.Need-loop-again Inv-loop μ-loop
 unfolding rankOf
 loop-again c = (
-      omega arith,
-      sum-more _ _ _ _ (c .before .before .before .loop .inv .1) (c .one-if .ensures .0 ∙ ap (λ (b : Bool). cond b 1 0) (c .before .has .ensures)),
-      omega (arith, c .one-if .ensures .1),
-    )
+  omega arith,
+  sum-more _ _ _ _ (c .before .before .before .loop .inv .1) (c .one-if .ensures .0 ∙ ap (λ (b : Bool). cond b 1 0) (c .before .has .ensures)),
+  omega (arith, c .one-if .ensures .1),
+)
 
 -- src/records.rt:24:1
 returns : tie.Need-returns Inv-loop μ-loop
