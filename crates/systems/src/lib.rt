@@ -1,0 +1,4 @@
+// The choice of systems.
+pub fn nothing() -> u8 {
+    0
+}
