@@ -10,8 +10,9 @@ use lib.Dec.{eqb, ltb}
 use lib.ListN.{getD, set, take, length, length-set, length-map}
 use lib.Seq.{take-all, ext-getD, getD-set-same, getD-set-other}
 use borrow.Author.Tests.{eqb-true, eqb-false, lt-ltb, le-ltb}
-use Rattle.mixture.specs.Scaling.{WHOLE, sumOf, quotientOf, greatestTo, greatestOf, sharedOut}
-use Rattle.mixture.specs.Total.{sum-set}
+use Rattle.analysis.specs.Check.{totalOf}
+use Rattle.mixture.specs.Scaling.{WHOLE, quotientOf, quotientsOf, remaindersOf, missingOf, greatestTo, greatestOf, sharedOut, scaledOf}
+use Rattle.mixture.specs.Total.{sum-set, quotients-whole}
 use Rattle.mixture.specs.Limits.{LIMIT, Limited}
 
 -- ---- amounts up to the limit
@@ -28,39 +29,36 @@ limited-four w x y z hw hx hy hz = record { long = refl; small = at }
 
 -- ---- the sum of the first elements
 
-pub sum-none : (l : List ℕ) → 0 ≡ sumOf (take 0 l)
-unfolding sumOf
+pub sum-none : (l : List ℕ) → 0 ≡ totalOf (take 0 l)
 sum-none l = refl
 
-pub sum-take : (l : List ℕ) (i : ℕ) → i < length l → sumOf (take i l) + getD l i 0 ≡ sumOf (take (suc i) l)
-unfolding sumOf
+pub sum-take : (l : List ℕ) (i : ℕ) → i < length l → totalOf (take i l) + getD l i 0 ≡ totalOf (take (suc i) l)
 sum-take [] i h = absurd (not-suc-le-zero h)
 sum-take (x ∷ l) zero h = omega arith
 sum-take (x ∷ l) (suc i) h = omega (arith, sum-take l i (omega arith))
 
-pub sum-next : (l : List ℕ) (i t : ℕ) → i < length l → t ≡ sumOf (take i l) → t + getD l i 0 ≡ sumOf (take (i + 1) l)
+pub sum-next : (l : List ℕ) (i t : ℕ) → i < length l → t ≡ totalOf (take i l) → t + getD l i 0 ≡ totalOf (take (i + 1) l)
 sum-next l i t h e = ap (λ n. n + getD l i 0) e ∙ rw (add-one i) (sum-take l i h)
 
-pub sum-part : (l : List ℕ) (i : ℕ) → sumOf (take i l) ≤ sumOf l
-unfolding sumOf
+pub sum-part : (l : List ℕ) (i : ℕ) → totalOf (take i l) ≤ totalOf l
 sum-part l zero = omega arith
 sum-part [] (suc i) = omega arith
 sum-part (x ∷ l) (suc i) = omega (arith, sum-part l i)
 
-pub sum-all : (l : List ℕ) (i t : ℕ) → length l ≤ i → t ≡ sumOf (take i l) → t ≡ sumOf l
-sum-all l i t h e = e ∙ ap sumOf (take-all i l h)
+pub sum-all : (l : List ℕ) (i t : ℕ) → length l ≤ i → t ≡ totalOf (take i l) → t ≡ totalOf l
+sum-all l i t h e = e ∙ ap totalOf (take-all i l h)
 
 -- what is left of w after the first elements
-pub left-next : (l : List ℕ) (i m w : ℕ) → i < length l → sumOf l ≤ w → m + sumOf (take i l) ≡ w
-    → (getD l i 0 ≤ m) × (m - getD l i 0 + sumOf (take (i + 1) l) ≡ w)
+pub left-next : (l : List ℕ) (i m w : ℕ) → i < length l → totalOf l ≤ w → m + totalOf (take i l) ≡ w
+    → (getD l i 0 ≤ m) × (m - getD l i 0 + totalOf (take (i + 1) l) ≡ w)
 left-next l i m w h k e =
-    let f = sum-next l i (sumOf (take i l)) h refl in
+    let f = sum-next l i (totalOf (take i l)) h refl in
     let g = sum-part l (i + 1) in
     (omega arith, omega arith)
 
-pub left-all : (l : List ℕ) (i m w : ℕ) → length l ≤ i → m + sumOf (take i l) ≡ w → m ≡ w - sumOf l
+pub left-all : (l : List ℕ) (i m w : ℕ) → length l ≤ i → m + totalOf (take i l) ≡ w → m ≡ w - totalOf l
 left-all l i m w h e =
-    let f = sum-all l i (sumOf (take i l)) h refl in
+    let f = sum-all l i (totalOf (take i l)) h refl in
     omega arith
 
 -- ---- a list filled with a function's values: the first i of n are there
@@ -97,6 +95,13 @@ fill-map n f xs l i e h w =
 pub quotient-small : (x t : ℕ) → x ≤ t → quotientOf t x ≤ WHOLE
 quotient-small x t h = div-le-of-le-mul t (omega arith)
 
+-- those of amounts that are not all 0 add up to no more than the whole
+pub quotients-fit : (xs q : List ℕ) (t n : ℕ) → length xs ≡ n → 0 < totalOf xs → t ≡ totalOf xs → q ≡ quotientsOf xs t
+    → (length q ≡ n) × (totalOf q ≤ WHOLE)
+quotients-fit xs q t n l h e f =
+    let g : q ≡ quotientsOf xs (totalOf xs) = f ∙ ap (quotientsOf xs) e in
+    rw g (length-map xs (quotientOf (totalOf xs)) ∙ l, quotients-whole xs h)
+
 -- ---- the greatest of the first elements
 
 pub greatest-none : (rs : List ℕ) → 0 ≡ greatestTo rs 0
@@ -120,7 +125,7 @@ greatest-there rs i p e h =
 pub record Sharing (n w m₀ : ℕ) (q₀ r₀ : List ℕ) (m : ℕ) (q r : List ℕ) : Type 0 where
   pub quotients : length q ≡ n
   pub remainders : length r ≡ n
-  pub fits : sumOf q + m ≤ w
+  pub fits : totalOf q + m ≤ w
   pub same : sharedOut m q r ≡ sharedOut m₀ q₀ r₀
 
 pub sharing-next : (n w m₀ : ℕ) (q₀ r₀ : List ℕ) (m : ℕ) (q r : List ℕ) (p : ℕ) → 0 < m → p < n → p ≡ greatestOf r
@@ -141,3 +146,9 @@ pub shared-done : (m : ℕ) (q r : List ℕ) → m ≤ 0 → q ≡ sharedOut m q
 unfolding sharedOut
 shared-done zero q r h = refl
 shared-done (suc m) q r h = absurd (not-suc-le-zero h)
+
+-- from the amounts to the mixture, step by step
+pub scaled-from : (xs q r s : List ℕ) (t m : ℕ) → t ≡ totalOf xs → q ≡ quotientsOf xs t → r ≡ remaindersOf xs t
+    → m ≡ missingOf q → s ≡ sharedOut m q r → s ≡ scaledOf xs
+unfolding scaledOf
+scaled-from xs q r s t m et eq er em es = cc

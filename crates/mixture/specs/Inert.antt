@@ -3,10 +3,10 @@
 use Prim.Native.Nat.{ℕ, _+_, _*_, _-_, _/_}
 use mathlib.Core.List.{List, [], _∷_}
 use Rattle.mixture.specs.Scaling.{WHOLE}
-use Rattle.mixture.specs.Simplification.{amountOf, totalOf}
+use Rattle.mixture.specs.Simplification.{amountOf, tenthsTotal}
 
 -- n / d rounded to the nearest whole number, halves up
-unfoldable pub halvesUp : ℕ → ℕ → ℕ
+abbrev pub halvesUp : ℕ → ℕ → ℕ
 halvesUp n d = (2 * n + d) / (2 * d)
 
 -- n1 of a total t in tenths of a part beside c parts of carbon dioxide
@@ -15,7 +15,7 @@ methaneShare t c = halvesUp (WHOLE * t) (t + 10 * c)
 
 -- n1, n2 and n3; nitrogen does not enter
 abbrev pub inertFirst : List ℕ → ℕ
-inertFirst a = methaneShare (totalOf a) (amountOf a 11)
+inertFirst a = methaneShare (tenthsTotal a) (amountOf a 11)
 
 abbrev pub inertSecond : List ℕ → ℕ
 inertSecond a = WHOLE - inertFirst a

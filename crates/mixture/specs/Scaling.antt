@@ -5,14 +5,11 @@ use mathlib.Core.List.{List, [], _∷_, map}
 use mathlib.Core.Bool.{Bool, true, false}
 use lib.Dec.{ltb}
 use lib.ListN.{getD, set, length}
+use Rattle.analysis.specs.Check.{totalOf}
 
 -- the parts of a whole mixture; a part is 0.0001 % by volume
 abbrev pub WHOLE : ℕ
 WHOLE = 1000000
-
-unfoldable pub sumOf : List ℕ → ℕ
-sumOf [] = 0
-sumOf (x ∷ xs) = x + sumOf xs
 
 -- each amount scaled to 1000000 / t of itself and rounded down, and the remainders of these divisions
 abbrev pub quotientOf : ℕ → ℕ → ℕ
@@ -29,7 +26,7 @@ remaindersOf xs t = map (remainderOf t) xs
 
 -- the parts then missing
 abbrev pub missingOf : List ℕ → ℕ
-missingOf qs = WHOLE - sumOf qs
+missingOf qs = WHOLE - totalOf qs
 
 -- the place of the greatest of the first n, of equal ones the first
 unfoldable pub greatestTo : List ℕ → ℕ → ℕ
@@ -53,4 +50,4 @@ sharedOut (suc m) qs rs = sharedOut m (oneMore qs (greatestOf rs)) (set rs (grea
 -- the amounts xs in parts of 1000000
 unfoldable pub scaledOf : List ℕ → List ℕ
 scaledOf xs =
-    sharedOut (missingOf (quotientsOf xs (sumOf xs))) (quotientsOf xs (sumOf xs)) (remaindersOf xs (sumOf xs))
+    sharedOut (missingOf (quotientsOf xs (totalOf xs))) (quotientsOf xs (totalOf xs)) (remaindersOf xs (totalOf xs))

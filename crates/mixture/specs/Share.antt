@@ -9,7 +9,8 @@ use lib.Dec.{eqb, ltb}
 use lib.ListN.{getD, set, length, length-set, length-map}
 use lib.Seq.{getD-set-same, getD-set-other}
 use borrow.Author.Tests.{eqb-true, eqb-false, ltb-true, ltb-false}
-use Rattle.mixture.specs.Scaling.{WHOLE, sumOf, quotientOf, remainderOf, quotientsOf, remaindersOf, missingOf, greatestTo, greatestOf, oneMore, sharedOut, scaledOf}
+use Rattle.analysis.specs.Check.{totalOf}
+use Rattle.mixture.specs.Scaling.{WHOLE, quotientOf, remainderOf, quotientsOf, remaindersOf, missingOf, greatestTo, greatestOf, oneMore, sharedOut, scaledOf}
 use Rattle.mixture.specs.Total.{sum-set, sum-filled, greatest-below, greatest-least, remainders-sum, scaled-length}
 
 -- s parts are less than one part from 1000000 × x / t
@@ -36,8 +37,7 @@ fair-more t x q r h f =
     let l = f .small in
     record { near = record { above = omega arith; below = omega arith }; exact = λ z. absurd (not-suc-le-zero z); small = omega arith }
 
-sum-zero : (l : List ℕ) → ((i : ℕ) → i < length l → getD l i 0 ≤ 0) → sumOf l ≡ 0
-unfolding sumOf
+sum-zero : (l : List ℕ) → ((i : ℕ) → i < length l → getD l i 0 ≤ 0) → totalOf l ≡ 0
 sum-zero [] h = refl
 sum-zero (x ∷ l) h = omega (arith, h 0 (omega arith), sum-zero l (λ i k. h (suc i) (omega arith)))
 
@@ -51,7 +51,7 @@ AllFair t xs qs rs = (i : ℕ) → i < length xs → Fair t (getD xs i 0) (getD 
 
 module _ (t : ℕ) (xs : List ℕ) (h : 0 < t) where
   -- the greatest remainder is not 0 while parts are missing
-  greatest-positive : (m : ℕ) (rs : List ℕ) → suc m * t ≤ sumOf rs → 0 < getD rs (greatestOf rs) 0
+  greatest-positive : (m : ℕ) (rs : List ℕ) → suc m * t ≤ totalOf rs → 0 < getD rs (greatestOf rs) 0
   greatest-positive m rs l = go (ltb 0 (getD rs (greatestOf rs) 0)) refl
     where
       go : (b : Bool) → ltb 0 (getD rs (greatestOf rs) 0) ≡ b → 0 < getD rs (greatestOf rs) 0
@@ -74,7 +74,7 @@ module _ (t : ℕ) (xs : List ℕ) (h : 0 < t) where
           let w = eqb-false i p e in
           rw (getD-set-other qs p i (getD qs p 0 + 1) 0 w, getD-set-other rs p i 0 0 w) (f i l)
 
-  shared-fair : (m : ℕ) (qs rs : List ℕ) → length qs ≡ length xs → length rs ≡ length xs → m * t ≤ sumOf rs
+  shared-fair : (m : ℕ) (qs rs : List ℕ) → length qs ≡ length xs → length rs ≡ length xs → m * t ≤ totalOf rs
       → AllFair t xs qs rs → (i : ℕ) → i < length xs → NearShare t (getD xs i 0) (getD (sharedOut m qs rs) i 0)
   unfolding sharedOut
   shared-fair zero qs rs a b l f i k = f i k .near
@@ -86,20 +86,20 @@ module _ (t : ℕ) (xs : List ℕ) (h : 0 < t) where
       (omega (arith, sum-set rs p 0 below, f p (omega arith) .small))
       (step-fair p qs rs a b (omega arith) z f) i k
 
-module _ (xs : List ℕ) (h : 0 < sumOf xs) where
-  pub scaled-near : (i : ℕ) → i < length xs → NearShare (sumOf xs) (getD xs i 0) (getD (scaledOf xs) i 0)
+module _ (xs : List ℕ) (h : 0 < totalOf xs) where
+  pub scaled-near : (i : ℕ) → i < length xs → NearShare (totalOf xs) (getD xs i 0) (getD (scaledOf xs) i 0)
   unfolding scaledOf
   scaled-near =
-      shared-fair (sumOf xs) xs h (missingOf (quotientsOf xs (sumOf xs))) (quotientsOf xs (sumOf xs)) (remaindersOf xs (sumOf xs))
-      (length-map xs (quotientOf (sumOf xs)))
-      (length-map xs (remainderOf (sumOf xs)))
+      shared-fair (totalOf xs) xs h (missingOf (quotientsOf xs (totalOf xs))) (quotientsOf xs (totalOf xs)) (remaindersOf xs (totalOf xs))
+      (length-map xs (quotientOf (totalOf xs)))
+      (length-map xs (remainderOf (totalOf xs)))
       (omega (arith, remainders-sum xs h))
-      (λ i l. rw (getD-map (quotientOf (sumOf xs)) xs i l, getD-map (remainderOf (sumOf xs)) xs i l) (fair-first (sumOf xs) (getD xs i 0) h))
+      (λ i l. rw (getD-map (quotientOf (totalOf xs)) xs i l, getD-map (remainderOf (totalOf xs)) xs i l) (fair-first (totalOf xs) (getD xs i 0) h))
 
   -- an amount that is at least a part of the whole does not vanish
-  pub scaled-positive : (i : ℕ) → i < length xs → sumOf xs ≤ WHOLE * getD xs i 0 → 0 < getD (scaledOf xs) i 0
+  pub scaled-positive : (i : ℕ) → i < length xs → totalOf xs ≤ WHOLE * getD xs i 0 → 0 < getD (scaledOf xs) i 0
   scaled-positive i l k = go (getD (scaledOf xs) i 0) (scaled-near i l .below)
     where
-      go : (s : ℕ) → WHOLE * getD xs i 0 < s * sumOf xs + sumOf xs → 0 < s
+      go : (s : ℕ) → WHOLE * getD xs i 0 < s * totalOf xs + totalOf xs → 0 < s
       go zero b = absurd (omega arith)
       go (suc s) b = omega arith

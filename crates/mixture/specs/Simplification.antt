@@ -3,7 +3,8 @@
 use Prim.Native.Nat.{ℕ, _+_, _*_}
 use mathlib.Core.List.{List, [], _∷_}
 use lib.ListN.{getD}
-use Rattle.mixture.specs.Scaling.{sumOf, scaledOf}
+use Rattle.analysis.specs.Check.{totalOf}
+use Rattle.mixture.specs.Scaling.{scaledOf}
 
 -- methane, ethane, propane, butane
 abbrev pub COMPONENTS : ℕ
@@ -23,8 +24,8 @@ unfoldable pub tenthsOf : List ℕ → List ℕ
 tenthsOf a = 10 * amountOf a 1 ∷ 10 * amountOf a 2 ∷ 10 * amountOf a 3 ∷ butaneOf a ∷ []
 
 -- T
-abbrev pub totalOf : List ℕ → ℕ
-totalOf a = sumOf (tenthsOf a)
+abbrev pub tenthsTotal : List ℕ → ℕ
+tenthsTotal a = totalOf (tenthsOf a)
 
 -- the simplified mixture in parts
 abbrev pub simplifiedOf : List ℕ → List ℕ

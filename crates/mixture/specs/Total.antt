@@ -8,24 +8,22 @@ use native.Mathlib.Omega.{arith}
 use lib.Dec.{ltb}
 use lib.ListN.{getD, set, length, length-set, length-map}
 use borrow.Author.Tests.{ltb-true, ltb-false}
-use Rattle.mixture.specs.Scaling.{WHOLE, sumOf, quotientOf, remainderOf, quotientsOf, remaindersOf, missingOf, greatestTo, greatestOf, oneMore, sharedOut, scaledOf}
+use Rattle.analysis.specs.Check.{totalOf}
+use Rattle.mixture.specs.Scaling.{WHOLE, quotientOf, remainderOf, quotientsOf, remaindersOf, missingOf, greatestTo, greatestOf, oneMore, sharedOut, scaledOf}
 
 -- ---- sums
 
-pub sum-set : (l : List ℕ) (p v : ℕ) → p < length l → sumOf (set l p v) + getD l p 0 ≡ sumOf l + v
-unfolding sumOf
+pub sum-set : (l : List ℕ) (p v : ℕ) → p < length l → totalOf (set l p v) + getD l p 0 ≡ totalOf l + v
 sum-set [] p v h = absurd (not-suc-le-zero h)
 sum-set (x ∷ l) zero v h = omega arith
 sum-set (x ∷ l) (suc p) v h = omega (arith, sum-set l p v (omega arith))
 
-pub sum-filled : (l : List ℕ) → 0 < sumOf l → 0 < length l
-unfolding sumOf
+pub sum-filled : (l : List ℕ) → 0 < totalOf l → 0 < length l
 sum-filled [] h = h
 sum-filled (x ∷ l) h = omega arith
 
 -- an amount is no more than the sum
-pub sum-has : (l : List ℕ) (i : ℕ) → getD l i 0 ≤ sumOf l
-unfolding sumOf
+pub sum-has : (l : List ℕ) (i : ℕ) → getD l i 0 ≤ totalOf l
 sum-has [] i = omega arith
 sum-has (x ∷ l) zero = omega arith
 sum-has (x ∷ l) (suc i) = omega (arith, sum-has l i)
@@ -68,7 +66,7 @@ unfolding sharedOut
 shared-length zero qs rs = refl
 shared-length (suc m) qs rs = shared-length m (oneMore qs (greatestOf rs)) (set rs (greatestOf rs) 0) ∙ length-set qs (greatestOf rs) (getD qs (greatestOf rs) 0 + 1)
 
-pub shared-sum : (m : ℕ) (qs rs : List ℕ) → length qs ≡ length rs → 0 < length rs → sumOf (sharedOut m qs rs) ≡ sumOf qs + m
+pub shared-sum : (m : ℕ) (qs rs : List ℕ) → length qs ≡ length rs → 0 < length rs → totalOf (sharedOut m qs rs) ≡ totalOf qs + m
 unfolding sharedOut
 shared-sum zero qs rs e h = omega arith
 shared-sum (suc m) qs rs e h =
@@ -80,23 +78,22 @@ shared-sum (suc m) qs rs e h =
 
 -- ---- the quotients and the remainders
 
-pub quotients-sum : (xs : List ℕ) (t : ℕ) → sumOf (quotientsOf xs t) * t + sumOf (remaindersOf xs t) ≡ WHOLE * sumOf xs
-unfolding sumOf
+pub quotients-sum : (xs : List ℕ) (t : ℕ) → totalOf (quotientsOf xs t) * t + totalOf (remaindersOf xs t) ≡ WHOLE * totalOf xs
 quotients-sum [] t = omega arith
 quotients-sum (x ∷ xs) t = omega (arith, quotients-sum xs t, div-add-mod' (WHOLE * x) t)
 
 pub scaled-length : (xs : List ℕ) → length (scaledOf xs) ≡ length xs
 unfolding scaledOf
-scaled-length xs = shared-length _ _ _ ∙ length-map xs (quotientOf (sumOf xs))
+scaled-length xs = shared-length _ _ _ ∙ length-map xs (quotientOf (totalOf xs))
 
-module _ (xs : List ℕ) (h : 0 < sumOf xs) where
-  pub quotients-whole : sumOf (quotientsOf xs (sumOf xs)) ≤ WHOLE
+module _ (xs : List ℕ) (h : 0 < totalOf xs) where
+  pub quotients-whole : totalOf (quotientsOf xs (totalOf xs)) ≤ WHOLE
   quotients-whole =
-      le-of-mul-le-mul-right {k = sumOf xs} (omega (arith, quotients-sum xs (sumOf xs))) h
+      le-of-mul-le-mul-right {k = totalOf xs} (omega (arith, quotients-sum xs (totalOf xs))) h
 
   -- the remainders add up to the missing parts times the sum
-  pub remainders-sum : sumOf (remaindersOf xs (sumOf xs)) ≡ missingOf (quotientsOf xs (sumOf xs)) * sumOf xs
-  remainders-sum = split _ _ _ quotients-whole (quotients-sum xs (sumOf xs))
+  pub remainders-sum : totalOf (remaindersOf xs (totalOf xs)) ≡ missingOf (quotientsOf xs (totalOf xs)) * totalOf xs
+  remainders-sum = split _ _ _ quotients-whole (quotients-sum xs (totalOf xs))
     where
       split : (q r t : ℕ) → q ≤ WHOLE → q * t + r ≡ WHOLE * t → r ≡ (WHOLE - q) * t
       split q r t l e = go (WHOLE - q) (omega arith)
@@ -104,12 +101,12 @@ module _ (xs : List ℕ) (h : 0 < sumOf xs) where
           go : (m : ℕ) → q + m ≡ WHOLE → r ≡ m * t
           go m f = omega (arith, ap (λ n. n * t) f)
 
-  pub scaled-sum : sumOf (scaledOf xs) ≡ WHOLE
+  pub scaled-sum : totalOf (scaledOf xs) ≡ WHOLE
   unfolding scaledOf
   scaled-sum =
       omega
       (arith,
-      shared-sum (missingOf (quotientsOf xs (sumOf xs))) (quotientsOf xs (sumOf xs)) (remaindersOf xs (sumOf xs))
-      (length-map xs (quotientOf (sumOf xs)) ∙ sym (length-map xs (remainderOf (sumOf xs))))
+      shared-sum (missingOf (quotientsOf xs (totalOf xs))) (quotientsOf xs (totalOf xs)) (remaindersOf xs (totalOf xs))
+      (length-map xs (quotientOf (totalOf xs)) ∙ sym (length-map xs (remainderOf (totalOf xs))))
       (rw length-map (sum-filled xs h)),
       quotients-whole)

@@ -1,17 +1,21 @@
 // The simplified mixture and the inert mixture of an analysis (000 A.3.1 and A.3.7).
 // No public function has a `requires`.
+use analysis::Analysis;
+use analysis::Checked;
+use analysis::CODES;
+
 ghost use mathlib.Core.Path.{_≡_};
 ghost use Prim.Native.Nat.{ℕ, _+_, _*_, _<_, _≤_};
 ghost use lib.ListN.{getD, length};
-ghost use Rattle.mixture.specs.Scaling.{WHOLE, sumOf, quotientOf, remainderOf, quotientsOf, remaindersOf, missingOf, greatestOf, sharedOut, scaledOf};
-ghost use Rattle.mixture.specs.Simplification.{COMPONENTS, butaneOf, tenthsOf, totalOf};
+ghost use Rattle.analysis.specs.Check.{totalOf};
+ghost use Rattle.mixture.specs.Scaling.{WHOLE, quotientOf, remainderOf, quotientsOf, remaindersOf, missingOf, greatestOf, sharedOut, scaledOf};
+ghost use Rattle.mixture.specs.Simplification.{COMPONENTS, butaneOf, tenthsOf, tenthsTotal};
 ghost use Rattle.mixture.specs.Limits.{LIMIT, Limited};
-ghost use Rattle.mixture.specs.Inert.{halvesUp, methaneShare};
+ghost use Rattle.mixture.specs.Answers.{Simplifying, InertAnswer};
+ghost use Rattle.mixture.specs.Inert.{halvesUp, methaneShare, inertFirst};
 
 // Methane, ethane, propane, butane.
 pub const COMPONENTS: usize = 4;
-
-const CODES: usize = 14;
 
 // The parts of a whole mixture.
 const WHOLE: u32 = 1000000;
@@ -19,8 +23,62 @@ const WHOLE: u32 = 1000000;
 // The same, for products.
 const WIDE_WHOLE: u64 = 1000000;
 
+// The amounts of the components in parts, in their order.
 pub struct Mixture {
     pub amounts: [u32; COMPONENTS],
+}
+
+// The check's answer, and the mixture of an analysis in range; zeros beside a refusal.
+pub struct Simplified {
+    pub answer: Checked,
+    pub mixture: Mixture,
+}
+
+// The amounts at which system 20 is taken, or refused 5 with a code at fault, or 6 with code 0.
+pub enum InertMixture {
+    Amounts { n1: u32, n2: u32, n3: u32 },
+    Refused { number: u32, code: u32 },
+}
+
+// The simplified mixture of an analysis.
+pub fn simplify(a: Analysis) -> Simplified
+    ensures { λ r. ⌜ Simplifying (a .amounts) r ⌝ }
+{
+    let amounts = a.amounts;
+    let answer = analysis::check(a);
+    match answer {
+        Checked::InRange => {
+            let mixture = Mixture {
+                amounts: scale(tenths(&amounts)),
+            };
+            Simplified { answer, mixture }
+        }
+        Checked::Refused { number: _, code: _ } => {
+            let mixture = Mixture {
+                amounts: [0; COMPONENTS],
+            };
+            Simplified { answer, mixture }
+        }
+    }
+}
+
+// The inert mixture of an analysis; nitrogen does not enter.
+pub fn inert(a: Analysis) -> InertMixture
+    ensures { λ r. ⌜ InertAnswer (a .amounts) r ⌝ }
+{
+    let amounts = a.amounts;
+    let answer = analysis::check(a);
+    match answer {
+        Checked::InRange => {
+            let n1 = inert_first(&amounts);
+            InertMixture::Amounts {
+                n1,
+                n2: WHOLE - n1,
+                n3: 0,
+            }
+        }
+        Checked::Refused { number, code } => InertMixture::Refused { number, code },
+    }
 }
 
 fn wide(x: u32) -> u64
@@ -54,7 +112,7 @@ fn tenths(a: &[u32; CODES]) -> [u64; COMPONENTS]
 // The sum of amounts.
 fn sum(x: &[u64; COMPONENTS]) -> u64
     requires { ⌜ Limited (now x) ⌝ }
-    ensures { λ r. ⌜ (r ≡ sumOf (now (x .entry))) × (r ≤ LIMIT * COMPONENTS) ⌝ }
+    ensures { λ r. ⌜ (r ≡ totalOf (now (x .entry))) × (r ≤ LIMIT * COMPONENTS) ⌝ }
 {
     let mut t: u64 = 0;
     let mut i = 0;
@@ -82,7 +140,7 @@ fn remainder(x: u64, total: u64) -> u64
 
 // Each amount scaled to 1000000 / total of itself, rounded down.
 fn quotients(x: &[u64; COMPONENTS], total: u64) -> [u32; COMPONENTS]
-    requires { ⌜ Limited (now x) × (total ≡ sumOf (now x)) × (0 < total) ⌝ }
+    requires { ⌜ Limited (now x) × (total ≡ totalOf (now x)) × (0 < total) ⌝ }
     ensures { λ r. ⌜ r ≡ quotientsOf (now (x .entry)) total ⌝ }
 {
     let mut q = [0u32; COMPONENTS];
@@ -110,7 +168,7 @@ fn remainders(x: &[u64; COMPONENTS], total: u64) -> [u64; COMPONENTS]
 
 // The parts missing from 1000000.
 fn missing(q: &[u32; COMPONENTS]) -> u32
-    requires { ⌜ (length (now q) ≡ COMPONENTS) × (sumOf (now q) ≤ WHOLE) ⌝ }
+    requires { ⌜ (length (now q) ≡ COMPONENTS) × (totalOf (now q) ≤ WHOLE) ⌝ }
     ensures { λ r. ⌜ r ≡ missingOf (now (q .entry)) ⌝ }
 {
     let mut m: u32 = WHOLE;
@@ -144,7 +202,7 @@ fn share_out(
     quotients: [u32; COMPONENTS],
     remainders: [u64; COMPONENTS],
 ) -> [u32; COMPONENTS]
-    requires { ⌜ (length quotients ≡ COMPONENTS) × (length remainders ≡ COMPONENTS) × (sumOf quotients + missing ≤ WHOLE) ⌝ }
+    requires { ⌜ (length quotients ≡ COMPONENTS) × (length remainders ≡ COMPONENTS) × (totalOf quotients + missing ≤ WHOLE) ⌝ }
     ensures { λ r. ⌜ r ≡ sharedOut missing quotients remainders ⌝ }
 {
     let mut q = quotients;
@@ -162,7 +220,7 @@ fn share_out(
 
 // Amounts, not all 0, in parts of 1000000.
 fn scale(x: [u64; COMPONENTS]) -> [u32; COMPONENTS]
-    requires { ⌜ Limited x × (0 < sumOf x) ⌝ }
+    requires { ⌜ Limited x × (0 < totalOf x) ⌝ }
     ensures { λ r. ⌜ r ≡ scaledOf x ⌝ }
 {
     let total = sum(&x);
@@ -173,8 +231,25 @@ fn scale(x: [u64; COMPONENTS]) -> [u32; COMPONENTS]
 
 // n / d rounded to the nearest whole number, halves up.
 fn halves_up(n: u64, d: u64) -> u64
-    requires { ⌜ (0 < d) × (n ≤ 2 * WHOLE * LIMIT * COMPONENTS) × (d ≤ WHOLE * LIMIT) ⌝ }
+    requires { ⌜ (0 < d) × (d ≤ WHOLE * LIMIT) × (n ≤ WHOLE * LIMIT * COMPONENTS) ⌝ }
     ensures { λ r. ⌜ r ≡ halvesUp n d ⌝ }
 {
     (2 * n + d) / (2 * d)
+}
+
+// n1 of a total in tenths of a part beside so many parts of carbon dioxide.
+fn methane_share(total: u64, co2: u32) -> u32
+    requires { ⌜ (0 < total) × (total ≤ LIMIT * COMPONENTS) ⌝ }
+    ensures { λ r. ⌜ (r ≡ methaneShare total co2) × (r ≤ WHOLE) ⌝ }
+{
+    halves_up(WIDE_WHOLE * total, total + 10 * wide(co2)) as u32
+}
+
+// n1 of amounts whose T is not 0.
+fn inert_first(a: &[u32; CODES]) -> u32
+    requires { ⌜ 0 < tenthsTotal (now a) ⌝ }
+    ensures { λ r. ⌜ (r ≡ inertFirst (now (a .entry))) × (r ≤ WHOLE) ⌝ }
+{
+    let x = tenths(a);
+    methane_share(sum(&x), a[11])
 }

@@ -3,7 +3,8 @@ use borrow.Author.Needs.{needs}
 use Prim.Native.Nat.{ℕ, suc, _+_, _*_, _-_, _/_, _≤_, _<_}
 use mathlib.Core.Path.{_≡_, refl, sym, ap, ap₂, _∙_}
 use lib.ListN.{length, take, getD}
-use Rattle.mixture.specs.Scaling.{WHOLE, sumOf, quotientOf, remainderOf, missingOf, greatestTo, sharedOut}
+use Rattle.analysis.specs.Check.{totalOf}
+use Rattle.mixture.specs.Scaling.{WHOLE, quotientOf, remainderOf, missingOf, greatestTo, sharedOut}
 use Rattle.mixture.specs.Limits.{LIMIT}
 use Rattle.mixture.specs.Simplification.{COMPONENTS}
 use Rattle.mixture.proofs.Loops.{Filled, fill-next, fill-map, sum-none, sum-next, sum-all, left-next, left-all}
@@ -13,14 +14,13 @@ use Rattle.mixture.proofs.missing.Reads as reads
 use Rattle.mixture.proofs.missing.Lts as lts
 
 abbrev Inv-loop : tie.InvT-loop
-Inv-loop q m₀ i₀ m i = (i ≤ COMPONENTS) × (m + sumOf (take i q) ≡ WHOLE)
+Inv-loop q m₀ i₀ m i = (i ≤ COMPONENTS) × (m + totalOf (take i q) ≡ WHOLE)
 
 abbrev μ-loop : tie.MeasureT-loop
 μ-loop q m₀ i₀ m i = COMPONENTS - i
 
 -- src/lib.rt:118:5
 loop-holds : tie.Need-loop-holds Inv-loop μ-loop
-unfolding sumOf
 loop-holds c = (omega arith, refl)
 
 -- src/lib.rt:119:14
@@ -34,7 +34,7 @@ element-copy-out-m c = search needs
 abbrev left : (c : tie.After-m Inv-loop μ-loop) →
     let b = c .before .before in
     let l = b .before .args .q .now in
-    (getD l (b .loop .i) 0 ≤ b .loop .m) × (b .loop .m - getD l (b .loop .i) 0 + sumOf (take (b .loop .i + 1) l) ≡ WHOLE)
+    (getD l (b .loop .i) 0 ≤ b .loop .m) × (b .loop .m - getD l (b .loop .i) 0 + totalOf (take (b .loop .i + 1) l) ≡ WHOLE)
 left c =
     let b = c .before .before in
     left-next (b .before .args .q .now) (b .loop .i) (b .loop .m) WHOLE (omega arith) (b .before .pre .1) (b .loop .inv .1)

@@ -1,3 +1,9 @@
+use mathlib.Core.Path.{_≡_, refl, sym, ap, ap₂, _∙_}
+use native.Mathlib.Omega.{arith}
+use lib.ListN.{length, length-map}
+use Rattle.mixture.specs.Scaling.{remainderOf}
+use Rattle.mixture.specs.Simplification.{COMPONENTS}
+use Rattle.mixture.proofs.Loops.{quotients-fit, scaled-from}
 use borrow.Author.Needs.{needs}
 use Rattle.mixture.proofs.scale.Statement.{statement}
 use Rattle.mixture.proofs.scale.Tie as tie
@@ -23,15 +29,27 @@ remainders-requires c κs = search needs
 
 -- src/lib.rt:171:15
 missing-requires : tie.Need-missing-requires
-missing-requires c κs = ?
+missing-requires c κs =
+    let b = c .before .before .before in
+    let s = b .before .before in
+    let start = s .before .before in
+    quotients-fit (start .args .t1) _ _ COMPONENTS (start .pre .0 .long) (start .pre .1) (s .sum .ensures .0) (b .quotients .ensures)
 
--- src/lib.rt:171:5
 share-out-requires : tie.Need-share-out-requires
-share-out-requires c κs = ?
+share-out-requires c κs =
+    let b = c .before .before .before .before in
+    let s = b .before .before in
+    let start = s .before .before in
+    let q = quotients-fit (start .args .t1) _ _ COMPONENTS (start .pre .0 .long) (start .pre .1) (s .sum .ensures .0) (b .quotients .ensures) in
+    (q .0, ap length (c .before .before .remainders .ensures) ∙ length-map (start .args .t1) (remainderOf (s .sum .result)) ∙ start .pre .0 .long, omega (arith, q .1, c .missing .ensures))
 
--- src/lib.rt:164:1
 returns : tie.Need-returns
-returns c = ?
+returns c =
+    let m = c .before in
+    let r = m .before .before in
+    let q = r .before .before in
+    let s = q .before .before in
+    scaled-from (s .before .before .args .t1) _ _ _ _ _ (s .sum .ensures .0) (q .quotients .ensures) (r .remainders .ensures) (m .missing .ensures) (c .share-out .ensures)
 
 pub scale-spec : {M : Type 1} → statement M
 scale-spec =

@@ -3,7 +3,7 @@ use borrow.Author.Needs.{needs}
 use Prim.Native.Nat.{ℕ, suc, _+_, _*_, _-_, _/_, _≤_, _<_}
 use mathlib.Core.Path.{_≡_, refl, sym, ap, ap₂, _∙_}
 use lib.ListN.{length, take, getD}
-use Rattle.mixture.specs.Scaling.{sumOf}
+use Rattle.analysis.specs.Check.{totalOf}
 use Rattle.mixture.specs.Limits.{LIMIT}
 use Rattle.mixture.specs.Simplification.{COMPONENTS}
 use Rattle.mixture.proofs.Loops.{sum-none, sum-next, sum-all}
@@ -13,7 +13,7 @@ use Rattle.mixture.proofs.sum.Reads as reads
 use Rattle.mixture.proofs.sum.Lts as lts
 
 abbrev Inv-loop : tie.InvT-loop
-Inv-loop x t₀ i₀ t i = (i ≤ COMPONENTS) × (t ≡ sumOf (take i x)) × (t ≤ LIMIT * i)
+Inv-loop x t₀ i₀ t i = (i ≤ COMPONENTS) × (t ≡ totalOf (take i x)) × (t ≤ LIMIT * i)
 
 abbrev μ-loop : tie.MeasureT-loop
 μ-loop x t₀ i₀ t i = COMPONENTS - i
