@@ -13,7 +13,6 @@ use Rattle.analysis.specs.declared.Checked.{Checked}
 use Rattle.analysis.specs.declared.Checked.the-variants.{InRange, Refused}
 use Rattle.mixture.specs.Scaling.{WHOLE, scaledOf}
 use Rattle.mixture.specs.Simplification.{COMPONENTS, tenthsOf}
-use Rattle.mixture.specs.declared.InertMixture.{InertMixture}
 use Rattle.mixture.specs.declared.InertMixture.the-variants.{Amounts}
 use Rattle.mixture.specs.declared.InertMixture.the-variants as inert
 use Rattle.mixture.specs.Inert.{inertFirst, inertSecond}

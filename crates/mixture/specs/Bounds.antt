@@ -1,17 +1,17 @@
 -- What holds of the simplified mixture and of the inert mixture: of any amounts whose T is not 0, and more of an analysis
 -- in range. Assumes nothing.
-use Prim.Native.Nat.{ℕ, zero, suc, _+_, _*_, _-_, _/_, _≤_, _<_}
-use mathlib.Core.Path.{_≡_, refl, sym, ap, _∙_}
-use mathlib.Core.List.{List, [], _∷_}
+use Prim.Native.Nat.{ℕ, zero, suc, _+_, _*_, _/_, _≤_, _<_}
+use mathlib.Core.Path.{_≡_}
+use mathlib.Core.List.{List}
 use native.Mathlib.Nat.{le-div-iff-mul-le, div-lt-iff-lt-mul}
 use native.Mathlib.Omega.{arith}
 use lib.ListN.{getD, length}
 use Rattle.analysis.specs.Register.{CODES, statusOf}
 use Rattle.analysis.specs.Check.{totalOf, greatestOf, refusalOf}
 use Rattle.analysis.specs.Ranges.{WithinRanges, within-ranges, total-sum}
-use Rattle.mixture.specs.Scaling.{WHOLE, scaledOf}
-use Rattle.mixture.specs.Simplification.{COMPONENTS, amountOf, butaneOf, tenthsOf, tenthsTotal, simplifiedOf}
-use Rattle.mixture.specs.Inert.{halvesUp, methaneShare, inertFirst, inertSecond}
+use Rattle.mixture.specs.Scaling.{WHOLE}
+use Rattle.mixture.specs.Simplification.{COMPONENTS, amountOf, tenthsOf, tenthsTotal, simplifiedOf}
+use Rattle.mixture.specs.Inert.{methaneShare, inertFirst, inertSecond}
 use Rattle.mixture.specs.Total.{scaled-length, scaled-sum}
 use Rattle.mixture.specs.Share.{NearShare, scaled-near, scaled-positive}
 

@@ -1,8 +1,8 @@
 -- Scaling a list of amounts to a whole of 1000000 parts (document 01, Simplification; 000 A.3.1), for any number of
 -- components. Assumes nothing.
 use Prim.Native.Nat.{ℕ, zero, suc, _+_, _*_, _-_, _/_, _%_}
-use mathlib.Core.List.{List, [], _∷_, map}
-use mathlib.Core.Bool.{Bool, true, false}
+use mathlib.Core.List.{List, map}
+use mathlib.Core.Bool.{true, false}
 use lib.Dec.{ltb}
 use lib.ListN.{getD, set, length}
 use Rattle.analysis.specs.Check.{totalOf}

@@ -1,6 +1,6 @@
 -- Each scaled amount is less than one part from its exact share, for any amounts whose sum is not 0. Assumes nothing.
-use Prim.Native.Nat.{ℕ, zero, suc, _+_, _*_, _-_, _/_, _%_, _≤_, _<_}
-use mathlib.Core.Path.{_≡_, refl, sym, ap, ap₂, subst, _∙_}
+use Prim.Native.Nat.{ℕ, zero, suc, _+_, _*_, _/_, _≤_, _<_}
+use mathlib.Core.Path.{_≡_, refl, _∙_}
 use mathlib.Core.List.{List, [], _∷_, map}
 use mathlib.Core.Bool.{Bool, true, false}
 use native.Mathlib.Nat.{not-suc-le-zero, div-add-mod', mod-lt}
@@ -10,8 +10,8 @@ use lib.ListN.{getD, set, length, length-set, length-map}
 use lib.Seq.{getD-set-same, getD-set-other}
 use borrow.Author.Tests.{eqb-true, eqb-false, ltb-true, ltb-false}
 use Rattle.analysis.specs.Check.{totalOf}
-use Rattle.mixture.specs.Scaling.{WHOLE, quotientOf, remainderOf, quotientsOf, remaindersOf, missingOf, greatestTo, greatestOf, oneMore, sharedOut, scaledOf}
-use Rattle.mixture.specs.Total.{sum-set, sum-filled, greatest-below, greatest-least, remainders-sum, scaled-length}
+use Rattle.mixture.specs.Scaling.{WHOLE, quotientOf, remainderOf, quotientsOf, remaindersOf, missingOf, greatestOf, oneMore, sharedOut, scaledOf}
+use Rattle.mixture.specs.Total.{sum-set, greatest-below, greatest-least, remainders-sum}
 
 -- s parts are less than one part from 1000000 × x / t
 pub record NearShare (t x s : ℕ) : Type 0 where

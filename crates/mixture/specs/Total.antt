@@ -1,7 +1,7 @@
 -- The scaled amounts add up to 1000000, for any amounts whose sum is not 0. Assumes nothing.
-use Prim.Native.Nat.{ℕ, zero, suc, _+_, _*_, _-_, _/_, _%_, _≤_, _<_}
-use mathlib.Core.Path.{_≡_, refl, sym, ap, ap₂, _∙_}
-use mathlib.Core.List.{List, [], _∷_, map}
+use Prim.Native.Nat.{ℕ, zero, suc, _+_, _*_, _-_, _≤_, _<_}
+use mathlib.Core.Path.{_≡_, refl, sym, ap, _∙_}
+use mathlib.Core.List.{List, [], _∷_}
 use mathlib.Core.Bool.{Bool, true, false}
 use native.Mathlib.Nat.{not-suc-le-zero, div-add-mod', le-of-mul-le-mul-right}
 use native.Mathlib.Omega.{arith}
@@ -71,10 +71,11 @@ unfolding sharedOut
 shared-sum zero qs rs e h = omega arith
 shared-sum (suc m) qs rs e h =
     let p = greatestOf rs in
-    omega
-    (arith,
-    shared-sum m (oneMore qs p) (set rs p 0) (length-set qs p (getD qs p 0 + 1) ∙ e ∙ sym (length-set rs p 0)) (rw length-set h),
-    sum-set qs p (getD qs p 0 + 1) (omega (arith, greatest-below rs (length rs) h)))
+    omega (
+      arith,
+      shared-sum m (oneMore qs p) (set rs p 0) (length-set qs p (getD qs p 0 + 1) ∙ e ∙ sym (length-set rs p 0)) (rw length-set h),
+      sum-set qs p (getD qs p 0 + 1) (omega (arith, greatest-below rs (length rs) h)),
+    )
 
 -- ---- the quotients and the remainders
 
@@ -104,9 +105,10 @@ module _ (xs : List ℕ) (h : 0 < totalOf xs) where
   pub scaled-sum : totalOf (scaledOf xs) ≡ WHOLE
   unfolding scaledOf
   scaled-sum =
-      omega
-      (arith,
-      shared-sum (missingOf (quotientsOf xs (totalOf xs))) (quotientsOf xs (totalOf xs)) (remaindersOf xs (totalOf xs))
-      (length-map xs (quotientOf (totalOf xs)) ∙ sym (length-map xs (remainderOf (totalOf xs))))
-      (rw length-map (sum-filled xs h)),
-      quotients-whole)
+      omega (
+        arith,
+        shared-sum (missingOf (quotientsOf xs (totalOf xs))) (quotientsOf xs (totalOf xs)) (remaindersOf xs (totalOf xs))
+            (length-map xs (quotientOf (totalOf xs)) ∙ sym (length-map xs (remainderOf (totalOf xs))))
+            (rw length-map (sum-filled xs h)),
+        quotients-whole,
+      )

@@ -1,9 +1,8 @@
 // The simplified mixture and the inert mixture of an analysis (000 A.3.1 and A.3.7).
 // No public function has a `requires`.
 use analysis::Analysis;
-use analysis::Checked;
 use analysis::CODES;
-
+use analysis::Checked;
 ghost use mathlib.Core.Path.{_≡_};
 ghost use Prim.Native.Nat.{ℕ, _+_, _*_, _<_, _≤_};
 ghost use lib.ListN.{getD, length};
@@ -101,12 +100,7 @@ fn butane(a: &[u32; CODES]) -> u64
 fn tenths(a: &[u32; CODES]) -> [u64; COMPONENTS]
     ensures { λ r. ⌜ (r ≡ tenthsOf (now (a .entry))) × Limited r ⌝ }
 {
-    [
-        10 * wide(a[1]),
-        10 * wide(a[2]),
-        10 * wide(a[3]),
-        butane(a),
-    ]
+    [10 * wide(a[1]), 10 * wide(a[2]), 10 * wide(a[3]), butane(a)]
 }
 
 // The sum of amounts.

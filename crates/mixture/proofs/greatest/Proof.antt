@@ -2,18 +2,12 @@ use Rattle.mixture.proofs.Loops.{greatest-none, greatest-here, greatest
 use mathlib.Core.Logic.{⊎-elim}
 use native.Mathlib.Omega.{arith}
 use borrow.Author.Needs.{needs}
-use Prim.Native.Nat.{ℕ, suc, _+_, _*_, _-_, _/_, _≤_, _<_}
-use mathlib.Core.Path.{_≡_, refl, sym, ap, ap₂, _∙_}
-use lib.ListN.{length, take, getD}
-use Rattle.analysis.specs.Check.{totalOf}
-use Rattle.mixture.specs.Scaling.{WHOLE, quotientOf, remainderOf, missingOf, greatestTo, sharedOut}
-use Rattle.mixture.specs.Limits.{LIMIT}
+use Prim.Native.Nat.{_-_, _≤_, _<_}
+use mathlib.Core.Path.{_≡_, ap, _∙_}
+use Rattle.mixture.specs.Scaling.{greatestTo}
 use Rattle.mixture.specs.Simplification.{COMPONENTS}
-use Rattle.mixture.proofs.Loops.{Filled, fill-next, fill-map, sum-none, sum-next, sum-all}
 use Rattle.mixture.proofs.greatest.Statement.{statement}
 use Rattle.mixture.proofs.greatest.Tie as tie
-use Rattle.mixture.proofs.greatest.Reads as reads
-use Rattle.mixture.proofs.greatest.Lts as lts
 
 abbrev Inv-loop : tie.InvT-loop
 Inv-loop r p₀ i₀ p i = (i ≤ COMPONENTS) × (p ≡ greatestTo r i) × (p < COMPONENTS)
@@ -21,35 +15,27 @@ Inv-loop r p₀ i₀ p i = (i ≤ COMPONENTS) × (p ≡ greatestTo r i) × (p < 
 abbrev μ-loop : tie.MeasureT-loop
 μ-loop r p₀ i₀ p i = COMPONENTS - i
 
--- src/lib.rt:132:5
 loop-holds : tie.Need-loop-holds Inv-loop μ-loop
 loop-holds c = (omega arith, greatest-none (c .args .r .now), omega arith)
 
--- src/lib.rt:133:12
 mul-if1 : tie.Need-mul-if1 Inv-loop μ-loop
 mul-if1 c = search needs
 
--- src/lib.rt:133:12
 element-copy-out-if1 : tie.Need-element-copy-out-if1 Inv-loop μ-loop
 element-copy-out-if1 c = search needs
 
--- src/lib.rt:133:19
 mul-if1-2 : tie.Need-mul-if1-2 Inv-loop μ-loop
 mul-if1-2 c = search needs
 
--- src/lib.rt:133:19
 element-copy-out-if1-2 : tie.Need-element-copy-out-if1-2 Inv-loop μ-loop
 element-copy-out-if1-2 c = search needs
 
--- src/lib.rt:136:9
 add-i : tie.Need-add-i Inv-loop μ-loop
 add-i c = search needs
 
--- src/lib.rt:132:5
 loop-less : tie.Need-loop-less Inv-loop μ-loop
 loop-less c = search needs
 
--- src/lib.rt:132:5
 loop-again : tie.Need-loop-again Inv-loop μ-loop
 loop-again c =
     let b = c .before .before .before .before in
@@ -59,7 +45,6 @@ loop-again c =
     (λ w. (omega arith, w .1 ∙ greatest-there rs (b .loop .i) (b .loop .p) (b .loop .inv .1) (w .0 .left), omega (arith, w .1)))
     (c .if1 .came)
 
--- src/lib.rt:126:1
 returns : tie.Need-returns Inv-loop μ-loop
 returns c =
     let b = c .before in

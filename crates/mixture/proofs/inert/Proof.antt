@@ -1,24 +1,17 @@
-use mathlib.Core.Path.{_≡_, refl, sym, ap, ap₂, _∙_}
+use mathlib.Core.Path.{_≡_, refl}
 use lib.ListN.{length}
 use Rattle.mixture.specs.Bounds.{tenths-positive}
 use Rattle.mixture.proofs.Answered.{refusal-none, inert-in-range, inert-refused}
 use borrow.Author.Needs.{needs}
 use Rattle.mixture.proofs.inert.Statement.{statement}
 use Rattle.mixture.proofs.inert.Tie as tie
-use Rattle.mixture.proofs.inert.Reads as reads
-use Rattle.mixture.proofs.inert.Lts as lts
-use Rattle.analysis.proofs.check.Reads as check-reads
-use Rattle.mixture.proofs.inert_first.Reads as inert-first-reads
 
--- src/lib.rt:70:9
 check-requires : tie.Need-check-requires
 check-requires c κs = search needs
 
--- src/lib.rt:73:34
 enum-told : tie.Need-enum-told
 enum-told c = search needs
 
--- src/lib.rt:73:17
 inert-first-requires : tie.Need-inert-first-requires
 inert-first-requires c κs =
     let k = c .before .before .before in
@@ -26,15 +19,12 @@ inert-first-requires c κs =
     let l : length a ≡ 14 = search needs in
     tenths-positive a l (refusal-none a _ (k .check .ensures) (c .before .enum-told .given .1))
 
--- src/lib.rt:76:21
 sub-t9 : tie.Need-sub-t9
 sub-t9 c = search needs
 
--- src/lib.rt:80:28
 enum-known-answer : tie.Need-enum-known-answer
 enum-known-answer c = search needs
 
--- src/lib.rt:66:1
 returns : tie.Need-returns
 returns c =
     let k = c .before .before .before .before in
@@ -42,7 +32,6 @@ returns c =
     let n = refusal-none a _ (k .check .ensures) (c .before .before .enum-told .given .1) in
     inert-in-range a _ _ n (c .inert-first .ensures .0) refl
 
--- src/lib.rt:66:1
 returns-2 : tie.Need-returns-2
 returns-2 c =
     let k = c .before .before .before in

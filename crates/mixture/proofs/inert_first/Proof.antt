@@ -6,25 +6,16 @@ use Rattle.mixture.specs.Inert.{methaneShare}
 use borrow.Author.Needs.{needs}
 use Rattle.mixture.proofs.inert_first.Statement.{statement}
 use Rattle.mixture.proofs.inert_first.Tie as tie
-use Rattle.mixture.proofs.inert_first.Reads as reads
-use Rattle.mixture.proofs.inert_first.Lts as lts
-use Rattle.mixture.proofs.methane_share.Reads as methane-share-reads
-use Rattle.mixture.proofs.sum.Reads as sum-reads
-use Rattle.mixture.proofs.tenths.Reads as tenths-reads
 
--- src/lib.rt:253:13
 tenths-requires : tie.Need-tenths-requires
 tenths-requires c κs = search needs
 
--- src/lib.rt:254:19
 sum-requires : tie.Need-sum-requires
 sum-requires c κs = search needs
 
--- src/lib.rt:254:28
 element-copy-out-methane-share : tie.Need-element-copy-out-methane-share
 element-copy-out-methane-share c = search needs
 
--- src/lib.rt:254:5
 methane-share-requires : tie.Need-methane-share-requires
 methane-share-requires c κs =
     let s = c .before in
@@ -32,7 +23,6 @@ methane-share-requires c κs =
     let e : s .sum .result ≡ tenthsTotal (t .before .args .a .now) = s .sum .ensures .0 ∙ ap totalOf (t .tenths .ensures .0) in
     omega (arith, s .sum .ensures .1, t .before .pre)
 
--- src/lib.rt:249:1
 returns : tie.Need-returns
 returns c =
     let s = c .before .before in

@@ -1,4 +1,4 @@
-use Prim.Native.Nat.{ℕ, _+_, _*_, _≤_}
+use Prim.Native.Nat.{_+_, _*_, _≤_}
 use mathlib.Core.Path.{_≡_, ap, _∙_}
 use native.Mathlib.Omega.{arith}
 use Rattle.mixture.specs.Scaling.{WHOLE}
@@ -7,28 +7,19 @@ use Rattle.mixture.specs.Bounds.{share-greatest}
 use borrow.Author.Needs.{needs}
 use Rattle.mixture.proofs.methane_share.Statement.{statement}
 use Rattle.mixture.proofs.methane_share.Tie as tie
-use Rattle.mixture.proofs.methane_share.Reads as reads
-use Rattle.mixture.proofs.methane_share.Lts as lts
-use Rattle.mixture.proofs.halves_up.Reads as halves-up-reads
-use Rattle.mixture.proofs.wide.Reads as wide-reads
 
--- src/lib.rt:245:15
 mul-halves-up : tie.Need-mul-halves-up
 mul-halves-up c = search needs
 
--- src/lib.rt:245:48
 wide-requires : tie.Need-wide-requires
 wide-requires c κs = search needs
 
--- src/lib.rt:245:43
 mul-halves-up-2 : tie.Need-mul-halves-up-2
 mul-halves-up-2 c = search needs
 
--- src/lib.rt:245:35
 add-halves-up : tie.Need-add-halves-up
 add-halves-up c = search needs
 
--- src/lib.rt:245:5
 halves-up-requires : tie.Need-halves-up-requires
 halves-up-requires c κs = search needs
 
@@ -39,14 +30,12 @@ unfolding methaneShare
 share c =
     let a = c .before .before .args in
     let e : c .halves-up .result ≡ methaneShare (a .total) (a .co2) =
-        c .halves-up .ensures ∙ ap (λ w. halvesUp (WHOLE * a .total) (a .total + 10 * w)) (c .before .wide .ensures .0) in
+    c .halves-up .ensures ∙ ap (λ w. halvesUp (WHOLE * a .total) (a .total + 10 * w)) (c .before .wide .ensures .0) in
     (e, omega (arith, share-greatest (a .total) (a .co2) (c .before .before .pre .0)))
 
--- src/lib.rt:245:5
 cast-result : tie.Need-cast-result
 cast-result c = record { fits = omega (arith, share c .0, share c .1) }
 
--- src/lib.rt:241:1
 returns : tie.Need-returns
 returns c = share c
 

@@ -1,17 +1,14 @@
 use native.Mathlib.Omega.{arith}
 use borrow.Author.Needs.{needs}
-use Prim.Native.Nat.{ℕ, suc, _+_, _*_, _-_, _/_, _≤_, _<_}
-use mathlib.Core.Path.{_≡_, refl, sym, ap, ap₂, _∙_}
-use lib.ListN.{length, take, getD}
+use Prim.Native.Nat.{_+_, _-_, _≤_}
+use mathlib.Core.Path.{_≡_, refl}
+use lib.ListN.{take, getD}
 use Rattle.analysis.specs.Check.{totalOf}
-use Rattle.mixture.specs.Scaling.{WHOLE, quotientOf, remainderOf, missingOf, greatestTo, sharedOut}
-use Rattle.mixture.specs.Limits.{LIMIT}
+use Rattle.mixture.specs.Scaling.{WHOLE}
 use Rattle.mixture.specs.Simplification.{COMPONENTS}
-use Rattle.mixture.proofs.Loops.{Filled, fill-next, fill-map, sum-none, sum-next, sum-all, left-next, left-all}
+use Rattle.mixture.proofs.Loops.{left-next, left-all}
 use Rattle.mixture.proofs.missing.Statement.{statement}
 use Rattle.mixture.proofs.missing.Tie as tie
-use Rattle.mixture.proofs.missing.Reads as reads
-use Rattle.mixture.proofs.missing.Lts as lts
 
 abbrev Inv-loop : tie.InvT-loop
 Inv-loop q m₀ i₀ m i = (i ≤ COMPONENTS) × (m + totalOf (take i q) ≡ WHOLE)
@@ -19,15 +16,12 @@ Inv-loop q m₀ i₀ m i = (i ≤ COMPONENTS) × (m + totalOf (take i q) ≡ WHO
 abbrev μ-loop : tie.MeasureT-loop
 μ-loop q m₀ i₀ m i = COMPONENTS - i
 
--- src/lib.rt:118:5
 loop-holds : tie.Need-loop-holds Inv-loop μ-loop
 loop-holds c = (omega arith, refl)
 
--- src/lib.rt:119:14
 mul-m : tie.Need-mul-m Inv-loop μ-loop
 mul-m c = search needs
 
--- src/lib.rt:119:14
 element-copy-out-m : tie.Need-element-copy-out-m Inv-loop μ-loop
 element-copy-out-m c = search needs
 
@@ -39,23 +33,18 @@ left c =
     let b = c .before .before in
     left-next (b .before .args .q .now) (b .loop .i) (b .loop .m) WHOLE (omega arith) (b .before .pre .1) (b .loop .inv .1)
 
--- src/lib.rt:119:9
 sub-m : tie.Need-sub-m Inv-loop μ-loop
 sub-m c = left c .0
 
--- src/lib.rt:120:9
 add-i : tie.Need-add-i Inv-loop μ-loop
 add-i c = search needs
 
--- src/lib.rt:118:5
 loop-less : tie.Need-loop-less Inv-loop μ-loop
 loop-less c = search needs
 
--- src/lib.rt:118:5
 loop-again : tie.Need-loop-again Inv-loop μ-loop
 loop-again c = (omega arith, left c .1)
 
--- src/lib.rt:112:1
 returns : tie.Need-returns Inv-loop μ-loop
 returns c =
     let b = c .before in

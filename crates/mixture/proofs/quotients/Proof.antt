@@ -1,19 +1,14 @@
 use native.Mathlib.Omega.{arith}
 use borrow.Author.Needs.{needs}
-use Prim.Native.Nat.{ℕ, suc, _+_, _*_, _-_, _/_, _≤_, _<_}
-use mathlib.Core.Path.{_≡_, refl, sym, ap, ap₂, _∙_}
-use lib.ListN.{length, take, getD}
-use Rattle.analysis.specs.Check.{totalOf}
-use Rattle.mixture.specs.Scaling.{WHOLE, quotientOf, remainderOf, missingOf, greatestTo, sharedOut}
-use Rattle.mixture.specs.Limits.{LIMIT}
+use Prim.Native.Nat.{_-_}
+use mathlib.Core.Path.{refl}
+use lib.ListN.{getD}
+use Rattle.mixture.specs.Scaling.{quotientOf}
 use Rattle.mixture.specs.Simplification.{COMPONENTS}
-use Rattle.mixture.proofs.Loops.{Filled, fill-next, fill-map, sum-none, sum-next, sum-all}
+use Rattle.mixture.proofs.Loops.{Filled, fill-next, fill-map}
 use Rattle.mixture.specs.Total.{sum-has}
 use Rattle.mixture.proofs.quotients.Statement.{statement}
 use Rattle.mixture.proofs.quotients.Tie as tie
-use Rattle.mixture.proofs.quotients.Reads as reads
-use Rattle.mixture.proofs.quotients.Lts as lts
-use Rattle.mixture.proofs.quotient.Reads as quotient-reads
 
 abbrev Inv-loop : tie.InvT-loop
 Inv-loop x total q₀ i₀ q i = Filled COMPONENTS (λ k. quotientOf total (getD x k 0)) q i
@@ -21,48 +16,38 @@ Inv-loop x total q₀ i₀ q i = Filled COMPONENTS (λ k. quotientOf total (getD
 abbrev μ-loop : tie.MeasureT-loop
 μ-loop x total q₀ i₀ q i = COMPONENTS - i
 
--- src/lib.rt:90:5
 loop-holds : tie.Need-loop-holds Inv-loop μ-loop
 loop-holds c = record { size = refl; most = omega arith; there = λ k h. absurd (omega arith) }
 
--- src/lib.rt:91:25
 mul-quotient : tie.Need-mul-quotient Inv-loop μ-loop
 mul-quotient c = search needs
 
--- src/lib.rt:91:25
 element-copy-out-quotient : tie.Need-element-copy-out-quotient Inv-loop μ-loop
 element-copy-out-quotient c = search needs
 
--- src/lib.rt:91:16
 quotient-requires : tie.Need-quotient-requires Inv-loop μ-loop
 quotient-requires c κs =
     let b = c .before .before in
     let l = b .before .pre .0 .small (b .loop .i) in
     omega (arith, sum-has (b .before .args .x .now) (b .loop .i))
 
--- src/lib.rt:91:9
 mul-q : tie.Need-mul-q Inv-loop μ-loop
 mul-q c = search needs
 
--- src/lib.rt:91:9
 array-write-q : tie.Need-array-write-q Inv-loop μ-loop
 array-write-q c = search needs
 
--- src/lib.rt:92:9
 add-i : tie.Need-add-i Inv-loop μ-loop
 add-i c = search needs
 
--- src/lib.rt:90:5
 loop-less : tie.Need-loop-less Inv-loop μ-loop
 loop-less c = search needs
 
--- src/lib.rt:90:5
 loop-again : tie.Need-loop-again Inv-loop μ-loop
 loop-again c =
     let b = c .before .before .before in
     fill-next COMPONENTS _ (b .loop .q) (b .loop .i) _ (c .before .before .loop-test .taken) (c .quotient .ensures) (b .loop .inv)
 
--- src/lib.rt:84:1
 returns : tie.Need-returns Inv-loop μ-loop
 returns c =
     let b = c .before in

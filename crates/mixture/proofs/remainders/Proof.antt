@@ -1,18 +1,13 @@
 use native.Mathlib.Omega.{arith}
 use borrow.Author.Needs.{needs}
-use Prim.Native.Nat.{ℕ, suc, _+_, _*_, _-_, _/_, _≤_, _<_}
-use mathlib.Core.Path.{_≡_, refl, sym, ap, ap₂, _∙_}
-use lib.ListN.{length, take, getD}
-use Rattle.analysis.specs.Check.{totalOf}
-use Rattle.mixture.specs.Scaling.{WHOLE, quotientOf, remainderOf, missingOf, greatestTo, sharedOut}
-use Rattle.mixture.specs.Limits.{LIMIT}
+use Prim.Native.Nat.{_-_}
+use mathlib.Core.Path.{refl}
+use lib.ListN.{getD}
+use Rattle.mixture.specs.Scaling.{remainderOf}
 use Rattle.mixture.specs.Simplification.{COMPONENTS}
-use Rattle.mixture.proofs.Loops.{Filled, fill-next, fill-map, sum-none, sum-next, sum-all}
+use Rattle.mixture.proofs.Loops.{Filled, fill-next, fill-map}
 use Rattle.mixture.proofs.remainders.Statement.{statement}
 use Rattle.mixture.proofs.remainders.Tie as tie
-use Rattle.mixture.proofs.remainders.Reads as reads
-use Rattle.mixture.proofs.remainders.Lts as lts
-use Rattle.mixture.proofs.remainder.Reads as remainder-reads
 
 abbrev Inv-loop : tie.InvT-loop
 Inv-loop x total r₀ i₀ r i = Filled COMPONENTS (λ k. remainderOf total (getD x k 0)) r i
@@ -20,47 +15,37 @@ Inv-loop x total r₀ i₀ r i = Filled COMPONENTS (λ k. remainderOf total (get
 abbrev μ-loop : tie.MeasureT-loop
 μ-loop x total r₀ i₀ r i = COMPONENTS - i
 
--- src/lib.rt:104:5
 loop-holds : tie.Need-loop-holds Inv-loop μ-loop
 loop-holds c = record { size = refl; most = omega arith; there = λ k h. absurd (omega arith) }
 
--- src/lib.rt:105:26
 mul-remainder : tie.Need-mul-remainder Inv-loop μ-loop
 mul-remainder c = search needs
 
--- src/lib.rt:105:26
 element-copy-out-remainder : tie.Need-element-copy-out-remainder Inv-loop μ-loop
 element-copy-out-remainder c = search needs
 
--- src/lib.rt:105:16
 remainder-requires : tie.Need-remainder-requires Inv-loop μ-loop
 remainder-requires c κs =
     let b = c .before .before in
     omega (arith, b .before .pre .0 .small (b .loop .i))
 
--- src/lib.rt:105:9
 mul-r : tie.Need-mul-r Inv-loop μ-loop
 mul-r c = search needs
 
--- src/lib.rt:105:9
 array-write-r : tie.Need-array-write-r Inv-loop μ-loop
 array-write-r c = search needs
 
--- src/lib.rt:106:9
 add-i : tie.Need-add-i Inv-loop μ-loop
 add-i c = search needs
 
--- src/lib.rt:104:5
 loop-less : tie.Need-loop-less Inv-loop μ-loop
 loop-less c = search needs
 
--- src/lib.rt:104:5
 loop-again : tie.Need-loop-again Inv-loop μ-loop
 loop-again c =
     let b = c .before .before .before in
     fill-next COMPONENTS _ (b .loop .r) (b .loop .i) _ (c .before .before .loop-test .taken) (c .remainder .ensures) (b .loop .inv)
 
--- src/lib.rt:98:1
 returns : tie.Need-returns Inv-loop μ-loop
 returns c =
     let b = c .before in

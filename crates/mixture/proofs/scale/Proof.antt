@@ -1,4 +1,4 @@
-use mathlib.Core.Path.{_≡_, refl, sym, ap, ap₂, _∙_}
+use mathlib.Core.Path.{ap, _∙_}
 use native.Mathlib.Omega.{arith}
 use lib.ListN.{length, length-map}
 use Rattle.mixture.specs.Scaling.{remainderOf}
@@ -7,27 +7,16 @@ use Rattle.mixture.proofs.Loops.{quotients-fit, scaled-from}
 use borrow.Author.Needs.{needs}
 use Rattle.mixture.proofs.scale.Statement.{statement}
 use Rattle.mixture.proofs.scale.Tie as tie
-use Rattle.mixture.proofs.scale.Reads as reads
-use Rattle.mixture.proofs.scale.Lts as lts
-use Rattle.mixture.proofs.missing.Reads as missing-reads
-use Rattle.mixture.proofs.quotients.Reads as quotients-reads
-use Rattle.mixture.proofs.remainders.Reads as remainders-reads
-use Rattle.mixture.proofs.share_out.Reads as share-out-reads
-use Rattle.mixture.proofs.sum.Reads as sum-reads
 
--- src/lib.rt:168:9
 sum-requires : tie.Need-sum-requires
 sum-requires c κs = search needs
 
--- src/lib.rt:169:13
 quotients-requires : tie.Need-quotients-requires
 quotients-requires c κs = search needs
 
--- src/lib.rt:170:9
 remainders-requires : tie.Need-remainders-requires
 remainders-requires c κs = search needs
 
--- src/lib.rt:171:15
 missing-requires : tie.Need-missing-requires
 missing-requires c κs =
     let b = c .before .before .before in

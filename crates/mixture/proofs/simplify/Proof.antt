@@ -1,30 +1,20 @@
-use mathlib.Core.Path.{_≡_, refl, sym, ap, ap₂, _∙_}
-use native.Mathlib.Omega.{arith}
+use mathlib.Core.Path.{_≡_}
 use lib.ListN.{length}
 use Rattle.mixture.specs.Bounds.{tenths-positive}
 use Rattle.mixture.proofs.Answered.{refusal-none, refusal-some, mixture-in-range, mixture-refused}
 use borrow.Author.Needs.{needs}
 use Rattle.mixture.proofs.simplify.Statement.{statement}
 use Rattle.mixture.proofs.simplify.Tie as tie
-use Rattle.mixture.proofs.simplify.Reads as reads
-use Rattle.mixture.proofs.simplify.Lts as lts
-use Rattle.analysis.proofs.check.Reads as check-reads
-use Rattle.mixture.proofs.scale.Reads as scale-reads
-use Rattle.mixture.proofs.tenths.Reads as tenths-reads
 
--- src/lib.rt:48:9
 check-requires : tie.Need-check-requires
 check-requires c κs = search needs
 
--- src/lib.rt:52:39
 enum-told : tie.Need-enum-told
 enum-told c = search needs
 
--- src/lib.rt:52:32
 tenths-requires : tie.Need-tenths-requires
 tenths-requires c κs = search needs
 
--- src/lib.rt:52:26
 scale-requires : tie.Need-scale-requires
 scale-requires c κs =
     let k = c .before .before .before .before in
@@ -34,11 +24,9 @@ scale-requires c κs =
     let p = tenths-positive a l (refusal-none a _ (k .check .ensures) (c .before .before .enum-told .given .1)) in
     (c .tenths .ensures .1, rw (c .tenths .ensures .0) p)
 
--- src/lib.rt:58:26
 enum-told-2 : tie.Need-enum-told-2
 enum-told-2 c = search needs
 
--- src/lib.rt:44:1
 returns : tie.Need-returns
 returns c =
     let k = c .before .before .before .before .before in
@@ -49,7 +37,6 @@ returns c =
       mixture = mixture-in-range a _ _ n (c .before .tenths .ensures .0) (c .scale .ensures);
     }
 
--- src/lib.rt:44:1
 returns-2 : tie.Need-returns-2
 returns-2 c =
     let k = c .before .before in

@@ -1,56 +1,40 @@
 use native.Mathlib.Omega.{arith}
 use Rattle.mixture.proofs.Loops.{limited-four}
-use mathlib.Core.Path.{_≡_, refl, sym, ap, ap₂, _∙_}
 use Rattle.mixture.specs.Simplification.{tenthsOf}
 use borrow.Author.Needs.{needs}
 use Rattle.mixture.proofs.tenths.Statement.{statement}
 use Rattle.mixture.proofs.tenths.Tie as tie
-use Rattle.mixture.proofs.tenths.Reads as reads
-use Rattle.mixture.proofs.tenths.Lts as lts
-use Rattle.mixture.proofs.butane.Reads as butane-reads
-use Rattle.mixture.proofs.wide.Reads as wide-reads
 
--- src/lib.rt:46:19
 element-copy-out-wide : tie.Need-element-copy-out-wide
 element-copy-out-wide c = search needs
 
--- src/lib.rt:46:14
 wide-requires : tie.Need-wide-requires
 wide-requires c κs = search needs
 
--- src/lib.rt:46:9
 mul-t6 : tie.Need-mul-t6
 mul-t6 c = search needs
 
--- src/lib.rt:47:19
 element-copy-out-wide-2 : tie.Need-element-copy-out-wide-2
 element-copy-out-wide-2 c = search needs
 
--- src/lib.rt:47:14
 wide-requires-2 : tie.Need-wide-requires-2
 wide-requires-2 c κs = search needs
 
--- src/lib.rt:47:9
 mul-t11 : tie.Need-mul-t11
 mul-t11 c = search needs
 
--- src/lib.rt:48:19
 element-copy-out-wide-3 : tie.Need-element-copy-out-wide-3
 element-copy-out-wide-3 c = search needs
 
--- src/lib.rt:48:14
 wide-requires-3 : tie.Need-wide-requires-3
 wide-requires-3 c κs = search needs
 
--- src/lib.rt:48:9
 mul-t16 : tie.Need-mul-t16
 mul-t16 c = search needs
 
--- src/lib.rt:49:9
 butane-requires : tie.Need-butane-requires
 butane-requires c κs = search needs
 
--- src/lib.rt:42:1
 returns : tie.Need-returns
 unfolding tenthsOf
 returns c = (cc, limited-four _ _ _ _ (omega arith) (omega arith) (omega arith) (omega arith))
