@@ -1,0 +1,9 @@
+pub mod Scaling
+pub mod Simplification
+pub mod Inert
+pub mod Limits
+pub mod Answers
+pub mod Total
+pub mod Share
+pub mod Bounds
+pub mod Marked
