@@ -1,0 +1,2 @@
+// The search for a split whose partial numbers agree. No public function has a `requires`.
+mod state;
