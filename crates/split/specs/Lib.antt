@@ -1,4 +1,6 @@
 pub mod Fold
+pub mod Folds
+pub mod Tables
 pub mod Split
 pub mod Rating
 pub mod Spread
@@ -7,6 +9,11 @@ pub mod Exact
 pub mod Fits
 pub mod Rated
 pub mod Refused
+pub mod Sums
+pub mod Size
+pub mod Accuracy
+pub mod Places
+pub mod Records
 pub mod Start
 pub mod Move
 pub mod Search
