@@ -18,6 +18,18 @@ pub close-whole : (z : ℤ) → Close z (whole z) 0
 unfolding one
 close-whole z = record { positive = N.le-refl 1; near = rw (*ℤ-one z, +ℤ-invr z) (N.le-refl 0) }
 
+-- the fraction's terms multiplied by a positive number: the same distance
+scaled : (w e K p : ℤ) → w *ℤ (K *ℤ p) -ℤ e *ℤ p ≡ (w *ℤ K -ℤ e) *ℤ p
+scaled w e K p = simp ring
+
+pub within-scaled : {w : ℤ} {f : Fraction} {u : ℕ} (p : ℕ) → 0 < p → Within w f u → Within w (record { num = f .num *ℤ pos p; den = f .den * p }) u
+within-scaled {w} {f} {u} p p>0 h = record {
+  positive = N.mul-pos (h .positive) p>0;
+  near =
+      rw (scaled w (f .num) (pos (f .den)) (pos p), natAbs-* (w *ℤ pos (f .den) -ℤ f .num) (pos p), ← N.mul-assoc u (f .den) p)
+      (N.mul-lt-mul-of-pos-right (h .near) p>0);
+}
+
 -- ---- sums
 
 apart : (w w′ e e′ K K′ : ℤ) → (w +ℤ w′) *ℤ (K *ℤ K′) -ℤ (e *ℤ K′ +ℤ e′ *ℤ K) ≡ (w *ℤ K -ℤ e) *ℤ K′ +ℤ (w′ *ℤ K′ -ℤ e′) *ℤ K
@@ -60,6 +72,15 @@ close-times {w} {f} {u} p h = record {
   near =
       rw (taken w (f .num) (pos (f .den)) (pos p), natAbs-* (w *ℤ pos (f .den) -ℤ f .num) (pos p), ← more-units u (f .den) p)
       (N.mul-le-mul-right p (h .near));
+}
+
+-- the strict one, by a positive number
+pub within-times : {w : ℤ} {f : Fraction} {u : ℕ} (p : ℕ) → 0 < p → Within w f u → Within (w *ℤ pos p) (times f p) (u * p)
+within-times {w} {f} {u} p p>0 h = record {
+  positive = h .positive;
+  near =
+      rw (taken w (f .num) (pos (f .den)) (pos p), natAbs-* (w *ℤ pos (f .den) -ℤ f .num) (pos p), ← more-units u (f .den) p)
+      (N.mul-lt-mul-of-pos-right (h .near) p>0);
 }
 
 -- ---- one division, the fraction dropped: less than one unit more

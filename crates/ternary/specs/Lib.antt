@@ -4,3 +4,7 @@ pub mod Error
 pub mod Size
 pub mod Bound
 pub mod Partial
+pub mod Answer
+pub mod Whole
+pub mod Ready
+pub mod Given
