@@ -55,3 +55,12 @@ pub fn has(system: u8, c: usize) -> bool
     }
     c == member(system, 2)
 }
+
+// Room for chosen systems.
+const SYSTEMS: usize = 8;
+
+// The chosen systems' numbers, rising: so many, then 0 in the places left over.
+pub struct Choice {
+    pub count: usize,
+    pub systems: [u8; SYSTEMS],
+}
