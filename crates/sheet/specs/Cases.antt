@@ -195,10 +195,20 @@ module _ (n : ℕ) (s : List ℕ) where
 above : (c : ℕ) → 15 ≤ c → statusIn register c ≡ unknown
 above c h =
     rw (
-      ne-eqb c 1 (λ e. omega arith), ne-eqb c 2 (λ e. omega arith), ne-eqb c 3 (λ e. omega arith), ne-eqb c 4 (λ e. omega arith),
-      ne-eqb c 5 (λ e. omega arith), ne-eqb c 6 (λ e. omega arith), ne-eqb c 7 (λ e. omega arith), ne-eqb c 8 (λ e. omega arith),
-      ne-eqb c 9 (λ e. omega arith), ne-eqb c 10 (λ e. omega arith), ne-eqb c 11 (λ e. omega arith), ne-eqb c 12 (λ e. omega arith),
-      ne-eqb c 13 (λ e. omega arith), ne-eqb c 14 (λ e. omega arith)
+      ne-eqb c 1 (λ e. omega arith),
+      ne-eqb c 2 (λ e. omega arith),
+      ne-eqb c 3 (λ e. omega arith),
+      ne-eqb c 4 (λ e. omega arith),
+      ne-eqb c 5 (λ e. omega arith),
+      ne-eqb c 6 (λ e. omega arith),
+      ne-eqb c 7 (λ e. omega arith),
+      ne-eqb c 8 (λ e. omega arith),
+      ne-eqb c 9 (λ e. omega arith),
+      ne-eqb c 10 (λ e. omega arith),
+      ne-eqb c 11 (λ e. omega arith),
+      ne-eqb c 12 (λ e. omega arith),
+      ne-eqb c 13 (λ e. omega arith),
+      ne-eqb c 14 (λ e. omega arith),
     )
 
 pub status-above : (c : ℕ) → 14 ≤ c → refusalBy (statusOf c) ≡ 2

@@ -5,3 +5,6 @@ pub mod Sheet
 pub mod Read
 pub mod Write
 pub mod Cases
+pub mod Back
+pub mod Forth
+pub mod RoundTrip
