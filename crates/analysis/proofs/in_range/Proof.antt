@@ -1,7 +1,7 @@
 use mathlib.Core.Path.{_≡_, sym, ap, _∙_, refl}
 use Prim.Native.Nat.{ℕ, suc, _+_, _-_, _*_, _≤_, _<_}
 use native.Mathlib.Omega.{arith}
-use Rattle.analysis.proofs.Table.{absent, above, below}
+use Rattle.analysis.proofs.Tables.{absent, above, below}
 use borrow.Author.Needs.{needs}
 use Rattle.analysis.proofs.in_range.Statement.{statement}
 use Rattle.analysis.proofs.in_range.Tie as tie
