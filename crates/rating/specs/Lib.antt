@@ -1,1 +1,5 @@
 pub mod Records
+pub mod Rate
+pub mod Ready
+pub mod Answers
+pub mod Demand
