@@ -125,14 +125,17 @@ module _ (s : List ℕ) (r : Sheet) where
           go true q e = let z : _≡_ {A = ℕ} 0 1 = cc in absurd (never z)
           go false q e = (eqb-false _ _ q, cc, cc)
 
-      pub answer-amounts : (number code : ℕ) → AmountsRefused n s (checked.Refused number code) → r ≡ refusedSheet (Refused number 0 code) → ReadAs s r
-      answer-amounts number code a e =
+      refused-answer : (number code : ℕ) → AmountsRefused n s (checked.Refused number code) → r ≡ refusedSheet (Refused number 0 code) → ReadAs s r
+      refused-answer number code a e =
           let q = refused-number number code (a .answer) in
           let g = read-amounts s code n m first h d (q .0) in
           let k : refusedSheet (Refused number 0 code) ≡ readOf s code =
           ap (λ (x : ℕ). refusedSheet (Refused x 0 code)) (q .1) ∙ ap (λ (x : ℕ). refusedSheet (Refused (amountsRefusal n s) 0 x)) (q .2) ∙ sym g in
           subst (λ (x : Sheet). ReadAs s x) (sym e)
           (record { sheet = k; code = λ f. subst (λ (x : ℕ). FaultIn x s code) (sectioned s h .components) (a .code (sym (q .1) ∙ f)) })
+
+      pub answer-amounts : (number code : ℕ) (y : Checked) → AmountsRefused n s y → y ≡ checked.Refused number code → r ≡ refusedSheet (Refused number 0 code) → ReadAs s r
+      answer-amounts number code y a f e = refused-answer number code (subst (λ (x : Checked). AmountsRefused n s x) f a) e
 
       in-range-number : checked.InRange ≡ answerOf (amountsRefusal n s) 0 → amountsRefusal n s ≡ 0
       in-range-number e = go (eqb (amountsRefusal n s) 0) refl e
@@ -142,7 +145,7 @@ module _ (s : List ℕ) (r : Sheet) where
           go true q e = eqb-true _ _ q
           go false q e = let z : _≡_ {A = ℕ} 0 1 = cc in absurd (never z)
 
-      pub answer-good : AmountsRefused n s checked.InRange → r ≡ contentOf n m first s → ReadAs s r
-      answer-good a e =
-          let z = in-range-number (a .answer) in
+      pub answer-good : (y : Checked) → AmountsRefused n s y → y ≡ checked.InRange → r ≡ contentOf n m first s → ReadAs s r
+      answer-good y a f e =
+          let z = in-range-number (subst (λ (x : Checked). AmountsRefused n s x) f a .answer) in
           subst (λ (x : Sheet). ReadAs s x) (sym e) (record { sheet = sym (read-good s 0 n m first h d z); code = λ f. absurd (omega arith) })

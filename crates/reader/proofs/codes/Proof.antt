@@ -31,7 +31,7 @@ cast-t11 : tie.Need-cast-t11 Inv-loop μ-loop
 cast-t11 c = search needs
 
 returns : tie.Need-returns Inv-loop μ-loop
-returns c = 
+returns c =
     let a = c .before .before .before .before .before .before .args in
     let l = c .before .before .before .before .loop in
     let t = c .before .before .before .loop-test .taken in
@@ -49,7 +49,7 @@ loop-less : tie.Need-loop-less Inv-loop μ-loop
 loop-less c = search needs
 
 loop-again : tie.Need-loop-again Inv-loop μ-loop
-loop-again c = 
+loop-again c =
     let a = c .before .before .before .before .before .before .args in
     let l = c .before .before .before .before .loop in
     let t = c .before .before .before .loop-test .taken in
@@ -58,7 +58,7 @@ loop-again c =
     (search needs, search needs, sym go ∙ l .inv .2)
 
 returns-2 : tie.Need-returns-2 Inv-loop μ-loop
-returns-2 c = 
+returns-2 c =
     let a = c .before .before .before .args in
     let l = c .before .loop in
     sym (codes-end (a .n) (l .i) (a .s .now) (l .at) (l .p) (c .loop-test .left)) ∙ l .inv .2

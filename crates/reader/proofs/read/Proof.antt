@@ -2,15 +2,11 @@ use mathlib.Core.Path.{_≡_, sym, ap, _∙_, refl}
 use Prim.Native.Nat.{ℕ, suc, _+_, _-_, _*_, _≤_, _<_}
 use native.Mathlib.Omega.{arith}
 use lib.ListN.{length, getD}
-use Rattle.analysis.specs.declared.Checked.{Checked}
-use Rattle.sheet.specs.declared.Reading.{Reading}
 use Rattle.sheet.specs.declared.Reading.the-variants.{Read}
 use Rattle.sheet.specs.declared.Sections.the-variants.{Both}
 use Rattle.sheet.specs.Sheet.{sectionsOf}
 use Rattle.sheet.specs.Read.{refusedSheet}
 use Rattle.sheet.specs.Cases.{allowed-most, sectioned}
-use Rattle.reader.specs.Find.{AmountsRefused}
-use mathlib.Core.Path.{subst}
 use Rattle.reader.proofs.Answers.{answer-torn, answer-codes, answer-amounts, answer-good}
 use borrow.Author.Needs.{needs}
 use Rattle.reader.proofs.read.Statement.{statement}
@@ -24,7 +20,6 @@ use Rattle.reader.proofs.refused.Reads as refused-reads
 use Rattle.reader.proofs.sections.Reads as sections-reads
 use Rattle.reader.proofs.split_at.Reads as split-at-reads
 
--- the sheet has two sections
 both : (c : tie.After-known-told) → let g = c .before .parts .given .0 in sectionsOf (c .before .before .before .before .before .args .s .now) ≡ Both (g .0) (g .1 .0) (g .1 .1 .0)
 both c = sym (c .before .before .before .sections .ensures) ∙ c .before .parts .given .1
 
@@ -44,7 +39,7 @@ returns : tie.Need-returns
 returns c = answer-torn _ _ (sym (c .before .before .before .sections .ensures) ∙ c .before .enum-told .given .1) (c .refused .ensures)
 
 codes-requires : tie.Need-codes-requires
-codes-requires c κs = 
+codes-requires c κs =
     let g = sectioned _ (both (c)) in
     (g .few, omega (arith, g .size))
 
@@ -58,17 +53,17 @@ refused-requires-2 : tie.Need-refused-requires-2
 refused-requires-2 c κs = search needs
 
 returns-2 : tie.Need-returns-2
-returns-2 c = 
+returns-2 c =
     let t = c .before .enum-told3 .given .1 in
     answer-codes _ _ _ _ _ (both (c .before .before .before .before)) _ _ _ (sym (c .before .before .before .codes .ensures) ∙ t) (c .refused2 .ensures ∙ ap refusedSheet t)
 
 amounts-requires : tie.Need-amounts-requires
-amounts-requires c κs = 
+amounts-requires c κs =
     let g = sectioned _ (both (c .before .before .before)) in
     omega (arith, g .size)
 
 amounts-refused-requires : tie.Need-amounts-refused-requires
-amounts-refused-requires c κs = 
+amounts-refused-requires c κs =
     let g = sectioned _ (both (c .before .before .before .before)) in
     (omega (arith, g .size), c .amounts .ensures)
 
@@ -82,25 +77,23 @@ enum-told-4 : tie.Need-enum-told-4
 enum-told-4 c = search needs
 
 split-at-requires : tie.Need-split-at-requires
-split-at-requires c κs = 
+split-at-requires c κs =
     let g = sectioned _ (both (c .before .before .before .before .before .before .before)) in
     (allowed-most _ (g .allowed), omega (arith, g .size, g .begins))
 
 returns-3 : tie.Need-returns-3
-returns-3 c = 
+returns-3 c =
     let t = c .before .before .checked .given .1 in
     let d = sym (c .before .before .before .before .before .before .before .before .codes .ensures) ∙ c .before .before .before .before .before .before .enum-told2 .given .1 in
-    let a = subst (λ (x : Checked). AmountsRefused _ _ x) t (c .before .before .before .before .amounts-refused .ensures) in
-    answer-amounts _ _ _ _ _ (both (c .before .before .before .before .before .before .before .before .before)) d _ _ a (c .refused3 .ensures)
+    answer-amounts _ _ _ _ _ (both (c .before .before .before .before .before .before .before .before .before)) d _ _ _ (c .before .before .before .before .amounts-refused .ensures) t (c .refused3 .ensures)
 
 returns-4 : tie.Need-returns-4
-returns-4 c = 
+returns-4 c =
     let t = c .before .enum-told4 .given .1 in
     let d = sym (c .before .before .before .before .before .before .before .codes .ensures) ∙ c .before .before .before .before .before .enum-told2 .given .1 in
-    let a = subst (λ (x : Checked). AmountsRefused _ _ x) t (c .before .before .before .amounts-refused .ensures) in
     let f = c .before .before .before .before .amounts .ensures in
     let p = c .split-at .ensures in
-    answer-good _ _ _ _ _ (both (c .before .before .before .before .before .before .before .before)) d a (λ i. record { answer = Read; analysis = record { amounts = f i }; split = p i })
+    answer-good _ _ _ _ _ (both (c .before .before .before .before .before .before .before .before)) d _ (c .before .before .before .amounts-refused .ensures) t (λ i. record { answer = Read; analysis = record { amounts = f i }; split = p i })
 
 pub read-spec : {M : Type 1} → statement M
 read-spec =
