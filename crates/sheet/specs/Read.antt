@@ -65,18 +65,18 @@ abbrev pub codeOf : Reading → ℕ
 codeOf Read = 0
 codeOf (Refused number place code) = code
 
--- `code` stands in a record of the sheet with the amount 0
-pub record ListedAtZero (s : List ℕ) (code : ℕ) : Type 0 where
+-- `code` stands in one of `n` component records with the amount 0
+pub record ListedAtZero (n : ℕ) (s : List ℕ) (code : ℕ) : Type 0 where
   pub place : ℕ
-  pub listed : place < getD s 0 0
+  pub listed : place < n
   pub code-there : getD s (1 + 5 * place) 0 ≡ code
   pub amount-there : numberAt s (1 + 5 * place + 1) ≡ 0
 
--- a code at fault in a sheet: listed at 0, out of its range, or absent where it may not be
-abbrev pub FaultIn : List ℕ → ℕ → Type 0
-FaultIn s code = ListedAtZero s code ⊎ AtFault (amountsOf (getD s 0 0) s) code
+-- a code at fault in a sheet of `n` components: listed at 0, out of its range, or absent where it may not be
+abbrev pub FaultIn : ℕ → List ℕ → ℕ → Type 0
+FaultIn n s code = ListedAtZero n s code ⊎ AtFault (amountsOf n s) code
 
 -- the promise of the reader: the sheet is fixed but for the code of 5, and that is a code at fault
 pub record ReadAs (s : List ℕ) (r : Sheet) : Type 0 where
   pub sheet : r ≡ readOf s (codeOf (r .answer))
-  pub code : numberOf (r .answer) ≡ 5 → FaultIn s (codeOf (r .answer))
+  pub code : numberOf (r .answer) ≡ 5 → FaultIn (getD s 0 0) s (codeOf (r .answer))
