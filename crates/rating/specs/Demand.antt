@@ -11,7 +11,7 @@
 -- which these theorems speak. `code` is the code that refusal 5 carries: any code at fault.
 use mathlib.Core.Path.{_≡_, refl, sym, ap, ap₂, _∙_, subst}
 use mathlib.Core.Bool.{Bool, true, false}
-use mathlib.Core.Logic.{_↔_}
+use mathlib.Core.Logic.{_↔_, _⊎_}
 use mathlib.Core.List.{List}
 use Prim.Native.Nat.{ℕ, _+_, _*_, _≤_, _<_, min}
 use native.Mathlib.Omega.{arith}
@@ -21,7 +21,9 @@ use lib.ListN.{getD, length}
 use Rattle.integer.specs.Fraction.{Within}
 use Rattle.analysis.specs.Register.{ifElse}
 use Rattle.analysis.specs.Check.{refusalOf}
+use Rattle.sheet.specs.Read.{readOf}
 use Rattle.sheet.specs.declared.Split.{Split}
+use Rattle.sheet.specs.declared.Reading.the-variants.{Read}
 use Rattle.mixture.specs.Inert.{inertFirst}
 use Rattle.split.specs.Split.{cellsOf, numberAt}
 use Rattle.split.specs.Rating.{spreadOf, ratingOf, proposedOf}
@@ -33,9 +35,10 @@ use Rattle.split.specs.Accuracy.{rated-within}
 use Rattle.split.specs.declared.Answer.{Answer}
 use Rattle.split.specs.declared.Answer.the-variants.{Rated, Refused}
 use Rattle.rating.specs.Records.{systemsOf, codesOf}
-use Rattle.rating.specs.Rate.{LIMIT, mixOf, systemsFor, countFor, splitAnswer, searchOutcome}
+use Rattle.rating.specs.Rate.{LIMIT, mixOf, systemsFor, countFor, splitAnswer, searchOutcome, sheetOutcome}
 use Rattle.rating.specs.Ready.{chosen, million, inert-million}
 use Rattle.rating.specs.Answers.{split-fits, split-rated, found-back}
+use Rattle.rating.specs.Sheets.{RatedOr, accepted-ends, sheet-ends}
 
 -- amounts in the records of the chosen systems of an analysis
 abbrev pub proposal : List ℕ → List ℕ → Split
@@ -88,3 +91,12 @@ pub found-within : (a : List ℕ) → length a ≡ 14 → (allowance code : ℕ)
     → Within w (exactRating (systemsFor a) (countFor a) (cellsIn a (searchOutcome a allowance code .split)) (inertFirst a)) 40
 found-within a long allowance code w s r is =
     proposed-within a long (searchOutcome a allowance code .split) code w s 0 (put-back a long allowance code code w s r is)
+
+-- (4) every sheet that 1 to 6 accept and that has no split ends in a rating or in 11,
+pub accepted-sheet-ends : (s : List ℕ) (code : ℕ) → readOf s code .answer ≡ Read → readOf s code .split .count ≡ 0
+    → IsRated (sheetOutcome s code .answer) ⊎ (sheetOutcome s code .answer ≡ Refused 11 0)
+accepted-sheet-ends s code h e = accepted-ends s code h e
+
+--     and every sheet at all in a rating or in one of 1 to 11
+pub every-sheet-ends : (s : List ℕ) (code : ℕ) → RatedOr 1 11 (sheetOutcome s code .answer)
+every-sheet-ends s code = sheet-ends s code
