@@ -93,21 +93,21 @@ searchOutcome a allowance code =
 
 -- ---- a sheet: its refusal, else its split, else the search with the most rounds
 
--- the place of 2 to 4, the code of 5; both are 0 elsewhere
+-- a refusal carries the code at fault with 5, else the record's place
 abbrev pub readBy : Reading → List ℕ → Split → ℕ → Outcome
-readBy (reading.Refused number place code') a p code = outcome (Refused number (place + code')) noSplit
+readBy (reading.Refused number place code′) a p code = outcome (Refused number (ifElse (eqb number 5) code′ place)) noSplit
 readBy reading.Read a p code =
     ifElse (eqb (p .count) 0) (searchOutcome a ROUNDS code) (outcome (splitAnswer a p code) noSplit)
 
 unfoldable pub sheetOutcome : List ℕ → ℕ → Outcome
 sheetOutcome s code = readBy (readOf s code .answer) (readOf s code .analysis .amounts) (readOf s code .split) code
 
--- ---- what an answer carries
+-- ---- what an answer carries: a refusal's number, 0 of a rating; the code at fault of 5, else 0
 
 abbrev pub numberOf : Answer → ℕ
 numberOf (Rated rating spread rounds) = 0
 numberOf (Refused number place) = number
 
-abbrev pub placeOf : Answer → ℕ
-placeOf (Rated rating spread rounds) = 0
-placeOf (Refused number place) = place
+abbrev pub codeOf : Answer → ℕ
+codeOf (Rated rating spread rounds) = 0
+codeOf (Refused number place) = ifElse (eqb number 5) place 0
