@@ -8,3 +8,4 @@ pub mod Answer
 pub mod Whole
 pub mod Ready
 pub mod Given
+pub mod Marked
