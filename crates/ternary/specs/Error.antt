@@ -1,4 +1,4 @@
--- The working rule is less than one unit off for each division. Assumes nothing.
+-- The working rule is less than one unit from the exact value for each of its divisions, whatever the coefficients are. Assumes nothing.
 use mathlib.Core.Path.{_≡_, refl, sym, _∙_, ap, ap₂, subst}
 use mathlib.Core.List.{List, [], _∷_, map}
 use Prim.Native.Nat.{ℕ, zero, suc, _+_, _*_, _-_, _^_, _<_, _≤_}

@@ -2,8 +2,8 @@
 //
 // No public function has a `requires`.
 mod coefficients;
+mod ratio;
 mod rule;
-mod share;
 
 ghost use mathlib.Core.Path.{_≡_};
 ghost use Rattle.ternary.specs.Answer.{partialOf};
