@@ -21,3 +21,12 @@ pub record Precomputed (n d m scaled bias share : ℕ) : Type 0 where
 abbrev pub roundingOf : ℤ → ℕ → ℕ
 roundingOf (pos x) d = 0
 roundingOf (negsuc x) d = d - 1
+
+-- a dividend a * n + s that is divided by d with what is precomputed
+pub record Dividend (a s n d m scaled : ℕ) : Type 0 where
+  pub a-le : a ≤ 4200000000000
+  pub s-lt : s < d
+  pub n-le : n ≤ d
+  pub d-le : d ≤ 1000000
+  pub m-is : m ≡ 4398046511104 / d
+  pub scaled-is : scaled ≡ n * m / 1048576

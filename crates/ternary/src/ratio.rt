@@ -7,7 +7,7 @@ ghost use mathlib.Core.Path.{_≡_};
 ghost use Prim.Native.Nat.{_+_, _*_, _/_, _<_, _≤_};
 ghost use lib.IntN.{ℤ, pos, natAbs, _+ℤ_, _-ℤ_};
 ghost use Rattle.ternary.specs.WorkingRule.{stepZ};
-ghost use Rattle.ternary.specs.Precomputed.{Precomputed, roundingOf};
+ghost use Rattle.ternary.specs.Precomputed.{Precomputed, Dividend, roundingOf};
 
 // A ratio n / d, at most 1, and what its steps use: 2^42 / d and 2^22 * n / d, rounded down, a multiple of d that no
 // accumulator exceeds, and n / d of that.
@@ -73,7 +73,7 @@ fn rounding(acc: i64, d: u64) -> u64
 
 // (a * n + s) / d: an estimate from below by 2^22 * n / d, one of the rest by the reciprocal m, and one correction.
 fn quotient(a: u64, s: u64, n: u64, d: u64, m: u64, scaled: u64) -> u64
-    requires { ⌜ (a ≤ 4200000000000) × (s < d) × (n ≤ d) × (d ≤ 1000000) × (m ≡ 4398046511104 / d) × (scaled ≡ n * m / 1048576) ⌝ }
+    requires { ⌜ Dividend a s n d m scaled ⌝ }
     ensures { λ r. ⌜ r ≡ (a * n + s) / d ⌝ }
 {
     let z = a * scaled / 4194304;
