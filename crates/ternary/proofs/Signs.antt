@@ -1,31 +1,22 @@
 -- The signed side of a step: biased by a multiple of d, divided as a natural number, and put back. Assumes nothing.
 use mathlib.Core.Path.{_≡_, refl, sym, ap, ap₂, _∙_, subst, subst⁻¹}
-use mathlib.Core.Bool.{Bool, true, false, not, cond}
-use mathlib.Core.List.{List, [], _∷_}
+use mathlib.Core.Bool.{true, false}
+use mathlib.Core.List.{[], _∷_}
 use Prim.Native.Nat.{ℕ, zero, suc, _+_, _-_, _*_, _/_, _%_, _^_, _≤_, _<_}
 use native.Mathlib.Nat as N
 use native.Mathlib.Omega.{arith}
-use lib.Dec.{T, lit<, ltb, ltb→lt, nltb→le}
-use lib.IntN.{ℤ, pos, negsuc, negℤ, natAbs, subℕ, _+ℤ_, _-ℤ_, _*ℤ_}
+use lib.Dec.{T, lit<, ltb→lt}
+use lib.IntN.{ℤ, pos, negsuc, negℤ, natAbs, _+ℤ_, _-ℤ_, _*ℤ_}
 use lib.Signed.{quotZ, ltZ, nonNeg, mag}
 use mir.Syntax.{w64}
 use mir.Val.{Fits, SFits, toZ, ofZ}
 use mir.ValLaws.{toZ-ofZ, toZ-pos}
 use Rattle.integer.specs.Ring.{mag-le, natAbs-+, natAbs--}
+use Rattle.integer.specs.Order.{sub-ge}
 use Rattle.integer.specs.Normal.{E, X, _⊕_, ⊖, solve, env}
 use Rattle.ternary.specs.WorkingRule.{stepZ}
-use Rattle.ternary.specs.Precomputed.{Precomputed, roundingOf}
+use Rattle.ternary.specs.Precomputed.{roundingOf}
 use Rattle.ternary.proofs.Estimate.{quotient-is}
-
-at-cond {ℓ} : {A : Type ℓ} (c : Bool) (x y : A) (Q : A → Type 0) → (T c → Q x) → (T (not c) → Q y) → Q (cond c x y)
-at-cond true x y Q f g = f tt
-at-cond false x y Q f g = g tt
-
-sub-is : (a b : ℕ) → b ≤ a → subℕ a b ≡ pos (a - b)
-sub-is a b h = at-cond (ltb a b) (negsuc (b - suc a)) (pos (a - b)) (λ (z : ℤ). z ≡ pos (a - b)) (λ t. absurd (no (ltb→lt a b t))) (λ t. refl)
-  where
-    no : a < b → ⊥
-    no g = omega arith
 
 -- ---- biased
 
@@ -36,7 +27,7 @@ up (negsuc x) l = l - suc x
 bias-is : (acc : ℤ) (l : ℕ) → natAbs acc ≤ l → acc +ℤ pos l ≡ pos (up acc l)
 unfolding up
 bias-is (pos x) l h = refl
-bias-is (negsuc x) l h = sub-is l (suc x) h
+bias-is (negsuc x) l h = sub-ge l (suc x) h
 
 up-le : (acc : ℤ) (l : ℕ) → up acc l ≤ natAbs acc + l
 unfolding up
@@ -122,7 +113,7 @@ quot-neg (suc y) d = refl
 
 neg-sum : (q t : ℕ) → q ≤ t → negℤ (pos q) +ℤ pos t ≡ pos (t - q)
 neg-sum zero t h = ap pos (omega arith)
-neg-sum (suc q) t h = sub-is t (suc q) h
+neg-sum (suc q) t h = sub-ge t (suc q) h
 
 module _ (n d k x a : ℕ) (d>0 : 0 < d) where
   above : a ≡ x + k * d → x * n / d + k * n ≡ (a * n + 0) / d
