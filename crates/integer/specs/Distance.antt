@@ -3,9 +3,9 @@ use mathlib.Core.Path.{_≡_, refl, sym, _∙_, ap, ap₂, subst}
 use Prim.Native.Nat.{ℕ, zero, suc, _+_, _*_, _-_, _<_, _≤_}
 use native.Mathlib.Nat as N
 use native.Mathlib.Omega.{arith}
-use lib.IntN.{ℤ, pos, negsuc, negℤ, natAbs, _+ℤ_, _-ℤ_, _*ℤ_, +ℤ-invr, +ℤ-negℤ-cancel, *ℤ-one, one}
+use lib.IntN.{ℤ, pos, negsuc, negℤ, natAbs, _+ℤ_, _-ℤ_, _*ℤ_, +ℤ-invr, *ℤ-one, one}
 use lib.Signed.{quotZ, remZ}
-use Rattle.integer.specs.Ring.{ring, natAbs-*, natAbs-+, natAbs--, quot-rem, rem-lt}
+use Rattle.integer.specs.Ring.{ring, natAbs-*, natAbs-+, natAbs--, quot-is, rem-lt}
 use Rattle.integer.specs.Fraction.{Fraction, whole, plus, times, over, Within, Close}
 
 pub close : {w : ℤ} {f : Fraction} {u : ℕ} → Within w f u → Close w f u
@@ -84,11 +84,6 @@ within-times {w} {f} {u} p p>0 h = record {
 }
 
 -- ---- one division, the fraction dropped: less than one unit more
-
-quot-is : (z : ℤ) (d : ℕ) → quotZ z (pos d) *ℤ pos d ≡ z -ℤ remZ z (pos d)
-quot-is z d =
-    sym (+ℤ-negℤ-cancel (quotZ z (pos d) *ℤ pos d) (remZ z (pos d)))
-    ∙ ap (λ (v : ℤ). v -ℤ remZ z (pos d)) (sym (quot-rem z d))
 
 split : (w q d r e K : ℤ) → q *ℤ d ≡ w -ℤ r → q *ℤ (K *ℤ d) -ℤ e ≡ (w *ℤ K -ℤ e) -ℤ r *ℤ K
 split w q d r e K h = first ∙ ap (λ (v : ℤ). v *ℤ K -ℤ e) h ∙ last

@@ -1,11 +1,11 @@
-pub mod Back
-pub mod Ends
+pub mod Bits
+pub mod Combine
 pub mod Estimate
-pub mod Join
-pub mod Rounding
+pub mod Ratios
 pub mod Rows
 pub mod Signs
 pub mod Steps
 pub mod Systems
 pub mod Tables
+pub mod WholeNumbers
 pub mod Zeros

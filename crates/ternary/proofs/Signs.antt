@@ -1,42 +1,33 @@
--- The signed side of a step: lifted by a multiple of d, divided as a natural number, and put back. Assumes nothing.
+-- The signed side of a step: biased by a multiple of d, divided as a natural number, and put back. Assumes nothing.
 use mathlib.Core.Path.{_≡_, refl, sym, ap, ap₂, _∙_, subst, subst⁻¹}
-use mathlib.Core.Bool.{Bool, true, false, not, cond}
-use mathlib.Core.List.{List, [], _∷_}
+use mathlib.Core.Bool.{true, false}
+use mathlib.Core.List.{[], _∷_}
 use Prim.Native.Nat.{ℕ, zero, suc, _+_, _-_, _*_, _/_, _%_, _^_, _≤_, _<_}
 use native.Mathlib.Nat as N
 use native.Mathlib.Omega.{arith}
-use lib.Dec.{T, lit<, ltb, ltb→lt, nltb→le}
-use lib.IntN.{ℤ, pos, negsuc, negℤ, natAbs, subℕ, _+ℤ_, _-ℤ_, _*ℤ_}
+use lib.Dec.{T, lit<, ltb→lt}
+use lib.IntN.{ℤ, pos, negsuc, negℤ, natAbs, _+ℤ_, _-ℤ_, _*ℤ_}
 use lib.Signed.{quotZ, ltZ, nonNeg, mag}
 use mir.Syntax.{w64}
 use mir.Val.{Fits, SFits, toZ, ofZ}
 use mir.ValLaws.{toZ-ofZ, toZ-pos}
 use Rattle.integer.specs.Ring.{mag-le, natAbs-+, natAbs--}
+use Rattle.integer.specs.Order.{sub-ge}
 use Rattle.integer.specs.Normal.{E, X, _⊕_, ⊖, solve, env}
 use Rattle.ternary.specs.WorkingRule.{stepZ}
-use Rattle.ternary.specs.Ready.{Ready, fillOf}
+use Rattle.ternary.specs.Precomputed.{roundingOf}
 use Rattle.ternary.proofs.Estimate.{quotient-is}
 
-at-cond {ℓ} : {A : Type ℓ} (c : Bool) (x y : A) (Q : A → Type 0) → (T c → Q x) → (T (not c) → Q y) → Q (cond c x y)
-at-cond true x y Q f g = f tt
-at-cond false x y Q f g = g tt
-
-sub-is : (a b : ℕ) → b ≤ a → subℕ a b ≡ pos (a - b)
-sub-is a b h = at-cond (ltb a b) (negsuc (b - suc a)) (pos (a - b)) (λ (z : ℤ). z ≡ pos (a - b)) (λ t. absurd (no (ltb→lt a b t))) (λ t. refl)
-  where
-    no : a < b → ⊥
-    no g = omega arith
-
--- ---- lifted
+-- ---- biased
 
 up : ℤ → ℕ → ℕ
 up (pos x) l = x + l
 up (negsuc x) l = l - suc x
 
-lift-is : (acc : ℤ) (l : ℕ) → natAbs acc ≤ l → acc +ℤ pos l ≡ pos (up acc l)
+bias-is : (acc : ℤ) (l : ℕ) → natAbs acc ≤ l → acc +ℤ pos l ≡ pos (up acc l)
 unfolding up
-lift-is (pos x) l h = refl
-lift-is (negsuc x) l h = sub-is l (suc x) h
+bias-is (pos x) l h = refl
+bias-is (negsuc x) l h = sub-ge l (suc x) h
 
 up-le : (acc : ℤ) (l : ℕ) → up acc l ≤ natAbs acc + l
 unfolding up
@@ -51,7 +42,7 @@ as-pos m h = toZ-pos w64 m (N.lt-of-le-of-lt h (lit< tt))
 
 module _ (acc : ℤ) (l : ℕ) (fa : SFits w64 acc) (h : natAbs acc ≤ l) (l≤ : l ≤ 2200000000000) where
   sum-is : toZ w64 (ofZ w64 acc) +ℤ toZ w64 l ≡ pos (up acc l)
-  sum-is = ap₂ _+ℤ_ (toZ-ofZ w64 acc fa) (as-pos l (N.le-trans l≤ (N.le-of-lt (lit< tt)))) ∙ lift-is acc l h
+  sum-is = ap₂ _+ℤ_ (toZ-ofZ w64 acc fa) (as-pos l (N.le-trans l≤ (N.le-of-lt (lit< tt)))) ∙ bias-is acc l h
 
   up-small : up acc l ≤ 4400000000000
   up-small = omega (arith, up-le acc l)
@@ -59,35 +50,35 @@ module _ (acc : ℤ) (l : ℕ) (fa : SFits w64 acc) (h : natAbs acc ≤ l) (l≤
   pos-fits : SFits w64 (pos (up acc l))
   pos-fits = sfits-small (pos (up acc l)) (N.le-trans up-small (N.le-of-lt (lit< tt)))
 
-  pub lift-add : SFits w64 (toZ w64 (ofZ w64 acc) +ℤ toZ w64 l)
-  lift-add = subst⁻¹ (SFits w64) sum-is pos-fits
+  pub bias-add : SFits w64 (toZ w64 (ofZ w64 acc) +ℤ toZ w64 l)
+  bias-add = subst⁻¹ (SFits w64) sum-is pos-fits
 
   back : toZ w64 (ofZ w64 (toZ w64 (ofZ w64 acc) +ℤ toZ w64 l)) ≡ pos (up acc l)
   back = ap (λ (v : ℤ). toZ w64 (ofZ w64 v)) sum-is ∙ toZ-ofZ w64 (pos (up acc l)) pos-fits
 
-  pub lift-cast : T (nonNeg (toZ w64 (ofZ w64 (toZ w64 (ofZ w64 acc) +ℤ toZ w64 l)))) × Fits w64 (natAbs (toZ w64 (ofZ w64 (toZ w64 (ofZ w64 acc) +ℤ toZ w64 l))))
-  lift-cast = (subst⁻¹ (λ (v : ℤ). T (nonNeg v)) back tt, subst⁻¹ (λ (v : ℤ). Fits w64 (natAbs v)) back (record { fits = N.lt-of-le-of-lt up-small (lit< tt) }))
+  pub bias-cast : T (nonNeg (toZ w64 (ofZ w64 (toZ w64 (ofZ w64 acc) +ℤ toZ w64 l)))) × Fits w64 (natAbs (toZ w64 (ofZ w64 (toZ w64 (ofZ w64 acc) +ℤ toZ w64 l))))
+  bias-cast = (subst⁻¹ (λ (v : ℤ). T (nonNeg v)) back tt, subst⁻¹ (λ (v : ℤ). Fits w64 (natAbs v)) back (record { fits = N.lt-of-le-of-lt up-small (lit< tt) }))
 
-  pub lift-result : pos (natAbs (toZ w64 (ofZ w64 (toZ w64 (ofZ w64 acc) +ℤ toZ w64 l)))) ≡ acc +ℤ pos l
-  lift-result = ap (λ (v : ℤ). pos (natAbs v)) back ∙ sym (lift-is acc l h)
+  pub bias-result : pos (natAbs (toZ w64 (ofZ w64 (toZ w64 (ofZ w64 acc) +ℤ toZ w64 l)))) ≡ acc +ℤ pos l
+  bias-result = ap (λ (v : ℤ). pos (natAbs v)) back ∙ sym (bias-is acc l h)
 
--- ---- fill
+-- ---- rounding
 
-neg-fill : (z : ℤ) (d : ℕ) → ltZ z (pos 0) ≡ true → d - 1 ≡ fillOf z d
-neg-fill (pos x) d e = absurd (N.not-suc-le-zero (ltb→lt x 0 (subst⁻¹ T e tt)))
-neg-fill (negsuc x) d e = refl
+neg-rounding : (z : ℤ) (d : ℕ) → ltZ z (pos 0) ≡ true → d - 1 ≡ roundingOf z d
+neg-rounding (pos x) d e = absurd (N.not-suc-le-zero (ltb→lt x 0 (subst⁻¹ T e tt)))
+neg-rounding (negsuc x) d e = refl
 
-pos-fill : (z : ℤ) (d : ℕ) → ltZ z (pos 0) ≡ false → 0 ≡ fillOf z d
-pos-fill (pos x) d e = refl
-pos-fill (negsuc x) d e = absurd (subst T e tt)
+pos-rounding : (z : ℤ) (d : ℕ) → ltZ z (pos 0) ≡ false → 0 ≡ roundingOf z d
+pos-rounding (pos x) d e = refl
+pos-rounding (negsuc x) d e = absurd (subst T e tt)
 
-pub fill-neg : (z : ℤ) (d : ℕ) → SFits w64 z → ltZ (toZ w64 (ofZ w64 z)) (pos 0) ≡ true → d - 1 ≡ fillOf z d
-fill-neg z d f e = neg-fill z d (subst (λ (v : ℤ). ltZ v (pos 0) ≡ true) (toZ-ofZ w64 z f) e)
+pub rounding-neg : (z : ℤ) (d : ℕ) → SFits w64 z → ltZ (toZ w64 (ofZ w64 z)) (pos 0) ≡ true → d - 1 ≡ roundingOf z d
+rounding-neg z d f e = neg-rounding z d (subst (λ (v : ℤ). ltZ v (pos 0) ≡ true) (toZ-ofZ w64 z f) e)
 
-pub fill-pos : (z : ℤ) (d : ℕ) → SFits w64 z → ltZ (toZ w64 (ofZ w64 z)) (pos 0) ≡ false → 0 ≡ fillOf z d
-fill-pos z d f e = pos-fill z d (subst (λ (v : ℤ). ltZ v (pos 0) ≡ false) (toZ-ofZ w64 z f) e)
+pub rounding-pos : (z : ℤ) (d : ℕ) → SFits w64 z → ltZ (toZ w64 (ofZ w64 z)) (pos 0) ≡ false → 0 ≡ roundingOf z d
+rounding-pos z d f e = pos-rounding z d (subst (λ (v : ℤ). ltZ v (pos 0) ≡ false) (toZ-ofZ w64 z f) e)
 
--- ---- settled
+-- ---- unbiased
 
 module _ (q l : ℕ) (c : ℤ) (fc : SFits w64 c) (q≤ : q ≤ 4200000000001) (l≤ : l ≤ 2200000000000) (c≤ : natAbs c ≤ 2000000000000) where
   diff-is : toZ w64 (ofZ w64 c) -ℤ toZ w64 l ≡ c -ℤ pos l
@@ -105,14 +96,14 @@ module _ (q l : ℕ) (c : ℤ) (fc : SFits w64 c) (q≤ : q ≤ 4200000000001) (
   end-fits : SFits w64 ((c -ℤ pos l) +ℤ pos q)
   end-fits = sfits-small ((c -ℤ pos l) +ℤ pos q) (omega (arith, natAbs-+ (c -ℤ pos l) (pos q), diff-le))
 
-  pub settle-sub : SFits w64 (toZ w64 (ofZ w64 c) -ℤ toZ w64 l)
-  settle-sub = subst⁻¹ (SFits w64) diff-is diff-fits
+  pub unbias-sub : SFits w64 (toZ w64 (ofZ w64 c) -ℤ toZ w64 l)
+  unbias-sub = subst⁻¹ (SFits w64) diff-is diff-fits
 
-  pub settle-add : SFits w64 (toZ w64 (ofZ w64 (toZ w64 (ofZ w64 c) -ℤ toZ w64 l)) +ℤ toZ w64 q)
-  settle-add = subst⁻¹ (SFits w64) end-is end-fits
+  pub unbias-add : SFits w64 (toZ w64 (ofZ w64 (toZ w64 (ofZ w64 c) -ℤ toZ w64 l)) +ℤ toZ w64 q)
+  unbias-add = subst⁻¹ (SFits w64) end-is end-fits
 
-  pub settle-result : toZ w64 (ofZ w64 (toZ w64 (ofZ w64 (toZ w64 (ofZ w64 c) -ℤ toZ w64 l)) +ℤ toZ w64 q)) ≡ (c -ℤ pos l) +ℤ pos q
-  settle-result = ap (λ (v : ℤ). toZ w64 (ofZ w64 v)) end-is ∙ toZ-ofZ w64 ((c -ℤ pos l) +ℤ pos q) end-fits
+  pub unbias-result : toZ w64 (ofZ w64 (toZ w64 (ofZ w64 (toZ w64 (ofZ w64 c) -ℤ toZ w64 l)) +ℤ toZ w64 q)) ≡ (c -ℤ pos l) +ℤ pos q
+  unbias-result = ap (λ (v : ℤ). toZ w64 (ofZ w64 v)) end-is ∙ toZ-ofZ w64 ((c -ℤ pos l) +ℤ pos q) end-fits
 
 -- ---- the step
 
@@ -122,7 +113,7 @@ quot-neg (suc y) d = refl
 
 neg-sum : (q t : ℕ) → q ≤ t → negℤ (pos q) +ℤ pos t ≡ pos (t - q)
 neg-sum zero t h = ap pos (omega arith)
-neg-sum (suc q) t h = sub-is t (suc q) h
+neg-sum (suc q) t h = sub-ge t (suc q) h
 
 module _ (n d k x a : ℕ) (d>0 : 0 < d) where
   above : a ≡ x + k * d → x * n / d + k * n ≡ (a * n + 0) / d
@@ -150,7 +141,7 @@ module _ (n d k x a : ℕ) (d>0 : 0 < d) where
         shape : a * n + (d - 1) ≡ (k * n - x * n / d) * d + (d - 1 - x * n % d)
         shape = omega (arith, total, split, N.div-add-mod' (x * n) d, N.mod-lt (x * n) d>0)
 
-share-is : (acc : ℤ) (n d k a : ℕ) → 0 < d → natAbs acc ≤ k * d → a ≡ up acc (k * d) → quotZ (acc *ℤ pos n) (pos d) +ℤ pos (k * n) ≡ pos ((a * n + fillOf acc d) / d)
+share-is : (acc : ℤ) (n d k a : ℕ) → 0 < d → natAbs acc ≤ k * d → a ≡ up acc (k * d) → quotZ (acc *ℤ pos n) (pos d) +ℤ pos (k * n) ≡ pos ((a * n + roundingOf acc d) / d)
 unfolding up
 share-is (pos x) n d k a d>0 h e = ap pos (above n d k x a d>0 e)
 share-is (negsuc x) n d k a d>0 h e =
@@ -161,9 +152,9 @@ share-is (negsuc x) n d k a d>0 h e =
 put-back : (c l t : ℤ) → (c -ℤ l) +ℤ (t +ℤ l) ≡ t +ℤ c
 put-back c l t = solve (env (c ∷ l ∷ t ∷ [])) ((X 0 ⊕ ⊖ (X 1)) ⊕ (X 2 ⊕ X 1)) (X 2 ⊕ X 0) refl
 
-pub step-is : (acc c : ℤ) (n d k a : ℕ) → 0 < d → natAbs acc ≤ k * d → pos a ≡ acc +ℤ pos (k * d) → (c -ℤ pos (k * n)) +ℤ pos ((a * n + fillOf acc d) / d) ≡ stepZ acc n d c
+pub step-is : (acc c : ℤ) (n d k a : ℕ) → 0 < d → natAbs acc ≤ k * d → pos a ≡ acc +ℤ pos (k * d) → (c -ℤ pos (k * n)) +ℤ pos ((a * n + roundingOf acc d) / d) ≡ stepZ acc n d c
 step-is acc c n d k a d>0 h e =
-    ap (λ (v : ℤ). (c -ℤ pos (k * n)) +ℤ v) (sym (share-is acc n d k a d>0 h (ap natAbs (e ∙ lift-is acc (k * d) h))))
+    ap (λ (v : ℤ). (c -ℤ pos (k * n)) +ℤ v) (sym (share-is acc n d k a d>0 h (ap natAbs (e ∙ bias-is acc (k * d) h))))
     ∙ put-back c (pos (k * n)) (quotZ (acc *ℤ pos n) (pos d))
 
 -- a call's result, and a parameter passed on, read back from the bits

@@ -8,17 +8,17 @@ use lib.IntN.{ℤ}
 use Rattle.ternary.specs.WorkingRule.{worked, rowsOf}
 use Rattle.ternary.specs.Coefficients.{systems, placeIn}
 use Rattle.ternary.specs.Bound.{small}
-use Rattle.ternary.specs.Given.{given, Small}
+use Rattle.ternary.specs.Table.{inTable, Bounded}
 use Rattle.ternary.specs.Partial.{partialNumber}
 use Rattle.ternary.specs.Answer.{tableOf}
 
-pub small-table : (s : ℕ) (t : List ℤ) → t ≡ tableOf s → Small t
+pub small-table : (s : ℕ) (t : List ℤ) → t ≡ tableOf s → Bounded t
 unfolding tableOf
-small-table s t e = subst⁻¹ Small e (record { sum = small (placeIn systems s) })
+small-table s t e = subst⁻¹ Bounded e (record { sum = small (placeIn systems s) })
 
-pub number-is : (s n1 n2 n3 : ℕ) (t : List ℤ) → t ≡ tableOf s → worked n1 n2 (n1 + n2 + n3) (rowsOf (given t)) ≡ partialNumber s n1 n2 n3
+pub number-is : (s n1 n2 n3 : ℕ) (t : List ℤ) → t ≡ tableOf s → worked n1 n2 (n1 + n2 + n3) (rowsOf (inTable t)) ≡ partialNumber s n1 n2 n3
 unfolding tableOf partialNumber
-number-is s n1 n2 n3 t e = ap (λ (x : List ℤ). worked n1 n2 (n1 + n2 + n3) (rowsOf (given x))) e
+number-is s n1 n2 n3 t e = ap (λ (x : List ℤ). worked n1 n2 (n1 + n2 + n3) (rowsOf (inTable x))) e
 
 -- what a negated test says
 pub not-yes : (b x : Bool) → b ≡ x → not b ≡ true → x ≡ false

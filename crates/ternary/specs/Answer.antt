@@ -1,4 +1,4 @@
--- The answer of a partial number, by cases: 13 before 12, else the number as worked out. Assumes nothing.
+-- The answer to a partial number by cases (document 01, "What is turned away"): 13 before 12, else the number as worked out. Assumes nothing.
 use mathlib.Core.Path.{_≡_, refl, subst, subst⁻¹}
 use mathlib.Core.Bool.{Bool, true, false}
 use mathlib.Core.List.{List, [], _∷_}

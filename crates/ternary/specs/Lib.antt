@@ -6,5 +6,6 @@ pub mod Bound
 pub mod Partial
 pub mod Answer
 pub mod Whole
-pub mod Ready
-pub mod Given
+pub mod Precomputed
+pub mod Table
+pub mod Marked

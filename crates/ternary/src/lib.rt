@@ -1,9 +1,10 @@
 // Partial numbers of the ternary systems (000 A.3.4), and the whole number of a rating.
 //
+// A part is 0.0001 % by volume, a unit 0.0000001 of a methane number: document 01's own terms.
 // No public function has a `requires`.
 mod coefficients;
+mod ratio;
 mod rule;
-mod share;
 
 ghost use mathlib.Core.Path.{_≡_};
 ghost use Rattle.ternary.specs.Answer.{partialOf};
@@ -34,7 +35,8 @@ pub fn partial_number(system: u32, n1: u32, n2: u32, n3: u32) -> Partial
     Partial::Number(rule::number(&t, n1 as u64, n2 as u64, d))
 }
 
-// The whole number of a rating in units: (rating + 5000000) / 10000000 rounded down.
+// The whole number of a rating in units: (rating + 5000000) / 10000000 rounded down, by a quotient towards zero and its
+// remainder, so that no sum leaves its 64 bits.
 pub fn whole_number(rating: i64) -> i64
     ensures { λ r. ⌜ r ≡ wholeNumber rating ⌝ }
 {

@@ -6,7 +6,7 @@ use native.Mathlib.Omega.{arith}
 use borrow.Author.Tests.{ltb-true, ltb-false}
 use Rattle.ternary.specs.declared.Partial.the-variants.{Number}
 use Rattle.ternary.specs.Answer.{isSystem, mixture-zero, mixture-above, partial-is, partial-12, partial-13}
-use Rattle.ternary.proofs.Back.{read-back}
+use Rattle.ternary.proofs.Bits.{read-back}
 use Rattle.ternary.proofs.Tables.{small-table, number-is, not-yes, not-no}
 use borrow.Author.Needs.{needs}
 use Rattle.ternary.proofs.partial_number.Statement.{statement}

@@ -1,6 +1,6 @@
 -- `ternary::whole_number` meets its contract. Assumes nothing.
 use lib.Dec.{lit<}
-use Rattle.ternary.proofs.Rounding.{div-ok, sub-ok, add-ok, low-is, mid-is, high-is}
+use Rattle.ternary.proofs.WholeNumbers.{div-ok, sub-ok, add-ok, low-is, mid-is, high-is}
 use Rattle.ternary.proofs.whole_number.Statement.{statement}
 use Rattle.ternary.proofs.whole_number.Tie as tie
 

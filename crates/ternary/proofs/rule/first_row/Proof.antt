@@ -1,7 +1,7 @@
 -- `ternary::rule::first_row` meets its contract. Assumes nothing.
 use mathlib.Core.Path.{_∙_}
-use Rattle.ternary.specs.Given.{given}
-use Rattle.ternary.proofs.Back.{read-back, zero-back}
+use Rattle.ternary.specs.Table.{inTable}
+use Rattle.ternary.proofs.Bits.{read-back, zero-back}
 use Rattle.ternary.proofs.Zeros.{five-of-seven}
 use borrow.Author.Needs.{needs}
 use Rattle.ternary.proofs.rule.first_row.Statement.{statement}
@@ -19,7 +19,7 @@ row-requires c κs = search needs
 returns : tie.Need-returns
 returns c =
     let start = c .before .before .before .before .before in
-    let a = given (start .args .t .now) in
+    let a = inTable (start .args .t .now) in
     let c6 = c .before .before .before .before .coefficient in
     let c5 = c .before .before .coefficient2 in
     read-back (c .row .result) (c .row .ok) ∙ c .row .ensures

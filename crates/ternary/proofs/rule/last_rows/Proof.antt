@@ -1,7 +1,7 @@
 -- `ternary::rule::last_rows` meets its contract. Assumes nothing.
 use mathlib.Core.Path.{_∙_}
-use Rattle.ternary.specs.Given.{given}
-use Rattle.ternary.proofs.Back.{read-back, zero-back}
+use Rattle.ternary.specs.Table.{inTable}
+use Rattle.ternary.proofs.Bits.{read-back, zero-back}
 use Rattle.ternary.proofs.Zeros.{three-of-four, one-of-four}
 use borrow.Author.Needs.{needs}
 use Rattle.ternary.proofs.rule.last_rows.Statement.{statement}
@@ -22,7 +22,7 @@ coefficient-requires-4 c κs = search needs
 returns : tie.Need-returns
 returns c =
     let start = c .before .before .before .before .before .before .before in
-    let a = given (start .args .t .now) in
+    let a = inTable (start .args .t .now) in
     let c19 = c .before .before .before .before .before .before .coefficient in
     let c18 = c .before .before .before .before .coefficient2 in
     let c17 = c .before .before .coefficient3 in
@@ -38,7 +38,7 @@ row-requires c κs = search needs
 returns-2 : tie.Need-returns-2
 returns-2 c =
     let start = c .before .before .before .before .before in
-    let a = given (start .args .t .now) in
+    let a = inTable (start .args .t .now) in
     let c19 = c .before .before .before .before .coefficient in
     read-back (c .row .result) (c .row .ok) ∙ c .row .ensures
     ∙ three-of-four a (start .args .v .n) (start .args .v .d)

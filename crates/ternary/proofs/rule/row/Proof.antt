@@ -7,14 +7,14 @@ use mir.Syntax.{w64}
 use mir.Val.{toZ, ofZ}
 use borrow.Author.Needs.{needs}
 use Rattle.ternary.specs.WorkingRule.{stepZ, horner, coefs}
-use Rattle.ternary.specs.Given.{given}
-use Rattle.ternary.proofs.Back.{read-back}
+use Rattle.ternary.specs.Table.{inTable}
+use Rattle.ternary.proofs.Bits.{read-back}
 use Rattle.ternary.proofs.Rows.{row-last, row-more, row-room}
 use Rattle.ternary.proofs.rule.row.Statement.{statement}
 use Rattle.ternary.proofs.rule.row.Tie as tie
 
 abbrev Inv-loop : tie.InvT-loop
-Inv-loop t at count w i₀ acc₀ i acc = (at ≤ i) × (i < at + count) × (toZ w64 acc ≡ horner (w .n) (w .d) (coefs (given t) i (at + count - i)))
+Inv-loop t at count w i₀ acc₀ i acc = (at ≤ i) × (i < at + count) × (toZ w64 acc ≡ horner (w .n) (w .d) (coefs (inTable t) i (at + count - i)))
 
 abbrev μ-loop : tie.MeasureT-loop
 μ-loop t at count w i₀ acc₀ i acc = i - at
@@ -35,7 +35,7 @@ loop-holds c =
       omega arith,
       omega arith,
       read-back (c .coefficient .result) (c .coefficient .ok) ∙ c .coefficient .ensures
-          ∙ row-last (given (a .t .now)) (a .w .n) (a .w .d) (a .at + a .count - 1) (a .at + a .count) last,
+          ∙ row-last (inTable (a .t .now)) (a .w .n) (a .w .d) (a .at + a .count - 1) (a .at + a .count) last,
     )
 
 sub-i-2 : tie.Need-sub-i-2 Inv-loop μ-loop
@@ -52,7 +52,7 @@ step-requires c κs =
     let there : 0 < i = omega arith in
     let inside : i < a .at + a .count = omega arith in (
       rw (c .before .before .loop .inv .2, read-back (c .coefficient2 .result) (c .coefficient2 .ok), c .coefficient2 .ensures)
-          (row-room (given (a .t .now)) (a .w .n) (a .w .d) i (a .at + a .count) there inside 20 (a0 .pre .3 .n-le) (omega arith) (a0 .pre .0 .sum)),
+          (row-room (inTable (a .t .now)) (a .w .n) (a .w .d) i (a .at + a .count) there inside 20 (a0 .pre .3 .n-le) (omega arith) (a0 .pre .0 .sum)),
       a0 .pre .3,
     )
 
@@ -69,7 +69,7 @@ loop-again c =
       omega arith,
       read-back (c .step .result) (c .step .ok) ∙ c .step .ensures
           ∙ ap₂ (λ (x y : ℤ). stepZ x (a .w .n) (a .w .d) y) (c .before .before .before .loop .inv .2) (read-back (c .before .coefficient2 .result) (c .before .coefficient2 .ok) ∙ c .before .coefficient2 .ensures)
-          ∙ row-more (given (a .t .now)) (a .w .n) (a .w .d) i (a .at + a .count) there inside,
+          ∙ row-more (inTable (a .t .now)) (a .w .n) (a .w .d) i (a .at + a .count) there inside,
     )
 
 returns : tie.Need-returns Inv-loop μ-loop
@@ -78,7 +78,7 @@ returns c =
     let i = c .before .loop .i in
     let here : i ≡ a .at = omega arith in
     let all : a .at + a .count - i ≡ a .count = omega arith in
-    c .before .loop .inv .2 ∙ ap₂ (λ (x y : ℕ). horner (a .w .n) (a .w .d) (coefs (given (a .t .now)) x y)) here all
+    c .before .loop .inv .2 ∙ ap₂ (λ (x y : ℕ). horner (a .w .n) (a .w .d) (coefs (inTable (a .t .now)) x y)) here all
 
 pub row-spec : {M : Type 1} → statement M
 row-spec =
