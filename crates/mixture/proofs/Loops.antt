@@ -11,7 +11,8 @@ use lib.ListN.{getD, set, take, length, length-set, length-map}
 use lib.Seq.{take-all, ext-getD, getD-set-same, getD-set-other}
 use borrow.Author.Tests.{eqb-true, eqb-false, lt-ltb, le-ltb}
 use Rattle.analysis.specs.Check.{totalOf}
-use Rattle.mixture.specs.Scaling.{WHOLE, quotientOf, quotientsOf, remaindersOf, missingOf, greatestTo, greatestOf, sharedOut, scaledOf}
+use Rattle.mixture.specs.Scaling.{WHOLE, quotientOf, quotientsOf, remaindersOf, missingOf, greatestTo, greatestOf, distributed, scaledOf}
+use Rattle.mixture.specs.Share.{getD-map}
 use Rattle.mixture.specs.Total.{sum-set, quotients-whole}
 use Rattle.mixture.specs.Limits.{LIMIT, Limited}
 
@@ -83,12 +84,8 @@ fill-next n f l i v h e w =
 -- the filled list is the map
 pub fill-map : (n : ℕ) (f : ℕ → ℕ) (xs l : List ℕ) (i : ℕ) → length xs ≡ n → n ≤ i → Filled n (λ k. f (getD xs k 0)) l i → l ≡ map f xs
 fill-map n f xs l i e h w =
-    ext-getD 0 l (map f xs) (w .size ∙ sym e ∙ sym (length-map xs f)) (λ k m. w .there k (omega (arith, w .size)) ∙ sym (at xs k (omega (arith, w .size))))
-  where
-    at : (xs : List ℕ) (k : ℕ) → k < length xs → getD (map f xs) k 0 ≡ f (getD xs k 0)
-    at [] k h = absurd (not-suc-le-zero h)
-    at (x ∷ xs) zero h = refl
-    at (x ∷ xs) (suc k) h = at xs k (omega arith)
+    ext-getD 0 l (map f xs) (w .size ∙ sym e ∙ sym (length-map xs f))
+    (λ k m. w .there k (omega (arith, w .size)) ∙ sym (getD-map f xs k (omega (arith, w .size))))
 
 -- ---- quotients
 
@@ -122,16 +119,16 @@ greatest-there rs i p e h =
 
 -- ---- the missing parts
 
-pub record Sharing (n w m₀ : ℕ) (q₀ r₀ : List ℕ) (m : ℕ) (q r : List ℕ) : Type 0 where
+pub record Distributing (n w m₀ : ℕ) (q₀ r₀ : List ℕ) (m : ℕ) (q r : List ℕ) : Type 0 where
   pub quotients : length q ≡ n
   pub remainders : length r ≡ n
   pub fits : totalOf q + m ≤ w
-  pub same : sharedOut m q r ≡ sharedOut m₀ q₀ r₀
+  pub same : distributed m q r ≡ distributed m₀ q₀ r₀
 
-pub sharing-next : (n w m₀ : ℕ) (q₀ r₀ : List ℕ) (m : ℕ) (q r : List ℕ) (p : ℕ) → 0 < m → p < n → p ≡ greatestOf r
-    → Sharing n w m₀ q₀ r₀ m q r → Sharing n w m₀ q₀ r₀ (m - 1) (set q p (getD q p 0 + 1)) (set r p 0)
-unfolding sharedOut
-sharing-next n w m₀ q₀ r₀ m q r p h k e s =
+pub distributing-next : (n w m₀ : ℕ) (q₀ r₀ : List ℕ) (m : ℕ) (q r : List ℕ) (p : ℕ) → 0 < m → p < n → p ≡ greatestOf r
+    → Distributing n w m₀ q₀ r₀ m q r → Distributing n w m₀ q₀ r₀ (m - 1) (set q p (getD q p 0 + 1)) (set r p 0)
+unfolding distributed
+distributing-next n w m₀ q₀ r₀ m q r p h k e s =
     record {
       quotients = length-set q p (getD q p 0 + 1) ∙ s .quotients;
       remainders = length-set r p 0 ∙ s .remainders;
@@ -139,16 +136,16 @@ sharing-next n w m₀ q₀ r₀ m q r p h k e s =
       same = go (m - 1) (omega arith) ∙ s .same;
     }
   where
-    go : (k : ℕ) → m ≡ suc k → sharedOut k (set q p (getD q p 0 + 1)) (set r p 0) ≡ sharedOut m q r
+    go : (k : ℕ) → m ≡ suc k → distributed k (set q p (getD q p 0 + 1)) (set r p 0) ≡ distributed m q r
     go k f = rw (f, e)
 
-pub shared-done : (m : ℕ) (q r : List ℕ) → m ≤ 0 → q ≡ sharedOut m q r
-unfolding sharedOut
-shared-done zero q r h = refl
-shared-done (suc m) q r h = absurd (not-suc-le-zero h)
+pub distributed-all : (m : ℕ) (q r : List ℕ) → m ≤ 0 → q ≡ distributed m q r
+unfolding distributed
+distributed-all zero q r h = refl
+distributed-all (suc m) q r h = absurd (not-suc-le-zero h)
 
 -- from the amounts to the mixture, step by step
 pub scaled-from : (xs q r s : List ℕ) (t m : ℕ) → t ≡ totalOf xs → q ≡ quotientsOf xs t → r ≡ remaindersOf xs t
-    → m ≡ missingOf q → s ≡ sharedOut m q r → s ≡ scaledOf xs
+    → m ≡ missingOf q → s ≡ distributed m q r → s ≡ scaledOf xs
 unfolding scaledOf
 scaled-from xs q r s t m et eq er em es = cc

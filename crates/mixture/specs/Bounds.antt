@@ -1,18 +1,19 @@
 -- What holds of the simplified mixture and of the inert mixture: of any amounts whose T is not 0, and more of an analysis
 -- in range. Assumes nothing.
 use Prim.Native.Nat.{ℕ, zero, suc, _+_, _*_, _/_, _≤_, _<_}
-use mathlib.Core.Path.{_≡_}
+use mathlib.Core.Path.{_≡_, sym, _∙_}
 use mathlib.Core.List.{List}
 use native.Mathlib.Nat.{le-div-iff-mul-le, div-lt-iff-lt-mul}
 use native.Mathlib.Omega.{arith}
 use lib.ListN.{getD, length}
 use Rattle.analysis.specs.Register.{CODES, statusOf}
 use Rattle.analysis.specs.Check.{totalOf, greatestOf, refusalOf}
-use Rattle.analysis.specs.Ranges.{WithinRanges, within-ranges, total-sum}
-use Rattle.mixture.specs.Scaling.{WHOLE}
+use Rattle.analysis.specs.Ranges.{WithinRanges, within-ranges, total-sum, total-go, total-end}
+use Rattle.mixture.specs.Scaling.{WHOLE, quotientOf, remaindersOf}
 use Rattle.mixture.specs.Simplification.{COMPONENTS, amountOf, tenthsOf, tenthsTotal, simplifiedOf}
 use Rattle.mixture.specs.Inert.{methaneShare, inertFirst, inertSecond}
 use Rattle.mixture.specs.Total.{scaled-length, scaled-sum}
+use Rattle.mixture.specs.Largest.{Before, largest-first}
 use Rattle.mixture.specs.Share.{NearShare, scaled-near, scaled-positive}
 
 -- ---- n1 of the inert mixture
@@ -35,15 +36,31 @@ pub simplified-length : (a : List ℕ) → length (simplifiedOf a) ≡ COMPONENT
 unfolding tenthsOf
 simplified-length a = scaled-length (tenthsOf a)
 
+total-four : (l : List ℕ) → length l ≡ 4 → totalOf l ≡ getD l 0 0 + getD l 1 0 + getD l 2 0 + getD l 3 0
+total-four l e =
+    omega
+    (arith, total-go 0 l (omega arith), total-go 1 l (omega arith), total-go 2 l (omega arith), total-go 3 l (omega arith), total-end 4 l (omega arith))
+
 module _ (a : List ℕ) (p : 0 < tenthsTotal a) where
   -- the total is exactly 1000000
   pub simplified-total : totalOf (simplifiedOf a) ≡ WHOLE
   simplified-total = scaled-sum (tenthsOf a) p
 
+  pub simplified-four : getD (simplifiedOf a) 0 0 + getD (simplifiedOf a) 1 0 + getD (simplifiedOf a) 2 0 + getD (simplifiedOf a) 3 0 ≡ WHOLE
+  simplified-four = sym (total-four (simplifiedOf a) (simplified-length a)) ∙ simplified-total
+
   -- each amount is less than one part from its exact share
   pub simplified-near : (i : ℕ) → i < COMPONENTS → NearShare (tenthsTotal a) (getD (tenthsOf a) i 0) (getD (simplifiedOf a) i 0)
   unfolding tenthsOf
   simplified-near i l = scaled-near (tenthsOf a) p i l
+
+  -- a component with a part more comes before one without
+  pub simplified-largest : (i j : ℕ) → i < COMPONENTS → j < COMPONENTS
+      → getD (simplifiedOf a) i 0 ≡ quotientOf (tenthsTotal a) (getD (tenthsOf a) i 0) + 1
+      → getD (simplifiedOf a) j 0 ≡ quotientOf (tenthsTotal a) (getD (tenthsOf a) j 0)
+      → Before (remaindersOf (tenthsOf a) (tenthsTotal a)) i j
+  unfolding tenthsOf
+  simplified-largest i j li lj = largest-first (tenthsOf a) p i j li lj
 
   pub inert-greatest : inertFirst a ≤ WHOLE
   inert-greatest = share-greatest (tenthsTotal a) (amountOf a 11) p

@@ -5,5 +5,6 @@ pub mod Limits
 pub mod Answers
 pub mod Total
 pub mod Share
+pub mod Largest
 pub mod Bounds
 pub mod Marked

@@ -43,11 +43,11 @@ oneMore qs p = set qs p (getD qs p 0 + 1)
 
 -- m missing parts, one each to the largest remainders, equal ones in the order of the list: one to the greatest
 -- remainder, which then counts 0, and so on
-unfoldable pub sharedOut : ℕ → List ℕ → List ℕ → List ℕ
-sharedOut zero qs rs = qs
-sharedOut (suc m) qs rs = sharedOut m (oneMore qs (greatestOf rs)) (set rs (greatestOf rs) 0)
+unfoldable pub distributed : ℕ → List ℕ → List ℕ → List ℕ
+distributed zero qs rs = qs
+distributed (suc m) qs rs = distributed m (oneMore qs (greatestOf rs)) (set rs (greatestOf rs) 0)
 
 -- the amounts xs in parts of 1000000
 unfoldable pub scaledOf : List ℕ → List ℕ
 scaledOf xs =
-    sharedOut (missingOf (quotientsOf xs (totalOf xs))) (quotientsOf xs (totalOf xs)) (remaindersOf xs (totalOf xs))
+    distributed (missingOf (quotientsOf xs (totalOf xs))) (quotientsOf xs (totalOf xs)) (remaindersOf xs (totalOf xs))

@@ -10,7 +10,7 @@ use lib.ListN.{getD, set, length, length-set, length-map}
 use lib.Seq.{getD-set-same, getD-set-other}
 use borrow.Author.Tests.{eqb-true, eqb-false, ltb-true, ltb-false}
 use Rattle.analysis.specs.Check.{totalOf}
-use Rattle.mixture.specs.Scaling.{WHOLE, quotientOf, remainderOf, quotientsOf, remaindersOf, missingOf, greatestOf, oneMore, sharedOut, scaledOf}
+use Rattle.mixture.specs.Scaling.{WHOLE, quotientOf, remainderOf, quotientsOf, remaindersOf, missingOf, greatestOf, oneMore, distributed, scaledOf}
 use Rattle.mixture.specs.Total.{sum-set, greatest-below, greatest-least, remainders-sum}
 
 -- s parts are less than one part from 1000000 × x / t
@@ -41,25 +41,25 @@ sum-zero : (l : List ℕ) → ((i : ℕ) → i < length l → getD l i 0 ≤ 0) 
 sum-zero [] h = refl
 sum-zero (x ∷ l) h = omega (arith, h 0 (omega arith), sum-zero l (λ i k. h (suc i) (omega arith)))
 
-getD-map : (f : ℕ → ℕ) (l : List ℕ) (i : ℕ) → i < length l → getD (map f l) i 0 ≡ f (getD l i 0)
+pub getD-map : (f : ℕ → ℕ) (l : List ℕ) (i : ℕ) → i < length l → getD (map f l) i 0 ≡ f (getD l i 0)
 getD-map f [] i h = absurd (not-suc-le-zero h)
 getD-map f (x ∷ l) zero h = refl
 getD-map f (x ∷ l) (suc i) h = getD-map f l i (omega arith)
+
+-- the greatest remainder is not 0 while parts are missing
+pub greatest-positive : (t m : ℕ) (rs : List ℕ) → 0 < t → suc m * t ≤ totalOf rs → 0 < getD rs (greatestOf rs) 0
+greatest-positive t m rs h l = go (ltb 0 (getD rs (greatestOf rs) 0)) refl
+  where
+    go : (b : Bool) → ltb 0 (getD rs (greatestOf rs) 0) ≡ b → 0 < getD rs (greatestOf rs) 0
+    go true e = ltb-true 0 (getD rs (greatestOf rs) 0) e
+    go false e =
+        let z = ltb-false 0 (getD rs (greatestOf rs) 0) e in
+        absurd (omega (arith, sum-zero rs (λ i k. omega (arith, greatest-least rs (length rs) i k))))
 
 abbrev AllFair : ℕ → List ℕ → List ℕ → List ℕ → Type 0
 AllFair t xs qs rs = (i : ℕ) → i < length xs → Fair t (getD xs i 0) (getD qs i 0) (getD rs i 0)
 
 module _ (t : ℕ) (xs : List ℕ) (h : 0 < t) where
-  -- the greatest remainder is not 0 while parts are missing
-  greatest-positive : (m : ℕ) (rs : List ℕ) → suc m * t ≤ totalOf rs → 0 < getD rs (greatestOf rs) 0
-  greatest-positive m rs l = go (ltb 0 (getD rs (greatestOf rs) 0)) refl
-    where
-      go : (b : Bool) → ltb 0 (getD rs (greatestOf rs) 0) ≡ b → 0 < getD rs (greatestOf rs) 0
-      go true e = ltb-true 0 (getD rs (greatestOf rs) 0) e
-      go false e =
-          let z = ltb-false 0 (getD rs (greatestOf rs) 0) e in
-          absurd (omega (arith, sum-zero rs (λ i k. omega (arith, greatest-least rs (length rs) i k))))
-
   step-fair : (p : ℕ) (qs rs : List ℕ) → length qs ≡ length xs → length rs ≡ length xs → p < length xs
       → 0 < getD rs p 0 → AllFair t xs qs rs → AllFair t xs (oneMore qs p) (set rs p 0)
   step-fair p qs rs a b k z f i l = go (eqb i p) refl
@@ -74,15 +74,15 @@ module _ (t : ℕ) (xs : List ℕ) (h : 0 < t) where
           let w = eqb-false i p e in
           rw (getD-set-other qs p i (getD qs p 0 + 1) 0 w, getD-set-other rs p i 0 0 w) (f i l)
 
-  shared-fair : (m : ℕ) (qs rs : List ℕ) → length qs ≡ length xs → length rs ≡ length xs → m * t ≤ totalOf rs
-      → AllFair t xs qs rs → (i : ℕ) → i < length xs → NearShare t (getD xs i 0) (getD (sharedOut m qs rs) i 0)
-  unfolding sharedOut
-  shared-fair zero qs rs a b l f i k = f i k .near
-  shared-fair (suc m) qs rs a b l f i k =
+  distributed-fair : (m : ℕ) (qs rs : List ℕ) → length qs ≡ length xs → length rs ≡ length xs → m * t ≤ totalOf rs
+      → AllFair t xs qs rs → (i : ℕ) → i < length xs → NearShare t (getD xs i 0) (getD (distributed m qs rs) i 0)
+  unfolding distributed
+  distributed-fair zero qs rs a b l f i k = f i k .near
+  distributed-fair (suc m) qs rs a b l f i k =
       let p = greatestOf rs in
-      let z = greatest-positive m rs l in
+      let z = greatest-positive t m rs h l in
       let below : p < length rs = greatest-below rs (length rs) (omega arith) in
-      shared-fair m (oneMore qs p) (set rs p 0) (length-set qs p (getD qs p 0 + 1) ∙ a) (length-set rs p 0 ∙ b)
+      distributed-fair m (oneMore qs p) (set rs p 0) (length-set qs p (getD qs p 0 + 1) ∙ a) (length-set rs p 0 ∙ b)
       (omega (arith, sum-set rs p 0 below, f p (omega arith) .small))
       (step-fair p qs rs a b (omega arith) z f) i k
 
@@ -90,7 +90,7 @@ module _ (xs : List ℕ) (h : 0 < totalOf xs) where
   pub scaled-near : (i : ℕ) → i < length xs → NearShare (totalOf xs) (getD xs i 0) (getD (scaledOf xs) i 0)
   unfolding scaledOf
   scaled-near =
-      shared-fair (totalOf xs) xs h (missingOf (quotientsOf xs (totalOf xs))) (quotientsOf xs (totalOf xs)) (remaindersOf xs (totalOf xs))
+      distributed-fair (totalOf xs) xs h (missingOf (quotientsOf xs (totalOf xs))) (quotientsOf xs (totalOf xs)) (remaindersOf xs (totalOf xs))
       (length-map xs (quotientOf (totalOf xs)))
       (length-map xs (remainderOf (totalOf xs)))
       (omega (arith, remainders-sum xs h))

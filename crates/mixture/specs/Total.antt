@@ -9,7 +9,7 @@ use lib.Dec.{ltb}
 use lib.ListN.{getD, set, length, length-set, length-map}
 use borrow.Author.Tests.{ltb-true, ltb-false}
 use Rattle.analysis.specs.Check.{totalOf}
-use Rattle.mixture.specs.Scaling.{WHOLE, quotientOf, remainderOf, quotientsOf, remaindersOf, missingOf, greatestTo, greatestOf, oneMore, sharedOut, scaledOf}
+use Rattle.mixture.specs.Scaling.{WHOLE, quotientOf, remainderOf, quotientsOf, remaindersOf, missingOf, greatestTo, greatestOf, oneMore, distributed, scaledOf}
 
 -- ---- sums
 
@@ -61,19 +61,19 @@ greatest-least rs (suc n) j h =
 
 -- ---- the missing parts
 
-pub shared-length : (m : ℕ) (qs rs : List ℕ) → length (sharedOut m qs rs) ≡ length qs
-unfolding sharedOut
-shared-length zero qs rs = refl
-shared-length (suc m) qs rs = shared-length m (oneMore qs (greatestOf rs)) (set rs (greatestOf rs) 0) ∙ length-set qs (greatestOf rs) (getD qs (greatestOf rs) 0 + 1)
+pub distributed-length : (m : ℕ) (qs rs : List ℕ) → length (distributed m qs rs) ≡ length qs
+unfolding distributed
+distributed-length zero qs rs = refl
+distributed-length (suc m) qs rs = distributed-length m (oneMore qs (greatestOf rs)) (set rs (greatestOf rs) 0) ∙ length-set qs (greatestOf rs) (getD qs (greatestOf rs) 0 + 1)
 
-pub shared-sum : (m : ℕ) (qs rs : List ℕ) → length qs ≡ length rs → 0 < length rs → totalOf (sharedOut m qs rs) ≡ totalOf qs + m
-unfolding sharedOut
-shared-sum zero qs rs e h = omega arith
-shared-sum (suc m) qs rs e h =
+pub distributed-sum : (m : ℕ) (qs rs : List ℕ) → length qs ≡ length rs → 0 < length rs → totalOf (distributed m qs rs) ≡ totalOf qs + m
+unfolding distributed
+distributed-sum zero qs rs e h = omega arith
+distributed-sum (suc m) qs rs e h =
     let p = greatestOf rs in
     omega (
       arith,
-      shared-sum m (oneMore qs p) (set rs p 0) (length-set qs p (getD qs p 0 + 1) ∙ e ∙ sym (length-set rs p 0)) (rw length-set h),
+      distributed-sum m (oneMore qs p) (set rs p 0) (length-set qs p (getD qs p 0 + 1) ∙ e ∙ sym (length-set rs p 0)) (rw length-set h),
       sum-set qs p (getD qs p 0 + 1) (omega (arith, greatest-below rs (length rs) h)),
     )
 
@@ -85,7 +85,7 @@ quotients-sum (x ∷ xs) t = omega (arith, quotients-sum xs t, div-add-mod' (WHO
 
 pub scaled-length : (xs : List ℕ) → length (scaledOf xs) ≡ length xs
 unfolding scaledOf
-scaled-length xs = shared-length _ _ _ ∙ length-map xs (quotientOf (totalOf xs))
+scaled-length xs = distributed-length _ _ _ ∙ length-map xs (quotientOf (totalOf xs))
 
 module _ (xs : List ℕ) (h : 0 < totalOf xs) where
   pub quotients-whole : totalOf (quotientsOf xs (totalOf xs)) ≤ WHOLE
@@ -107,7 +107,7 @@ module _ (xs : List ℕ) (h : 0 < totalOf xs) where
   scaled-sum =
       omega (
         arith,
-        shared-sum (missingOf (quotientsOf xs (totalOf xs))) (quotientsOf xs (totalOf xs)) (remaindersOf xs (totalOf xs))
+        distributed-sum (missingOf (quotientsOf xs (totalOf xs))) (quotientsOf xs (totalOf xs)) (remaindersOf xs (totalOf xs))
             (length-map xs (quotientOf (totalOf xs)) ∙ sym (length-map xs (remainderOf (totalOf xs))))
             (rw length-map (sum-filled xs h)),
         quotients-whole,

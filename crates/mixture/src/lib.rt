@@ -7,7 +7,7 @@ ghost use mathlib.Core.Path.{_≡_};
 ghost use Prim.Native.Nat.{ℕ, _+_, _*_, _<_, _≤_};
 ghost use lib.ListN.{getD, length};
 ghost use Rattle.analysis.specs.Check.{totalOf};
-ghost use Rattle.mixture.specs.Scaling.{WHOLE, quotientOf, remainderOf, quotientsOf, remaindersOf, missingOf, greatestOf, sharedOut, scaledOf};
+ghost use Rattle.mixture.specs.Scaling.{WHOLE, quotientOf, remainderOf, quotientsOf, remaindersOf, missingOf, greatestOf, distributed, scaledOf};
 ghost use Rattle.mixture.specs.Simplification.{COMPONENTS, butaneOf, tenthsOf, tenthsTotal};
 ghost use Rattle.mixture.specs.Limits.{LIMIT, Limited};
 ghost use Rattle.mixture.specs.Answers.{Simplifying, InertAnswer};
@@ -20,7 +20,7 @@ pub const COMPONENTS: usize = 4;
 const WHOLE: u32 = 1000000;
 
 // The same, for products.
-const WIDE_WHOLE: u64 = 1000000;
+const WIDE_WHOLE: u64 = WHOLE as u64;
 
 // The amounts of the components in parts, in their order.
 pub struct Mixture {
@@ -39,7 +39,7 @@ pub enum InertMixture {
     Refused { number: u32, code: u32 },
 }
 
-// The simplified mixture of an analysis.
+// The simplified mixture of an analysis in range, else its refusal beside zeros.
 pub fn simplify(a: Analysis) -> Simplified
     ensures { λ r. ⌜ Simplifying (a .amounts) r ⌝ }
 {
@@ -61,7 +61,7 @@ pub fn simplify(a: Analysis) -> Simplified
     }
 }
 
-// The inert mixture of an analysis; nitrogen does not enter.
+// The inert mixture of an analysis in range, else its refusal. Nitrogen does not enter.
 pub fn inert(a: Analysis) -> InertMixture
     ensures { λ r. ⌜ InertAnswer (a .amounts) r ⌝ }
 {
@@ -80,6 +80,7 @@ pub fn inert(a: Analysis) -> InertMixture
     }
 }
 
+// The same number, for sums and products.
 fn wide(x: u32) -> u64
     ensures { λ r. ⌜ (r ≡ x) × (r < 4294967296) ⌝ }
 {
@@ -103,7 +104,7 @@ fn tenths(a: &[u32; CODES]) -> [u64; COMPONENTS]
     [10 * wide(a[1]), 10 * wide(a[2]), 10 * wide(a[3]), butane(a)]
 }
 
-// The sum of amounts.
+// The sum of the amounts.
 fn sum(x: &[u64; COMPONENTS]) -> u64
     requires { ⌜ Limited (now x) ⌝ }
     ensures { λ r. ⌜ (r ≡ totalOf (now (x .entry))) × (r ≤ LIMIT * COMPONENTS) ⌝ }
@@ -125,6 +126,7 @@ fn quotient(x: u64, total: u64) -> u32
     (WIDE_WHOLE * x / total) as u32
 }
 
+// The remainder of this division.
 fn remainder(x: u64, total: u64) -> u64
     requires { ⌜ (x ≤ LIMIT) × (0 < total) ⌝ }
     ensures { λ r. ⌜ r ≡ remainderOf total x ⌝ }
@@ -191,13 +193,13 @@ fn greatest(r: &[u64; COMPONENTS]) -> usize
 }
 
 // One missing part each to the largest remainders, equal ones in order.
-fn share_out(
+fn distribute(
     missing: u32,
     quotients: [u32; COMPONENTS],
     remainders: [u64; COMPONENTS],
 ) -> [u32; COMPONENTS]
     requires { ⌜ (length quotients ≡ COMPONENTS) × (length remainders ≡ COMPONENTS) × (totalOf quotients + missing ≤ WHOLE) ⌝ }
-    ensures { λ r. ⌜ r ≡ sharedOut missing quotients remainders ⌝ }
+    ensures { λ r. ⌜ r ≡ distributed missing quotients remainders ⌝ }
 {
     let mut q = quotients;
     let mut r = remainders;
@@ -220,7 +222,7 @@ fn scale(x: [u64; COMPONENTS]) -> [u32; COMPONENTS]
     let total = sum(&x);
     let q = quotients(&x, total);
     let r = remainders(&x, total);
-    share_out(missing(&q), q, r)
+    distribute(missing(&q), q, r)
 }
 
 // n / d rounded to the nearest whole number, halves up.

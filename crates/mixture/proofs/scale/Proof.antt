@@ -24,8 +24,8 @@ missing-requires c κs =
     let start = s .before .before in
     quotients-fit (start .args .t1) _ _ COMPONENTS (start .pre .0 .long) (start .pre .1) (s .sum .ensures .0) (b .quotients .ensures)
 
-share-out-requires : tie.Need-share-out-requires
-share-out-requires c κs =
+distribute-requires : tie.Need-distribute-requires
+distribute-requires c κs =
     let b = c .before .before .before .before in
     let s = b .before .before in
     let start = s .before .before in
@@ -38,7 +38,7 @@ returns c =
     let r = m .before .before in
     let q = r .before .before in
     let s = q .before .before in
-    scaled-from (s .before .before .args .t1) _ _ _ _ _ (s .sum .ensures .0) (q .quotients .ensures) (r .remainders .ensures) (m .missing .ensures) (c .share-out .ensures)
+    scaled-from (s .before .before .args .t1) _ _ _ _ _ (s .sum .ensures .0) (q .quotients .ensures) (r .remainders .ensures) (m .missing .ensures) (c .distribute .ensures)
 
 pub scale-spec : {M : Type 1} → statement M
 scale-spec =
@@ -48,5 +48,5 @@ scale-spec =
     quotients-requires
     remainders-requires
     missing-requires
-    share-out-requires
+    distribute-requires
     returns)

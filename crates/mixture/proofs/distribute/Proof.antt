@@ -3,12 +3,12 @@ use mathlib.Core.Path.{refl, _∙_}
 use Rattle.mixture.specs.Scaling.{WHOLE}
 use Rattle.mixture.specs.Simplification.{COMPONENTS}
 use Rattle.mixture.specs.Total.{sum-has}
-use Rattle.mixture.proofs.Loops.{Sharing, sharing-next, shared-done}
-use Rattle.mixture.proofs.share_out.Statement.{statement}
-use Rattle.mixture.proofs.share_out.Tie as tie
+use Rattle.mixture.proofs.Loops.{Distributing, distributing-next, distributed-all}
+use Rattle.mixture.proofs.distribute.Statement.{statement}
+use Rattle.mixture.proofs.distribute.Tie as tie
 
 abbrev Inv-loop : tie.InvT-loop
-Inv-loop missing q₀ r₀ m₀ q r m = Sharing COMPONENTS WHOLE missing q₀ r₀ m q r
+Inv-loop missing q₀ r₀ m₀ q r m = Distributing COMPONENTS WHOLE missing q₀ r₀ m q r
 
 abbrev μ-loop : tie.MeasureT-loop
 μ-loop missing q₀ r₀ m₀ q r m = m
@@ -51,15 +51,15 @@ loop-less c = omega arith
 loop-again : tie.Need-loop-again Inv-loop μ-loop
 loop-again c =
     let b = c .before .before .before in
-    sharing-next COMPONENTS WHOLE (b .before .args .missing) (b .before .args .quotients) (b .before .args .remainders) (b .loop .m) (b .loop .q) (b .loop .r) (c .greatest .result) (omega arith) (c .greatest .ensures .1) (c .greatest .ensures .0) (b .loop .inv)
+    distributing-next COMPONENTS WHOLE (b .before .args .missing) (b .before .args .quotients) (b .before .args .remainders) (b .loop .m) (b .loop .q) (b .loop .r) (c .greatest .result) (omega arith) (c .greatest .ensures .1) (c .greatest .ensures .0) (b .loop .inv)
 
 returns : tie.Need-returns Inv-loop μ-loop
 returns c =
     let b = c .before in
-    shared-done (b .loop .m) (b .loop .q) (b .loop .r) (omega arith) ∙ b .loop .inv .same
+    distributed-all (b .loop .m) (b .loop .q) (b .loop .r) (omega arith) ∙ b .loop .inv .same
 
-pub share-out-spec : {M : Type 1} → statement M
-share-out-spec =
+pub distribute-spec : {M : Type 1} → statement M
+distribute-spec =
     tie.close
     (tie.spec
     Inv-loop
