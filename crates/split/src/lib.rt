@@ -5,8 +5,15 @@ const CELLS: usize = 32;
 // A rating in units with its spread in units and the search's rounds (0 for a proposed split),
 // or a refusal with its number and, for 2 to 4, the record's place, for 5, a code at fault; else 0.
 pub enum Answer {
-    Rated { rating: i64, spread: u64, rounds: u32 },
-    Refused { number: u32, place: u32 },
+    Rated {
+        rating: i64,
+        spread: u64,
+        rounds: u32,
+    },
+    Refused {
+        number: u32,
+        place: u32,
+    },
 }
 
 // What the search came to: a spread within the limit after so many rounds, or none.

@@ -1,0 +1,3 @@
+pub mod Section
+pub mod Laws
+pub mod Examples
