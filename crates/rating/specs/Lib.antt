@@ -6,3 +6,4 @@ pub mod Answers
 pub mod Sheets
 pub mod Demand
 pub mod Lasting
+pub mod Marked
