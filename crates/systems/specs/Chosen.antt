@@ -86,7 +86,7 @@ module _ (key : ℕ → ℕ) (marks : List Bool) (c : ℕ) where
     from-none (s ∷ systems) t u b z =
         go (openOf marks c s) refl
         (λ e. from-best systems (and-right (not (openOf marks c s) || test s) (passes systems) t) (betterOf key marks c b s)
-            (rw (better-first b s z e) (passed (openOf marks c s) (test s) (and-left (not (openOf marks c s) || test s) (passes systems) t) e)))
+        (rw (better-first b s z e) (passed (openOf marks c s) (test s) (and-left (not (openOf marks c s) || test s) (passes systems) t) e)))
         (λ e v. from-none systems (and-right (not (openOf marks c s) || test s) (passes systems) t) v (betterOf key marks c b s) (rw (better-before b s e) z)) u
       where
         go : (o : Bool) → openOf marks c s ≡ o → (openOf marks c s ≡ true → T (test (through (betterOf key marks c) systems (betterOf key marks c b s))))
@@ -116,9 +116,9 @@ module _ (key : ℕ → ℕ) (good : List Bool → Bool) (systems : List ℕ) (w
           let v = and-right (not (openOf marks c 0)) (some (openOf marks c) systems && passes key marks c (λ s. always good systems wanted components (set marks s true)) systems) u in
           rw (e, takeOf)
           (fittest-passes key marks c (λ s. always good systems wanted components (set marks s true)) systems
-            (and-left (not (openOf marks c 0)) (some (openOf marks c) systems && passes key marks c (λ s. always good systems wanted components (set marks s true)) systems) u)
-            (and-left (some (openOf marks c) systems) (passes key marks c (λ s. always good systems wanted components (set marks s true)) systems) v)
-            (and-right (some (openOf marks c) systems) (passes key marks c (λ s. always good systems wanted components (set marks s true)) systems) v))
+          (and-left (not (openOf marks c 0)) (some (openOf marks c) systems && passes key marks c (λ s. always good systems wanted components (set marks s true)) systems) u)
+          (and-left (some (openOf marks c) systems) (passes key marks c (λ s. always good systems wanted components (set marks s true)) systems) v)
+          (and-right (some (openOf marks c) systems) (passes key marks c (λ s. always good systems wanted components (set marks s true)) systems) v))
       go false e = rw (e, takeOf) (rw (e, always) at t)
 
   pub pass-good : (components : List ℕ) (marks : List Bool) → T (always good systems wanted components marks)
@@ -150,9 +150,12 @@ choosable : List ℕ → ℕ → Bool
 choosable ch k = eqb k 3 && (everyTo (knownAt ch) k && (everyTo (λ i. everyTo (risesAt ch i) k) k && everyTo (twiceAt ch k) COMPONENTS))
 
 four : (a b c d : Bool) → T (a && (b && (c && d))) → T a × T b × T c × T d
-four a b c d t =
-    (and-left a (b && (c && d)) t, and-left b (c && d) (and-right a (b && (c && d)) t),
-    and-left c d (and-right b (c && d) (and-right a (b && (c && d)) t)), and-right c d (and-right b (c && d) (and-right a (b && (c && d)) t)))
+four a b c d t = (
+  and-left a (b && (c && d)) t,
+  and-left b (c && d) (and-right a (b && (c && d)) t),
+  and-left c d (and-right b (c && d) (and-right a (b && (c && d)) t)),
+  and-right c d (and-right b (c && d) (and-right a (b && (c && d)) t)),
+)
 
 rises : (ch : List ℕ) (i j : ℕ) → i < j → T (risesAt ch i j) → getD ch i 0 < getD ch j 0
 unfolding risesAt
