@@ -1,3 +1,4 @@
 pub mod Machine
 pub mod Amounts
 pub mod Numbers
+pub mod Trials

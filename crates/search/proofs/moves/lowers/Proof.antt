@@ -1,0 +1,22 @@
+use borrow.Author.Needs.{needs}
+use Rattle.search.proofs.moves.lowers.Statement.{statement}
+use Rattle.search.proofs.moves.lowers.Tie as tie
+use Rattle.search.proofs.moves.lowers.Reads as reads
+use Rattle.search.proofs.moves.lowers.Lts as lts
+use Rattle.search.proofs.moves.imbalance.Reads as imbalance-reads
+use Rattle.search.proofs.moves.renumbered.Reads as renumbered-reads
+
+-- src/moves.rt:183:13
+renumbered-requires : tie.Need-renumbered-requires
+renumbered-requires c κs = search needs
+
+-- src/moves.rt:184:5
+imbalance-requires : tie.Need-imbalance-requires
+imbalance-requires c κs = search needs
+
+-- src/moves.rt:171:1
+returns : tie.Need-returns
+returns c = ?
+
+pub lowers-spec : {M : Type 1} → statement M
+lowers-spec = tie.close (tie.spec renumbered-requires imbalance-requires returns)
