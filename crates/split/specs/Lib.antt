@@ -3,6 +3,10 @@ pub mod Split
 pub mod Rating
 pub mod Spread
 pub mod Clean
+pub mod Exact
+pub mod Fits
+pub mod Rated
+pub mod Refused
 pub mod Start
 pub mod Move
 pub mod Search
