@@ -1,3 +1,6 @@
 pub mod Systems
 pub mod Table
 pub mod Members
+pub mod Choice
+pub mod Chosen
+pub mod Marked
