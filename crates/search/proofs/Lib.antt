@@ -2,3 +2,5 @@ pub mod Machine
 pub mod Amounts
 pub mod Numbers
 pub mod Trials
+pub mod Fit
+pub mod Loop
