@@ -45,8 +45,11 @@ oneIf true = 1
 oneIf false = 0
 
 -- how many of the chosen systems contain component c
+abbrev pub countOf : List Bool → ℕ → ℕ → ℕ → ℕ
+countOf marks c n system = n + oneIf (isChosen marks system && hasOf system c)
+
 unfoldable pub heldOf : List ℕ → List Bool → ℕ → ℕ
-heldOf systems marks c = through (λ n s. n + oneIf (isChosen marks s && hasOf s c)) systems 0
+heldOf systems marks c = through (countOf marks c) systems 0
 
 -- a system contains component c and is not chosen
 abbrev pub openOf : List Bool → ℕ → ℕ → Bool

@@ -1,0 +1,6 @@
+pub mod Machine
+pub mod Amounts
+pub mod Numbers
+pub mod Trials
+pub mod Fit
+pub mod Loop

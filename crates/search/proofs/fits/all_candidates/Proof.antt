@@ -1,0 +1,58 @@
+use Rattle.search.proofs.fits.all_candidates.Statement.{statement}
+use Rattle.search.proofs.fits.all_candidates.Tie as tie
+use Rattle.search.proofs.fits.all_candidates.Reads as reads
+use Rattle.search.proofs.fits.all_candidates.Lts as lts
+use Rattle.search.proofs.fits.is_candidate.Reads as is-candidate-reads
+
+abbrev Inv-loop : tie.InvT-loop
+Inv-loop ch k s₀ s = ?
+
+abbrev μ-loop : tie.MeasureT-loop
+μ-loop ch k s₀ s = ?
+
+-- src/fits.rt:60:5
+loop-holds : tie.Need-loop-holds Inv-loop μ-loop
+loop-holds c = ?
+
+-- src/fits.rt:61:9
+sub-s : tie.Need-sub-s Inv-loop μ-loop
+sub-s c = ?
+
+-- src/fits.rt:62:26
+element-copy-out-is-candidate : tie.Need-element-copy-out-is-candidate Inv-loop μ-loop
+element-copy-out-is-candidate c = ?
+
+-- src/fits.rt:62:13
+is-candidate-requires : tie.Need-is-candidate-requires Inv-loop μ-loop
+is-candidate-requires c κs = ?
+
+-- src/fits.rt:63:13
+returns : tie.Need-returns Inv-loop μ-loop
+returns c = ?
+
+-- src/fits.rt:60:5
+loop-less : tie.Need-loop-less Inv-loop μ-loop
+loop-less c = ?
+
+-- src/fits.rt:60:5
+loop-again : tie.Need-loop-again Inv-loop μ-loop
+loop-again c = ?
+
+-- src/fits.rt:55:1
+returns-2 : tie.Need-returns-2 Inv-loop μ-loop
+returns-2 c = ?
+
+pub all-candidates-spec : {M : Type 1} → statement M
+all-candidates-spec =
+    tie.close
+    (tie.spec
+    Inv-loop
+    μ-loop
+    loop-holds
+    sub-s
+    element-copy-out-is-candidate
+    is-candidate-requires
+    returns
+    loop-less
+    loop-again
+    returns-2)
