@@ -27,9 +27,9 @@ module _ (mix ch : List ℕ) (k n1 : ℕ) (b : Bool) (p : b ≡ chosenFit ch k) 
     unfolding proposalFit
     unfit-mixture h = sym (rw (sym p ∙ not-false b l, sym q ∙ not-true d h))
 
-    pub fit-inert : not d ≡ false → (w : ℕ) → w ≡ n1 → leb w 1000000 ≡ proposalFit mix ch k n1
+    pub fit-inert : not d ≡ false → leb n1 1000000 ≡ proposalFit mix ch k n1
     unfolding proposalFit
-    fit-inert h w e = ap (λ (n : ℕ). leb n 1000000) e ∙ sym (rw (sym p ∙ not-false b l, sym q ∙ not-false d h))
+    fit-inert h = sym (rw (sym p ∙ not-false b l, sym q ∙ not-false d h))
 
 -- ---- the answer
 

@@ -4,3 +4,7 @@ pub mod Numbers
 pub mod Trials
 pub mod Fit
 pub mod Loop
+pub mod Checks
+pub mod Wholes
+pub mod Weights
+pub mod Answers

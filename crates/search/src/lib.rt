@@ -1,12 +1,15 @@
 // The search for a split whose partial numbers agree. No public function has a `requires`.
 mod fits;
 mod moves;
+mod rating;
 mod rounds;
 mod start;
 mod state;
 
 ghost use mathlib.Core.Path.{_≡_};
 ghost use Rattle.split.specs.Find.{findOf};
+ghost use Rattle.split.specs.Proposed.{answerOf};
+use split::Answer;
 use split::Found;
 use split::Search;
 use systems::Choice;
@@ -51,4 +54,21 @@ pub fn find(
         return nothing;
     }
     rounds::search(&ch, k, limit, level, allowance, a)
+}
+
+// The answer to cells proposed as a split of a mixture among its chosen systems: refused 8 where they do not re-sum,
+// 9 where a system is empty, 10 where the spread is above the limit, else rated with the inert mixture's n1.
+// Systems that are no candidates, and a mixture or an n1 above a million parts, are refused 7.
+pub fn proposed(
+    limit: u64,
+    choice: Choice,
+    mix: [u32; COMPONENTS],
+    cells: [u32; CELLS],
+    n1: u32,
+) -> Answer
+    ensures { λ r. ⌜ r ≡ answerOf limit (choice .systems) (choice .count) mix cells n1 ⌝ }
+{
+    let ch = choice.systems;
+    let k = choice.count;
+    rating::answer(limit, &ch, k, &mix, &cells, n1)
 }

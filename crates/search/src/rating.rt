@@ -6,10 +6,11 @@ ghost use lib.IntN.{ℤ, pos, negsuc, natAbs, _+ℤ_, _*ℤ_};
 ghost use lib.Signed.{quotZ};
 ghost use Rattle.split.specs.Split.{columnOf, Sound};
 ghost use Rattle.split.specs.Rating.{resums, weightedOf, inertNumber};
-ghost use Rattle.split.specs.Proposed.{ratedOf, answerOf};
+ghost use Rattle.split.specs.Proposed.{proposalFit, ratedOf, answerOf};
 ghost use Rattle.search.specs.Carried.{LARGEST, Held};
-use super::fit::proposal_fit;
-use super::fit::some_empty;
+use super::fits::chosen_fit;
+use super::fits::mixture_fit;
+use super::fits::some_empty;
 use super::state::numbers;
 use super::state::parts;
 use super::state::spread;
@@ -123,6 +124,19 @@ fn rated(limit: u64, ch: &[u8; SYSTEMS], k: usize, a: &[u32; CELLS], n1: u32) ->
         spread,
         rounds: 0,
     }
+}
+
+// Whether chosen systems, a mixture and an inert mixture's n1 are fit for a proposed split.
+fn proposal_fit(mix: &[u32; COMPONENTS], ch: &[u8; SYSTEMS], k: usize, n1: u32) -> bool
+    ensures { λ r. ⌜ r ≡ proposalFit (now (mix .entry)) (now (ch .entry)) k n1 ⌝ }
+{
+    if !chosen_fit(ch, k) {
+        return false;
+    }
+    if !mixture_fit(mix) {
+        return false;
+    }
+    n1 <= MILLION
 }
 
 // The answer to cells proposed as a split of a mixture.
