@@ -1,9 +1,12 @@
 -- A turn, and a search's loop, from what the code has in hand.
-use Prim.Native.Nat.{ℕ, zero, suc, _+_, _*_, _-_, _^_, _≤_, _<_}
+use Prim.Native.Nat.{ℕ, zero, suc, _+_, _*_, _-_, _%_, _^_, _≤_, _<_}
 use mathlib.Core.Path.{_≡_, refl, sym, ap, _∙_}
+use mathlib.Core.Bool.{Bool}
 use mathlib.Core.List.{List}
 use native.Mathlib.Omega.{arith}
+use lib.Dec.{eqb, eqb→eq}
 use lib.IntN.{ℤ}
+use Rattle.systems.specs.Table.{eachTo}
 use Rattle.split.specs.Split.{cellOf, numberAt, Sound}
 use Rattle.split.specs.Rating.{spreadOf}
 use Rattle.split.specs.Move.{MOVES, componentOf, giverOf, takerOf, movedOf, firstOf}
@@ -16,6 +19,13 @@ use Rattle.split.specs.Steps.{may-move}
 use Rattle.split.specs.Turns.{turn-rate, turn-refuse, turn-on, Moves, moves, sound-step, again-move}
 use Rattle.search.specs.Carried.{listed, Small, Carried, Held}
 use Rattle.search.proofs.Trials.{spread-same}
+
+-- the strides, each by one computed test
+abbrev right : ℕ → Bool
+right level = eqb (1 * 2 ^ level % 4294967296) (2 ^ level)
+
+pub stride-is : (level : ℕ) → level ≤ 16 → 1 * 2 ^ level % 4294967296 ≡ 2 ^ level
+stride-is level h = eqb→eq (1 * 2 ^ level % 4294967296) (2 ^ level) (eachTo right 17 tt level (omega arith))
 
 -- s is the spread of the numbers v, d the stride, m the first move, r what is answered then
 module _ (ch : List ℕ) (k limit allowance : ℕ) (a : List ℕ) (level rounds s : ℕ) (v : List ℤ) (e : s ≡ spreadOf (listed v) k) (held : Held ch k a v) where

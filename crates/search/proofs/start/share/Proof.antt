@@ -1,4 +1,9 @@
+use native.Mathlib.Omega.{arith}
+use Prim.Native.Nat.{ℕ, zero, suc, _+_, _*_, _-_, _/_, _%_, _^_, _≤_, _<_}
+use mathlib.Core.Path.{_≡_, refl, sym, ap, ap₂, _∙_}
 use borrow.Author.Needs.{needs}
+use native.Mathlib.Nat.{div-le-self}
+use Rattle.split.specs.Start.{shareOf}
 use Rattle.search.proofs.start.share.Statement.{statement}
 use Rattle.search.proofs.start.share.Tie as tie
 use Rattle.search.proofs.start.share.Reads as reads
@@ -19,11 +24,12 @@ one-if-requires c κs = search needs
 
 -- src/start.rt:42:5
 add-result : tie.Need-add-result
-add-result c = ?
+add-result c = omega (arith, div-le-self (c .before .args .t) (c .before .args .n), c .one-if .ensures .1)
 
 -- src/start.rt:38:1
 returns : tie.Need-returns
-returns c = ?
+unfolding shareOf
+returns c = ap (λ x. c .before .args .t / c .before .args .n + x) (c .one-if .ensures .0)
 
 pub share-spec : {M : Type 1} → statement M
 share-spec = tie.close (tie.spec div-result rem-one-if one-if-requires add-result returns)
