@@ -1,3 +1,10 @@
 pub mod Machine
 pub mod Amounts
 pub mod Numbers
+pub mod Trials
+pub mod Fit
+pub mod Loop
+pub mod Checks
+pub mod Wholes
+pub mod Weights
+pub mod Answers

@@ -31,3 +31,4 @@ pub mod Accuracy
 pub mod Places
 pub mod Records
 pub mod Proposed
+pub mod PutBack
