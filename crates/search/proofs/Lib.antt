@@ -4,3 +4,4 @@ pub mod Numbers
 pub mod Trials
 pub mod Fit
 pub mod Loop
+pub mod Scanned
