@@ -8,3 +8,4 @@ pub mod Checks
 pub mod Wholes
 pub mod Weights
 pub mod Answers
+pub mod Scanned
