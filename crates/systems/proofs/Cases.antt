@@ -1,14 +1,15 @@
 -- The definitions of the choice, case by case.
 use Prim.Native.Nat.{ℕ, _+_, _≤_, _<_}
-use mathlib.Core.Path.{_≡_, refl, sym, ap}
-use mathlib.Core.Bool.{Bool, true, false, not, _&&_}
+use mathlib.Core.Path.{_≡_, sym}
+use mathlib.Core.Bool.{Bool, true, false, _&&_}
 use mathlib.Core.List.{List}
-use lib.Dec.{T, ltb, ltb→lt}
+use lib.Dec.{ltb, ltb→lt}
 use lib.ListN.{getD, set, length}
 use borrow.Author.Tests.{lt-ltb, le-ltb}
 use Rattle.systems.specs.Systems.{hasOf, candidates}
-use Rattle.systems.specs.Table.{everyTo, eachTo}
-use Rattle.systems.specs.Choice.{NUMBERS, isChosen, oneIf, heldOf, openOf, offerOf, betterOf, fittestOf, takeOf}
+use Rattle.systems.specs.Table.{eachTo}
+use Rattle.systems.specs.Offers.{better-next, better-before}
+use Rattle.systems.specs.Choice.{NUMBERS, isChosen, oneIf, heldOf, offerOf, betterOf, fittestOf, takeOf}
 
 -- every candidate's number has a mark
 low : ℕ → Bool
@@ -41,13 +42,11 @@ module _ (key : ℕ → ℕ) (marks : List Bool) (c s : ℕ) where
   unfolding offerOf
   offer-open x e f k = rw (e, f, k, offerOf)
 
-  pub better-next : (b x y : ℕ) → x ≡ offerOf key marks c b → y ≡ offerOf key marks c s → x < y → s ≡ betterOf key marks c b s
-  unfolding betterOf
-  better-next b x y p q h = rw (lt-ltb (offerOf key marks c b) (offerOf key marks c s) (rw (← p, ← q) h), betterOf)
+  pub best-next : (b x y : ℕ) → x ≡ offerOf key marks c b → y ≡ offerOf key marks c s → x < y → s ≡ betterOf key marks c b s
+  best-next b x y p q h = sym (better-next key marks c b s (rw (← p, ← q) h))
 
-  pub better-before : (b x y : ℕ) → x ≡ offerOf key marks c b → y ≡ offerOf key marks c s → y ≤ x → b ≡ betterOf key marks c b s
-  unfolding betterOf
-  better-before b x y p q h = rw (le-ltb (offerOf key marks c b) (offerOf key marks c s) (rw (← p, ← q) h), betterOf)
+  pub best-before : (b x y : ℕ) → x ≡ offerOf key marks c b → y ≡ offerOf key marks c s → y ≤ x → b ≡ betterOf key marks c b s
+  best-before b x y p q h = sym (better-before key marks c b s (rw (← p, ← q) h))
 
 module _ (key : ℕ → ℕ) (systems : List ℕ) (wanted : ℕ) (marks : List Bool) (c n : ℕ) (e : n ≡ heldOf systems marks c) where
   pub take-one : (s : ℕ) → n < wanted → s ≡ fittestOf key systems marks c → set marks s true ≡ takeOf key systems wanted marks c

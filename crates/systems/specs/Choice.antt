@@ -1,9 +1,9 @@
 -- The choice of systems (document 01, "Choice of systems"; 000 A.3.2), for any list of candidates, any order of the
 -- components and any key that says which system goes before another. Assumes nothing.
-use Prim.Native.Nat.{ℕ, zero, suc, _+_, _*_, _-_}
+use Prim.Native.Nat.{ℕ, _+_, _*_, _-_}
 use mathlib.Core.List.{List, [], _∷_, _++_}
 use mathlib.Core.Bool.{Bool, true, false, not, _&&_}
-use lib.Dec.{eqb, ltb}
+use lib.Dec.{ltb}
 use lib.ListN.{getD, set, length, replicate}
 use Rattle.systems.specs.Systems.{memberOf, hasOf, candidates}
 use Rattle.systems.specs.declared.Choice.{Choice}
