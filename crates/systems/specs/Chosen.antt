@@ -14,8 +14,8 @@ use borrow.Author.Tests.{lt-ltb}
 use Rattle.systems.specs.Systems.{COMPONENTS, memberOf, hasOf, elem, candidates, Candidate}
 use Rattle.systems.specs.Table.{of-true, to-true, and-left, and-right, every, everyTo, eachTo}
 use Rattle.systems.specs.Members.{countTo}
-use Rattle.systems.specs.Offers.{offer-open, offer-closed, open-of-offer, better-next, better-before, better-cases}
-use Rattle.systems.specs.Choice.{NUMBERS, order, through, heldOf, openOf, offerOf, betterOf, fittestOf, takeOf, passOf, marksOf, listOf, chosenOf, chooseOf, paddedOf, choiceOf, fitnessOf}
+use Rattle.systems.specs.Scores.{score-open, score-closed, open-of-score, better-next, better-before, better-cases}
+use Rattle.systems.specs.Choice.{NUMBERS, order, fold, containingOf, openOf, scoreOf, betterOf, fittestOf, takeOf, passOf, marksOf, listOf, chosenOf, chooseOf, paddedOf, choiceOf, fitnessOf}
 
 -- the test passes at some number of the list
 abbrev pub some : (ℕ → Bool) → List ℕ → Bool
@@ -26,7 +26,7 @@ some f (x ∷ xs) = f x || some f xs
 abbrev pub always : (List Bool → Bool) → List ℕ → ℕ → List ℕ → List Bool → Bool
 always good systems wanted [] marks = good marks
 always good systems wanted (c ∷ cs) marks =
-    elim (ltb (heldOf systems marks c) wanted) [
+    elim (ltb (containingOf systems marks c) wanted) [
       | true ↦ not (openOf marks c 0) && (some (openOf marks c) systems && every (λ s. not (openOf marks c s) || always good systems wanted cs (set marks s true)) systems)
       | false ↦ always good systems wanted cs marks
     ]
@@ -42,34 +42,34 @@ module _ (key : ℕ → ℕ) (marks : List Bool) (c : ℕ) where
     passed true b t e = t
     passed false b t e = absurd (of-true false e)
 
-    from-best : (systems : List ℕ) → T (passes systems) → (b : ℕ) → T (test b) → T (test (through (betterOf key marks c) systems b))
-    unfolding through
+    from-best : (systems : List ℕ) → T (passes systems) → (b : ℕ) → T (test b) → T (test (fold (betterOf key marks c) systems b))
+    unfolding fold
     from-best [] t b q = q
     from-best (s ∷ systems) t b q =
         from-best systems (and-right (not (openOf marks c s) || test s) (passes systems) t) (betterOf key marks c b s)
         (better-cases key marks c (λ x. T (test x)) b s
-        (λ h. passed (openOf marks c s) (test s) (and-left (not (openOf marks c s) || test s) (passes systems) t) (open-of-offer key marks c s (omega arith)))
+        (λ h. passed (openOf marks c s) (test s) (and-left (not (openOf marks c s) || test s) (passes systems) t) (open-of-score key marks c s (omega arith)))
         (λ h. q))
 
-    from-none : (systems : List ℕ) → T (passes systems) → T (some (openOf marks c) systems) → (b : ℕ) → offerOf key marks c b ≡ 0
-        → T (test (through (betterOf key marks c) systems b))
-    unfolding through
+    from-none : (systems : List ℕ) → T (passes systems) → T (some (openOf marks c) systems) → (b : ℕ) → scoreOf key marks c b ≡ 0
+        → T (test (fold (betterOf key marks c) systems b))
+    unfolding fold
     from-none [] t u b z = absurd u
     from-none (s ∷ systems) t u b z =
         go (openOf marks c s) refl
         (λ e. from-best systems (and-right (not (openOf marks c s) || test s) (passes systems) t) (betterOf key marks c b s)
-        (rw (better-next key marks c b s (omega (arith, offer-open key marks c s e))) (passed (openOf marks c s) (test s) (and-left (not (openOf marks c s) || test s) (passes systems) t) e)))
-        (λ e v. from-none systems (and-right (not (openOf marks c s) || test s) (passes systems) t) v (betterOf key marks c b s) (rw (better-before key marks c b s (omega (arith, offer-closed key marks c s e))) z)) u
+        (rw (better-next key marks c b s (omega (arith, score-open key marks c s e))) (passed (openOf marks c s) (test s) (and-left (not (openOf marks c s) || test s) (passes systems) t) e)))
+        (λ e v. from-none systems (and-right (not (openOf marks c s) || test s) (passes systems) t) v (betterOf key marks c b s) (rw (better-before key marks c b s (omega (arith, score-closed key marks c s e))) z)) u
       where
-        go : (o : Bool) → openOf marks c s ≡ o → (openOf marks c s ≡ true → T (test (through (betterOf key marks c) systems (betterOf key marks c b s))))
-            → (openOf marks c s ≡ false → T (some (openOf marks c) systems) → T (test (through (betterOf key marks c) systems (betterOf key marks c b s))))
-            → T (o || some (openOf marks c) systems) → T (test (through (betterOf key marks c) systems (betterOf key marks c b s)))
+        go : (o : Bool) → openOf marks c s ≡ o → (openOf marks c s ≡ true → T (test (fold (betterOf key marks c) systems (betterOf key marks c b s))))
+            → (openOf marks c s ≡ false → T (some (openOf marks c) systems) → T (test (fold (betterOf key marks c) systems (betterOf key marks c b s))))
+            → T (o || some (openOf marks c) systems) → T (test (fold (betterOf key marks c) systems (betterOf key marks c b s)))
         go true e f g v = f e
         go false e f g v = g e v
 
     pub fittest-passes : (systems : List ℕ) → T (not (openOf marks c 0)) → T (some (openOf marks c) systems) → T (passes systems) → T (test (fittestOf key systems marks c))
     unfolding fittestOf
-    fittest-passes systems n u t = from-none systems t u 0 (offer-closed key marks c 0 (closed (openOf marks c 0) n))
+    fittest-passes systems n u t = from-none systems t u 0 (score-closed key marks c 0 (closed (openOf marks c 0) n))
       where
         closed : (o : Bool) → T (not o) → o ≡ false
         closed true t = absurd t
@@ -80,9 +80,9 @@ module _ (key : ℕ → ℕ) (good : List Bool → Bool) (systems : List ℕ) (w
   take-good : (c : ℕ) (components : List ℕ) (marks : List Bool) → T (always good systems wanted (c ∷ components) marks)
       → T (always good systems wanted components (takeOf key systems wanted marks c))
   unfolding takeOf
-  take-good c components marks t = go (ltb (heldOf systems marks c) wanted) refl
+  take-good c components marks t = go (ltb (containingOf systems marks c) wanted) refl
     where
-      go : (b : Bool) → ltb (heldOf systems marks c) wanted ≡ b → T (always good systems wanted components (takeOf key systems wanted marks c))
+      go : (b : Bool) → ltb (containingOf systems marks c) wanted ≡ b → T (always good systems wanted components (takeOf key systems wanted marks c))
       go true e =
           let u : T (not (openOf marks c 0) && (some (openOf marks c) systems && passes key marks c (λ s. always good systems wanted components (set marks s true)) systems)) = rw (e, always) at t in
           let v = and-right (not (openOf marks c 0)) (some (openOf marks c) systems && passes key marks c (λ s. always good systems wanted components (set marks s true)) systems) u in
@@ -95,7 +95,7 @@ module _ (key : ℕ → ℕ) (good : List Bool → Bool) (systems : List ℕ) (w
 
   pub pass-good : (components : List ℕ) (marks : List Bool) → T (always good systems wanted components marks)
       → T (good (passOf key systems components wanted marks))
-  unfolding passOf through
+  unfolding passOf fold
   pass-good [] marks t = t
   pass-good (c ∷ components) marks t = pass-good components (takeOf key systems wanted marks c) (take-good c components marks t)
 
@@ -161,7 +161,7 @@ second marks = always goodMarks candidates 2 order marks
 
 -- so for every key
 passes-always : (key : ℕ → ℕ) → T (good (chosenOf candidates (marksOf key candidates order)))
-unfolding second goodMarks good marksOf choosable knownAt risesAt twiceAt paddedOf chosenOf listOf through heldOf hasOf memberOf elem countTo
+unfolding second goodMarks good marksOf choosable knownAt risesAt twiceAt paddedOf chosenOf listOf fold containingOf hasOf memberOf elem countTo
 passes-always key =
     pass-good key goodMarks candidates 2 order (passOf key candidates order 1 (replicate NUMBERS false))
     (pass-good key second candidates 1 order (replicate NUMBERS false) tt)

@@ -9,8 +9,8 @@ use lib.Dec.{T, eqb, leb, leb→le, le→leb}
 use borrow.Author.Tests.{eqb-true, eq-eqb}
 use Rattle.systems.specs.Systems.{COMPONENTS, memberOf, hasOf, elem, candidates}
 use Rattle.systems.specs.Table.{of-true, and-left, and-right, eachTo}
-use Rattle.systems.specs.Offers.{offer-open, offer-closed, open-of-offer, better-before, better-cases}
-use Rattle.systems.specs.Choice.{through, isChosen, openOf, offerOf, betterOf, fittestOf}
+use Rattle.systems.specs.Scores.{score-open, score-closed, open-of-score, better-before, better-cases}
+use Rattle.systems.specs.Choice.{fold, isChosen, openOf, scoreOf, betterOf, fittestOf}
 
 -- the numbers of the list rise, from b on
 abbrev rises : ℕ → List ℕ → Bool
@@ -47,37 +47,37 @@ elem-there n x xs h = go (eqb n x) refl
     go false e = rw (e, elem) h
 
 module _ (key : ℕ → ℕ) (marks : List Bool) (c : ℕ) where
-  abbrev offer : ℕ → ℕ
-  offer s = offerOf key marks c s
+  abbrev score : ℕ → ℕ
+  score s = scoreOf key marks c s
 
   abbrev best : List ℕ → ℕ → ℕ
-  best systems b = through (betterOf key marks c) systems b
+  best systems b = fold (betterOf key marks c) systems b
 
-  better-grows : (b x : ℕ) → offer b ≤ offer (betterOf key marks c b x)
-  better-grows b x = better-cases key marks c (λ y. offer b ≤ offer y) b x (λ h. omega arith) (λ h. omega arith)
+  better-grows : (b x : ℕ) → score b ≤ score (betterOf key marks c b x)
+  better-grows b x = better-cases key marks c (λ y. score b ≤ score y) b x (λ h. omega arith) (λ h. omega arith)
 
-  better-tops : (b x : ℕ) → offer x ≤ offer (betterOf key marks c b x)
-  better-tops b x = better-cases key marks c (λ y. offer x ≤ offer y) b x (λ h. omega arith) (λ h. omega arith)
+  better-tops : (b x : ℕ) → score x ≤ score (betterOf key marks c b x)
+  better-tops b x = better-cases key marks c (λ y. score x ≤ score y) b x (λ h. omega arith) (λ h. omega arith)
 
-  -- the best offers no less than what it began with
-  grows : (systems : List ℕ) (b : ℕ) → offer b ≤ offer (best systems b)
-  unfolding through
+  -- the best scores no less than what it began with
+  grows : (systems : List ℕ) (b : ℕ) → score b ≤ score (best systems b)
+  unfolding fold
   grows [] b = omega arith
   grows (x ∷ systems) b =
       omega (arith, grows systems (betterOf key marks c b x), better-grows b x)
 
   -- nor than any system of the list
-  tops : (systems : List ℕ) (b s : ℕ) → elem s systems ≡ true → offer s ≤ offer (best systems b)
-  unfolding through elem
+  tops : (systems : List ℕ) (b s : ℕ) → elem s systems ≡ true → score s ≤ score (best systems b)
+  unfolding fold elem
   tops [] b s e = absurd (of-true false e)
   tops (x ∷ systems) b s e =
-      elem-cases (offer s ≤ offer (best (x ∷ systems) b)) s x systems e
+      elem-cases (score s ≤ score (best (x ∷ systems) b)) s x systems e
       (λ p. rw p (omega (arith, grows systems (betterOf key marks c b x), better-tops b x)))
       (λ q. tops systems (betterOf key marks c b x) s q)
 
-  -- where nothing offers more, it is what it began with
-  stays : (systems : List ℕ) (b : ℕ) → offer (best systems b) ≤ offer b → best systems b ≡ b
-  unfolding through
+  -- where nothing scores more, it is what it began with
+  stays : (systems : List ℕ) (b : ℕ) → score (best systems b) ≤ score b → best systems b ≡ b
+  unfolding fold
   stays [] b h = refl
   stays (x ∷ systems) b h =
       let e : betterOf key marks c b x ≡ b = better-before key marks c b x (omega (arith, grows systems (betterOf key marks c b x), better-tops b x)) in
@@ -85,21 +85,21 @@ module _ (key : ℕ → ℕ) (marks : List Bool) (c : ℕ) where
 
   -- it is what it began with or one of the list
   among : (P : ℕ → Type 0) (systems : List ℕ) (b : ℕ) → P b → ((s : ℕ) → elem s systems ≡ true → P s) → P (best systems b)
-  unfolding through
+  unfolding fold
   among P [] b p f = p
   among P (x ∷ systems) b p f =
       among P systems (betterOf key marks c b x) (better-cases key marks c P b x (λ h. f x (elem-here x systems)) (λ h. p)) (λ s e. f s (elem-there s x systems e))
 
-  -- and none that offers as much has a lower number
-  lowest-best : (systems : List ℕ) (b s : ℕ) → T (rises b systems) → elem s systems ≡ true → offer s ≡ offer (best systems b) → best systems b ≤ s
-  unfolding through elem
+  -- and none that scores as much has a lower number
+  lowest-best : (systems : List ℕ) (b s : ℕ) → T (rises b systems) → elem s systems ≡ true → score s ≡ score (best systems b) → best systems b ≤ s
+  unfolding fold elem
   lowest-best [] b s t e q = absurd (of-true false e)
   lowest-best (x ∷ systems) b s t e q =
       let l : b ≤ x = leb→le b x (and-left (leb b x) (rises x systems) t) in
       let u : T (rises x systems) = and-right (leb b x) (rises x systems) t in
       elem-cases (best (x ∷ systems) b ≤ s) s x systems e
       (λ p.
-      let z : best systems (betterOf key marks c b x) ≡ betterOf key marks c b x = stays systems (betterOf key marks c b x) (omega (arith, better-tops b x, ap offer p)) in
+      let z : best systems (betterOf key marks c b x) ≡ betterOf key marks c b x = stays systems (betterOf key marks c b x) (omega (arith, better-tops b x, ap score p)) in
       omega (arith, z, better-cases key marks c (λ y. y ≤ x) b x (λ h. omega arith) (λ h. l)))
       (λ r. lowest-best systems (betterOf key marks c b x) s (better-cases key marks c (λ y. T (rises y systems)) b x (λ h. u) (λ h. rises-lower b x systems l u)) r q)
 
@@ -116,21 +116,21 @@ module _ (key : ℕ → ℕ) (systems : List ℕ) (marks : List Bool) (c : ℕ) 
   abbrev f : ℕ
   f = fittestOf key systems marks c
 
-  some-offer : 0 < offerOf key marks c f
+  some-score : 0 < scoreOf key marks c f
   unfolding fittestOf
-  some-offer = omega (arith, tops key marks c systems 0 s e, offer-open key marks c s o)
+  some-score = omega (arith, tops key marks c systems 0 s e, score-open key marks c s o)
 
   f-open : openOf marks c f ≡ true
-  f-open = open-of-offer key marks c f some-offer
+  f-open = open-of-score key marks c f some-score
 
   fittest-is : Fittest key systems marks c f
   unfolding fittestOf
   fittest-is =
       record {
-        listed = among key marks c (λ x. 0 < offerOf key marks c x → elem x systems ≡ true) systems 0 (λ h. let z = offer-closed key marks c 0 n in absurd (omega arith)) (λ x p h. p) some-offer;
+        listed = among key marks c (λ x. 0 < scoreOf key marks c x → elem x systems ≡ true) systems 0 (λ h. let z = score-closed key marks c 0 n in absurd (omega arith)) (λ x p h. p) some-score;
         free = f-open;
-        greatest = λ x p q. omega (arith, tops key marks c systems 0 x p, offer-open key marks c x q, offer-open key marks c f f-open);
-        lowest = λ x p q r. lowest-best key marks c systems 0 x t p (offer-open key marks c x q ∙ ap (λ (k : ℕ). k + 1) r ∙ sym (offer-open key marks c f f-open));
+        greatest = λ x p q. omega (arith, tops key marks c systems 0 x p, score-open key marks c x q, score-open key marks c f f-open);
+        lowest = λ x p q r. lowest-best key marks c systems 0 x t p (score-open key marks c x q ∙ ap (λ (k : ℕ). k + 1) r ∙ sym (score-open key marks c f f-open));
       }
 
 -- number 0 contains no component
