@@ -1,14 +1,15 @@
 -- The definitions of the choice, case by case.
 use Prim.Native.Nat.{ℕ, _+_, _≤_, _<_}
-use mathlib.Core.Path.{_≡_, refl, sym, ap}
-use mathlib.Core.Bool.{Bool, true, false, not, _&&_}
+use mathlib.Core.Path.{_≡_, sym}
+use mathlib.Core.Bool.{Bool, true, false, _&&_}
 use mathlib.Core.List.{List}
-use lib.Dec.{T, ltb, ltb→lt}
+use lib.Dec.{ltb, ltb→lt}
 use lib.ListN.{getD, set, length}
 use borrow.Author.Tests.{lt-ltb, le-ltb}
 use Rattle.systems.specs.Systems.{hasOf, candidates}
-use Rattle.systems.specs.Table.{everyTo, eachTo}
-use Rattle.systems.specs.Choice.{NUMBERS, isChosen, oneIf, heldOf, openOf, offerOf, betterOf, fittestOf, takeOf}
+use Rattle.systems.specs.Table.{eachTo}
+use Rattle.systems.specs.Scores.{better-next, better-before}
+use Rattle.systems.specs.Choice.{NUMBERS, isChosen, oneIf, containingOf, scoreOf, betterOf, fittestOf, takeOf}
 
 -- every candidate's number has a mark
 low : ℕ → Bool
@@ -29,31 +30,29 @@ module _ (a b : Bool) where
   one-if-both e f = rw (e, f)
 
 module _ (key : ℕ → ℕ) (marks : List Bool) (c s : ℕ) where
-  pub offer-lacks : hasOf s c ≡ false → 0 ≡ offerOf key marks c s
-  unfolding offerOf
-  offer-lacks e = rw (e, offerOf)
+  pub score-lacks : hasOf s c ≡ false → 0 ≡ scoreOf key marks c s
+  unfolding scoreOf
+  score-lacks e = rw (e, scoreOf)
 
-  pub offer-chosen : isChosen marks s ≡ true → hasOf s c ≡ true → 0 ≡ offerOf key marks c s
-  unfolding offerOf
-  offer-chosen e f = rw (e, f, offerOf)
+  pub score-chosen : isChosen marks s ≡ true → hasOf s c ≡ true → 0 ≡ scoreOf key marks c s
+  unfolding scoreOf
+  score-chosen e f = rw (e, f, scoreOf)
 
-  pub offer-open : (x : ℕ) → isChosen marks s ≡ false → hasOf s c ≡ true → x ≡ key s → x + 1 ≡ offerOf key marks c s
-  unfolding offerOf
-  offer-open x e f k = rw (e, f, k, offerOf)
+  pub score-open : (x : ℕ) → isChosen marks s ≡ false → hasOf s c ≡ true → x ≡ key s → x + 1 ≡ scoreOf key marks c s
+  unfolding scoreOf
+  score-open x e f k = rw (e, f, k, scoreOf)
 
-  pub better-next : (b x y : ℕ) → x ≡ offerOf key marks c b → y ≡ offerOf key marks c s → x < y → s ≡ betterOf key marks c b s
-  unfolding betterOf
-  better-next b x y p q h = rw (lt-ltb (offerOf key marks c b) (offerOf key marks c s) (rw (← p, ← q) h), betterOf)
+  pub best-next : (b x y : ℕ) → x ≡ scoreOf key marks c b → y ≡ scoreOf key marks c s → x < y → s ≡ betterOf key marks c b s
+  best-next b x y p q h = sym (better-next key marks c b s (rw (← p, ← q) h))
 
-  pub better-before : (b x y : ℕ) → x ≡ offerOf key marks c b → y ≡ offerOf key marks c s → y ≤ x → b ≡ betterOf key marks c b s
-  unfolding betterOf
-  better-before b x y p q h = rw (le-ltb (offerOf key marks c b) (offerOf key marks c s) (rw (← p, ← q) h), betterOf)
+  pub best-before : (b x y : ℕ) → x ≡ scoreOf key marks c b → y ≡ scoreOf key marks c s → y ≤ x → b ≡ betterOf key marks c b s
+  best-before b x y p q h = sym (better-before key marks c b s (rw (← p, ← q) h))
 
-module _ (key : ℕ → ℕ) (systems : List ℕ) (wanted : ℕ) (marks : List Bool) (c n : ℕ) (e : n ≡ heldOf systems marks c) where
+module _ (key : ℕ → ℕ) (systems : List ℕ) (wanted : ℕ) (marks : List Bool) (c n : ℕ) (e : n ≡ containingOf systems marks c) where
   pub take-one : (s : ℕ) → n < wanted → s ≡ fittestOf key systems marks c → set marks s true ≡ takeOf key systems wanted marks c
   unfolding takeOf
-  take-one s h f = rw (lt-ltb (heldOf systems marks c) wanted (rw (← e) h), f, takeOf)
+  take-one s h f = rw (lt-ltb (containingOf systems marks c) wanted (rw (← e) h), f, takeOf)
 
   pub take-none : wanted ≤ n → marks ≡ takeOf key systems wanted marks c
   unfolding takeOf
-  take-none h = rw (le-ltb (heldOf systems marks c) wanted (rw (← e) h), takeOf)
+  take-none h = rw (le-ltb (containingOf systems marks c) wanted (rw (← e) h), takeOf)

@@ -7,7 +7,7 @@ use native.Mathlib.Omega.{arith}
 use lib.ListN.{getD, set, length, drop, replicate, length-append}
 use lib.Seq.{set-at, append-snoc}
 use Rattle.systems.specs.Systems.{candidates}
-use Rattle.systems.specs.Choice.{NUMBERS, SYSTEMS, order, through, isChosen, fitnessOf, passOf, marksOf, listOf, chosenOf, chooseOf, paddedOf, answerOf, choiceOf}
+use Rattle.systems.specs.Choice.{NUMBERS, SYSTEMS, order, fold, isChosen, fitnessOf, passOf, marksOf, listOf, chosenOf, chooseOf, paddedOf, answerOf, choiceOf}
 use Rattle.systems.specs.declared.Choice.{Choice}
 use Rattle.systems.proofs.Loops.{next, done}
 
@@ -26,7 +26,7 @@ pub record Listed (marks : List Bool) (count : ℕ) (systems : List ℕ) (i : �
   pub padded : systems ≡ paddedOf sofar
   pub few : length sofar ≤ i
   pub most : i ≤ length candidates
-  pub rest : through (listOf marks) (drop i candidates) sofar ≡ chosenOf candidates marks
+  pub rest : fold (listOf marks) (drop i candidates) sofar ≡ chosenOf candidates marks
 
 module _ (marks : List Bool) where
   pub listed-none : Listed marks 0 (replicate SYSTEMS 0) 0

@@ -1,14 +1,13 @@
 -- A weight is at most 100, so a weighted amount of 32 bits stays small; and where there is no component, nothing weighs.
 use Prim.Native.Nat.{ℕ, _+_, _*_, _≤_, _<_}
-use mathlib.Core.Path.{_≡_, refl, ap, ap₂, _∙_}
+use mathlib.Core.Path.{_≡_, ap, ap₂, _∙_}
 use mathlib.Core.Bool.{Bool}
 use mathlib.Core.List.{List}
-use native.Mathlib.Omega.{arith}
 use native.Mathlib.Nat.{zero-mul, mul-le-mul}
-use lib.Dec.{T, leb, leb→le}
-use lib.ListN.{getD, length, List·getD-eq-default}
+use lib.Dec.{leb, leb→le}
+use lib.ListN.{getD, List·getD-eq-default}
 use Rattle.systems.specs.Systems.{COMPONENTS, memberOf}
-use Rattle.systems.specs.Table.{everyTo, eachTo}
+use Rattle.systems.specs.Table.{eachTo}
 use Rattle.systems.specs.Choice.{weights, weightedOf, fitnessOf}
 
 light : ℕ → Bool

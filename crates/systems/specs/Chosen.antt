@@ -3,18 +3,19 @@
 --
 -- Nothing of the key is used but that a component takes some system that contains it and is not chosen: one test is
 -- computed over every way to take such systems. Assumes nothing.
-use Prim.Native.Nat.{ℕ, zero, suc, _+_, _≤_, _<_}
-use mathlib.Core.Path.{_≡_, refl, sym}
+use Prim.Native.Nat.{ℕ, _≤_, _<_}
+use mathlib.Core.Path.{_≡_, refl}
 use mathlib.Core.List.{List, [], _∷_}
 use mathlib.Core.Bool.{Bool, true, false, not, _&&_, _||_}
 use native.Mathlib.Omega.{arith}
 use lib.Dec.{T, eqb, ltb, leb, eqb→eq, ltb→lt, leb→le}
 use lib.ListN.{getD, set, length, replicate}
-use borrow.Author.Tests.{ltb-true, ltb-false, lt-ltb, le-ltb}
+use borrow.Author.Tests.{lt-ltb}
 use Rattle.systems.specs.Systems.{COMPONENTS, memberOf, hasOf, elem, candidates, Candidate}
 use Rattle.systems.specs.Table.{of-true, to-true, and-left, and-right, every, everyTo, eachTo}
 use Rattle.systems.specs.Members.{countTo}
-use Rattle.systems.specs.Choice.{NUMBERS, order, through, heldOf, openOf, offerOf, betterOf, fittestOf, takeOf, passOf, marksOf, listOf, chosenOf, chooseOf, paddedOf, choiceOf, fitnessOf}
+use Rattle.systems.specs.Scores.{score-open, score-closed, open-of-score, better-next, better-before, better-cases}
+use Rattle.systems.specs.Choice.{NUMBERS, order, fold, containingOf, openOf, scoreOf, betterOf, fittestOf, takeOf, passOf, marksOf, listOf, chosenOf, chooseOf, paddedOf, choiceOf, fitnessOf}
 
 -- the test passes at some number of the list
 abbrev pub some : (ℕ → Bool) → List ℕ → Bool
@@ -25,44 +26,13 @@ some f (x ∷ xs) = f x || some f xs
 abbrev pub always : (List Bool → Bool) → List ℕ → ℕ → List ℕ → List Bool → Bool
 always good systems wanted [] marks = good marks
 always good systems wanted (c ∷ cs) marks =
-    elim (ltb (heldOf systems marks c) wanted) [
+    elim (ltb (containingOf systems marks c) wanted) [
       | true ↦ not (openOf marks c 0) && (some (openOf marks c) systems && every (λ s. not (openOf marks c s) || always good systems wanted cs (set marks s true)) systems)
       | false ↦ always good systems wanted cs marks
     ]
 
 -- what holds of every open system of the list holds of the best one
 module _ (key : ℕ → ℕ) (marks : List Bool) (c : ℕ) where
-  offers : (s : ℕ) → openOf marks c s ≡ true → offerOf key marks c s ≡ key s + 1
-  unfolding offerOf
-  offers s e = rw (e, offerOf)
-
-  offers-none : (s : ℕ) → openOf marks c s ≡ false → offerOf key marks c s ≡ 0
-  unfolding offerOf
-  offers-none s e = rw (e, offerOf)
-
-  -- a system that is better than another is open
-  better-open : (b s : ℕ) (o : Bool) → openOf marks c s ≡ o → offerOf key marks c b < offerOf key marks c s → openOf marks c s ≡ true
-  better-open b s true e h = e
-  better-open b s false e h = let z = offers-none s e in absurd (omega arith)
-
-  -- the better of two is the next one, which is open, or the one before
-  better-cases : (P : ℕ → Type 0) (b s : ℕ) → (openOf marks c s ≡ true → P s) → P b → P (betterOf key marks c b s)
-  unfolding betterOf
-  better-cases P b s f p = go (ltb (offerOf key marks c b) (offerOf key marks c s)) refl
-    where
-      go : (o : Bool) → ltb (offerOf key marks c b) (offerOf key marks c s) ≡ o → P (betterOf key marks c b s)
-      go true e = rw (e, betterOf) (f (better-open b s (openOf marks c s) refl (ltb-true (offerOf key marks c b) (offerOf key marks c s) e)))
-      go false e = rw (e, betterOf) p
-
-  -- an open one is better than none, and one that is not open is never better
-  better-first : (b s : ℕ) → offerOf key marks c b ≡ 0 → openOf marks c s ≡ true → betterOf key marks c b s ≡ s
-  unfolding betterOf
-  better-first b s z e = rw (lt-ltb (offerOf key marks c b) (offerOf key marks c s) (omega (arith, offers s e)), betterOf)
-
-  better-before : (b s : ℕ) → openOf marks c s ≡ false → betterOf key marks c b s ≡ b
-  unfolding betterOf
-  better-before b s e = rw (le-ltb (offerOf key marks c b) (offerOf key marks c s) (omega (arith, offers-none s e)), betterOf)
-
   module _ (test : ℕ → Bool) where
     -- the test passes at each open system
     abbrev passes : List ℕ → Bool
@@ -72,32 +42,34 @@ module _ (key : ℕ → ℕ) (marks : List Bool) (c : ℕ) where
     passed true b t e = t
     passed false b t e = absurd (of-true false e)
 
-    from-best : (systems : List ℕ) → T (passes systems) → (b : ℕ) → T (test b) → T (test (through (betterOf key marks c) systems b))
-    unfolding through
+    from-best : (systems : List ℕ) → T (passes systems) → (b : ℕ) → T (test b) → T (test (fold (betterOf key marks c) systems b))
+    unfolding fold
     from-best [] t b q = q
     from-best (s ∷ systems) t b q =
         from-best systems (and-right (not (openOf marks c s) || test s) (passes systems) t) (betterOf key marks c b s)
-        (better-cases (λ x. T (test x)) b s (passed (openOf marks c s) (test s) (and-left (not (openOf marks c s) || test s) (passes systems) t)) q)
+        (better-cases key marks c (λ x. T (test x)) b s
+        (λ h. passed (openOf marks c s) (test s) (and-left (not (openOf marks c s) || test s) (passes systems) t) (open-of-score key marks c s (omega arith)))
+        (λ h. q))
 
-    from-none : (systems : List ℕ) → T (passes systems) → T (some (openOf marks c) systems) → (b : ℕ) → offerOf key marks c b ≡ 0
-        → T (test (through (betterOf key marks c) systems b))
-    unfolding through
+    from-none : (systems : List ℕ) → T (passes systems) → T (some (openOf marks c) systems) → (b : ℕ) → scoreOf key marks c b ≡ 0
+        → T (test (fold (betterOf key marks c) systems b))
+    unfolding fold
     from-none [] t u b z = absurd u
     from-none (s ∷ systems) t u b z =
         go (openOf marks c s) refl
         (λ e. from-best systems (and-right (not (openOf marks c s) || test s) (passes systems) t) (betterOf key marks c b s)
-        (rw (better-first b s z e) (passed (openOf marks c s) (test s) (and-left (not (openOf marks c s) || test s) (passes systems) t) e)))
-        (λ e v. from-none systems (and-right (not (openOf marks c s) || test s) (passes systems) t) v (betterOf key marks c b s) (rw (better-before b s e) z)) u
+        (rw (better-next key marks c b s (omega (arith, score-open key marks c s e))) (passed (openOf marks c s) (test s) (and-left (not (openOf marks c s) || test s) (passes systems) t) e)))
+        (λ e v. from-none systems (and-right (not (openOf marks c s) || test s) (passes systems) t) v (betterOf key marks c b s) (rw (better-before key marks c b s (omega (arith, score-closed key marks c s e))) z)) u
       where
-        go : (o : Bool) → openOf marks c s ≡ o → (openOf marks c s ≡ true → T (test (through (betterOf key marks c) systems (betterOf key marks c b s))))
-            → (openOf marks c s ≡ false → T (some (openOf marks c) systems) → T (test (through (betterOf key marks c) systems (betterOf key marks c b s))))
-            → T (o || some (openOf marks c) systems) → T (test (through (betterOf key marks c) systems (betterOf key marks c b s)))
+        go : (o : Bool) → openOf marks c s ≡ o → (openOf marks c s ≡ true → T (test (fold (betterOf key marks c) systems (betterOf key marks c b s))))
+            → (openOf marks c s ≡ false → T (some (openOf marks c) systems) → T (test (fold (betterOf key marks c) systems (betterOf key marks c b s))))
+            → T (o || some (openOf marks c) systems) → T (test (fold (betterOf key marks c) systems (betterOf key marks c b s)))
         go true e f g v = f e
         go false e f g v = g e v
 
     pub fittest-passes : (systems : List ℕ) → T (not (openOf marks c 0)) → T (some (openOf marks c) systems) → T (passes systems) → T (test (fittestOf key systems marks c))
     unfolding fittestOf
-    fittest-passes systems n u t = from-none systems t u 0 (offers-none 0 (closed (openOf marks c 0) n))
+    fittest-passes systems n u t = from-none systems t u 0 (score-closed key marks c 0 (closed (openOf marks c 0) n))
       where
         closed : (o : Bool) → T (not o) → o ≡ false
         closed true t = absurd t
@@ -108,9 +80,9 @@ module _ (key : ℕ → ℕ) (good : List Bool → Bool) (systems : List ℕ) (w
   take-good : (c : ℕ) (components : List ℕ) (marks : List Bool) → T (always good systems wanted (c ∷ components) marks)
       → T (always good systems wanted components (takeOf key systems wanted marks c))
   unfolding takeOf
-  take-good c components marks t = go (ltb (heldOf systems marks c) wanted) refl
+  take-good c components marks t = go (ltb (containingOf systems marks c) wanted) refl
     where
-      go : (b : Bool) → ltb (heldOf systems marks c) wanted ≡ b → T (always good systems wanted components (takeOf key systems wanted marks c))
+      go : (b : Bool) → ltb (containingOf systems marks c) wanted ≡ b → T (always good systems wanted components (takeOf key systems wanted marks c))
       go true e =
           let u : T (not (openOf marks c 0) && (some (openOf marks c) systems && passes key marks c (λ s. always good systems wanted components (set marks s true)) systems)) = rw (e, always) at t in
           let v = and-right (not (openOf marks c 0)) (some (openOf marks c) systems && passes key marks c (λ s. always good systems wanted components (set marks s true)) systems) u in
@@ -123,7 +95,7 @@ module _ (key : ℕ → ℕ) (good : List Bool → Bool) (systems : List ℕ) (w
 
   pub pass-good : (components : List ℕ) (marks : List Bool) → T (always good systems wanted components marks)
       → T (good (passOf key systems components wanted marks))
-  unfolding passOf through
+  unfolding passOf fold
   pass-good [] marks t = t
   pass-good (c ∷ components) marks t = pass-good components (takeOf key systems wanted marks c) (take-good c components marks t)
 
@@ -189,7 +161,7 @@ second marks = always goodMarks candidates 2 order marks
 
 -- so for every key
 passes-always : (key : ℕ → ℕ) → T (good (chosenOf candidates (marksOf key candidates order)))
-unfolding second goodMarks good marksOf choosable knownAt risesAt twiceAt paddedOf chosenOf listOf through heldOf hasOf memberOf elem countTo
+unfolding second goodMarks good marksOf choosable knownAt risesAt twiceAt paddedOf chosenOf listOf fold containingOf hasOf memberOf elem countTo
 passes-always key =
     pass-good key goodMarks candidates 2 order (passOf key candidates order 1 (replicate NUMBERS false))
     (pass-good key second candidates 1 order (replicate NUMBERS false) tt)

@@ -3,7 +3,7 @@ use Prim.Native.Nat.{ℕ}
 use mathlib.Core.Path.{_≡_, refl}
 use mathlib.Core.List.{List, [], _∷_}
 use Rattle.systems.specs.Systems.{memberOf, hasOf}
-use Rattle.systems.specs.Choice.{through, heldOf, offerOf, betterOf, fittestOf, takeOf, passOf, marksOf, listOf, chosenOf, chooseOf, fitnessOf}
+use Rattle.systems.specs.Choice.{fold, containingOf, scoreOf, betterOf, fittestOf, takeOf, passOf, marksOf, listOf, chosenOf, chooseOf, fitnessOf}
 
 -- its simplified mixture
 abbrev pub tableA1 : List ℕ
@@ -14,5 +14,5 @@ unfolding fitnessOf memberOf
 fitness = (refl, refl, refl, refl)
 
 pub choice : chooseOf tableA1 ≡ 4 ∷ 7 ∷ 8 ∷ []
-unfolding chooseOf marksOf passOf takeOf heldOf fittestOf betterOf offerOf chosenOf listOf through fitnessOf hasOf memberOf
+unfolding chooseOf marksOf passOf takeOf containingOf fittestOf betterOf scoreOf chosenOf listOf fold fitnessOf hasOf memberOf
 choice = refl

@@ -4,7 +4,7 @@ ghost use mathlib.Core.Bool.{Bool, true, false, _&&_};
 ghost use Prim.Native.Nat.{_*_, _/_, _%_, _^_, _<_, _≤_};
 ghost use lib.ListN.{getD, length};
 ghost use Rattle.systems.specs.Systems.{memberOf, hasOf, candidates};
-ghost use Rattle.systems.specs.Choice.{NUMBERS, order, weightedOf, fitnessOf, isChosen, oneIf, heldOf, openOf, offerOf, betterOf, fittestOf, takeOf, passOf, answerOf, chosenOf, choiceOf};
+ghost use Rattle.systems.specs.Choice.{NUMBERS, order, weightedOf, fitnessOf, isChosen, oneIf, containingOf, openOf, scoreOf, betterOf, fittestOf, takeOf, passOf, answerOf, chosenOf, choiceOf};
 
 // How many components there are: methane 0, ethane 1, propane 2, butane 3.
 const COMPONENTS: usize = 4;
@@ -136,8 +136,8 @@ fn one_if(marks: &[bool; MARKS], system: u8, c: usize) -> usize
 }
 
 // How many of the chosen systems contain component c.
-fn held(marks: &[bool; MARKS], c: usize) -> usize
-    ensures { λ r. ⌜ r ≡ heldOf candidates (now (marks .entry)) c ⌝ }
+fn containing(marks: &[bool; MARKS], c: usize) -> usize
+    ensures { λ r. ⌜ r ≡ containingOf candidates (now (marks .entry)) c ⌝ }
 {
     let mut n: usize = 0;
     let mut i: usize = 0;
@@ -148,10 +148,10 @@ fn held(marks: &[bool; MARKS], c: usize) -> usize
     n
 }
 
-// What a system has to offer component c: 0 where it cannot be taken, else its fitness and 1.
-fn offer(m: &[u32; COMPONENTS], marks: &[bool; MARKS], c: usize, system: u8) -> u64
+// A system's score for component c: 0 where it cannot be taken, else its fitness and 1.
+fn score(m: &[u32; COMPONENTS], marks: &[bool; MARKS], c: usize, system: u8) -> u64
     requires { ⌜ system < NUMBERS ⌝ }
-    ensures { λ r. ⌜ r ≡ offerOf (fitnessOf (now (m .entry))) (now (marks .entry)) c system ⌝ }
+    ensures { λ r. ⌜ r ≡ scoreOf (fitnessOf (now (m .entry))) (now (marks .entry)) c system ⌝ }
 {
     if !has(system, c) {
         return 0;
@@ -167,7 +167,7 @@ fn better(m: &[u32; COMPONENTS], marks: &[bool; MARKS], c: usize, best: u8, syst
     requires { ⌜ (best < NUMBERS) × (system < NUMBERS) ⌝ }
     ensures { λ r. ⌜ (r ≡ betterOf (fitnessOf (now (m .entry))) (now (marks .entry)) c best system) × (r < NUMBERS) ⌝ }
 {
-    if offer(m, marks, c, best) < offer(m, marks, c, system) {
+    if score(m, marks, c, best) < score(m, marks, c, system) {
         return system;
     }
     best
@@ -190,7 +190,7 @@ fn fittest(m: &[u32; COMPONENTS], marks: &[bool; MARKS], c: usize) -> u8
 fn take(m: &[u32; COMPONENTS], marks: &mut [bool; MARKS], wanted: usize, c: usize)
     ensures { λ _. ⌜ now (marks .exit) ≡ takeOf (fitnessOf (now (m .entry))) candidates wanted (now (marks .entry)) c ⌝ }
 {
-    if held(marks, c) < wanted {
+    if containing(marks, c) < wanted {
         let s = fittest(m, marks, c) as usize;
         marks[s] = true;
     }

@@ -4,14 +4,14 @@ use mathlib.Core.Path.{_≡_, refl}
 use native.Mathlib.Omega.{arith}
 use lib.ListN.{drop, length}
 use borrow.Author.Needs.{needs}
-use Rattle.systems.specs.Choice.{NUMBERS, through, betterOf, fitnessOf, fittestOf}
+use Rattle.systems.specs.Choice.{NUMBERS, fold, betterOf, fitnessOf, fittestOf}
 use Rattle.systems.specs.Systems.{candidates}
 use Rattle.systems.proofs.Loops.{next, done}
 use Rattle.systems.proofs.fittest.Statement.{statement}
 use Rattle.systems.proofs.fittest.Tie as tie
 
 abbrev Inv-loop : tie.InvT-loop
-Inv-loop m marks c best₀ i₀ best i = (i ≤ length candidates) × (best < NUMBERS) × (through (betterOf (fitnessOf m) marks c) (drop i candidates) best ≡ fittestOf (fitnessOf m) candidates marks c)
+Inv-loop m marks c best₀ i₀ best i = (i ≤ length candidates) × (best < NUMBERS) × (fold (betterOf (fitnessOf m) marks c) (drop i candidates) best ≡ fittestOf (fitnessOf m) candidates marks c)
 
 abbrev μ-loop : tie.MeasureT-loop
 μ-loop m marks c best₀ i₀ best i = length candidates - i

@@ -4,14 +4,14 @@ use mathlib.Core.Path.{_≡_, refl}
 use native.Mathlib.Omega.{arith}
 use lib.ListN.{drop, length}
 use borrow.Author.Needs.{needs}
-use Rattle.systems.specs.Choice.{through, order, takeOf, passOf, fitnessOf}
+use Rattle.systems.specs.Choice.{fold, order, takeOf, passOf, fitnessOf}
 use Rattle.systems.specs.Systems.{candidates}
 use Rattle.systems.proofs.Loops.{next, done}
 use Rattle.systems.proofs.pass.Statement.{statement}
 use Rattle.systems.proofs.pass.Tie as tie
 
 abbrev Inv-loop : tie.InvT-loop
-Inv-loop m marks₀ wanted i₀ marks i = (i ≤ length order) × (through (takeOf (fitnessOf m) candidates wanted) (drop i order) marks ≡ passOf (fitnessOf m) candidates order wanted marks₀)
+Inv-loop m marks₀ wanted i₀ marks i = (i ≤ length order) × (fold (takeOf (fitnessOf m) candidates wanted) (drop i order) marks ≡ passOf (fitnessOf m) candidates order wanted marks₀)
 
 abbrev μ-loop : tie.MeasureT-loop
 μ-loop m marks₀ wanted i₀ marks i = length order - i

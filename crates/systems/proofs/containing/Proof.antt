@@ -1,23 +1,23 @@
--- `systems::held` meets its contract. Assumes nothing.
+-- `systems::containing` meets its contract. Assumes nothing.
 use Prim.Native.Nat.{ℕ, _+_, _-_, _≤_}
 use mathlib.Core.Path.{_≡_, refl, ap}
 use native.Mathlib.Omega.{arith}
 use lib.ListN.{drop, length}
 use borrow.Author.Needs.{needs}
-use Rattle.systems.specs.Choice.{through, countOf, heldOf}
+use Rattle.systems.specs.Choice.{fold, countOf, containingOf}
 use Rattle.systems.specs.Systems.{candidates}
 use Rattle.systems.proofs.Loops.{next, done}
-use Rattle.systems.proofs.held.Statement.{statement}
-use Rattle.systems.proofs.held.Tie as tie
+use Rattle.systems.proofs.containing.Statement.{statement}
+use Rattle.systems.proofs.containing.Tie as tie
 
 abbrev Inv-loop : tie.InvT-loop
-Inv-loop marks c n₀ i₀ n i = (i ≤ length candidates) × (n ≤ i) × (through (countOf marks c) (drop i candidates) n ≡ heldOf candidates marks c)
+Inv-loop marks c n₀ i₀ n i = (i ≤ length candidates) × (n ≤ i) × (fold (countOf marks c) (drop i candidates) n ≡ containingOf candidates marks c)
 
 abbrev μ-loop : tie.MeasureT-loop
 μ-loop marks c n₀ i₀ n i = length candidates - i
 
 loop-holds : tie.Need-loop-holds Inv-loop μ-loop
-unfolding heldOf
+unfolding containingOf
 loop-holds c = (omega arith, omega arith, refl)
 
 candidate-requires : tie.Need-candidate-requires Inv-loop μ-loop
@@ -41,8 +41,8 @@ loop-again c = (omega arith, omega (arith, c .one-if .ensures .1), next (countOf
 returns : tie.Need-returns Inv-loop μ-loop
 returns c = done (countOf (c .before .before .args .marks .now) (c .before .before .args .c)) candidates _ _ _ (c .loop-test .left) (c .before .loop .inv .2)
 
-pub held-spec : {M : Type 1} → statement M
-held-spec =
+pub containing-spec : {M : Type 1} → statement M
+containing-spec =
     tie.close
     (tie.spec
     Inv-loop
