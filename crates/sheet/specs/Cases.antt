@@ -300,22 +300,22 @@ module _ (a : List ℕ) (p : Split) where
         go true false v e f g h = absurd (eqb-false _ _ f h)
         go false u v e f g h = absurd (omega arith)
 
-  module _ (b : List ℕ) (code : ℕ) where
-    pub written-length : writeRefusal a p (length b) ≡ 0 → writtenOf a p b code ≡ w.Length (length (sheetOf a p))
+  module _ (size code : ℕ) where
+    pub written-length : writeRefusal a p size ≡ 0 → writtenOf a p size code ≡ w.Length (length (sheetOf a p))
     unfolding writtenOf
     written-length e = rw e
 
-    pub written-refused : (n : ℕ) → writeRefusal a p (length b) ≡ n → (n ≡ 0 → ⊥) → writtenOf a p b code ≡ w.Refused n (ifElse (eqb n 5) code 0)
+    pub written-refused : (n : ℕ) → writeRefusal a p size ≡ n → (n ≡ 0 → ⊥) → writtenOf a p size code ≡ w.Refused n (ifElse (eqb n 5) code 0)
     unfolding writtenOf
     written-refused n e z = rw (e, ne-eqb _ _ z)
 
-    pub written-back : {n : ℕ} → writtenOf a p b code ≡ w.Length n → (writeRefusal a p (length b) ≡ 0) × (n ≡ length (sheetOf a p))
+    pub written-back : {n : ℕ} → writtenOf a p size code ≡ w.Length n → (writeRefusal a p size ≡ 0) × (n ≡ length (sheetOf a p))
     unfolding writtenOf
-    written-back {n} h = go (eqb (writeRefusal a p (length b)) 0) refl h
+    written-back {n} h = go (eqb (writeRefusal a p size) 0) refl h
       where
-        go : (t : Bool) → eqb (writeRefusal a p (length b)) 0 ≡ t
-            → ifElse t (w.Length (length (sheetOf a p))) (w.Refused (writeRefusal a p (length b)) (ifElse (eqb (writeRefusal a p (length b)) 5) code 0)) ≡ w.Length n
-            → (writeRefusal a p (length b) ≡ 0) × (n ≡ length (sheetOf a p))
+        go : (t : Bool) → eqb (writeRefusal a p size) 0 ≡ t
+            → ifElse t (w.Length (length (sheetOf a p))) (w.Refused (writeRefusal a p size) (ifElse (eqb (writeRefusal a p size) 5) code 0)) ≡ w.Length n
+            → (writeRefusal a p size ≡ 0) × (n ≡ length (sheetOf a p))
         go true e h = (eqb-true _ _ e, cc)
         go false e h = let z : _≡_ {A = ℕ} 0 1 = cc in absurd (never z)
 

@@ -217,19 +217,19 @@ read-bytes (x ∷ xs) p k allowed passed code =
     passed
 
 -- reading what was written into a buffer gives the same analysis and the same split
-pub read-written : (a : List ℕ) (p : Split) → Sized a p → (b : List ℕ) (n code code' : ℕ) → writtenOf a p b code ≡ w.Length n
+pub read-written : (a : List ℕ) (p : Split) → Sized a p → (b : List ℕ) (n code code' : ℕ) → writtenOf a p (length b) code ≡ w.Length n
     → readOf (take n (leftOf a p b)) code' ≡ asRead a (trimmed p)
 read-written a p k b n code code' h =
-    let g = written-back a p b code h in
+    let g = written-back a p (length b) code h in
     let c = number-back a p (length b) (g .0) in
     let e = ap (λ (l : List ℕ). take n l) (left-sheet a p b (g .0)) ∙ take-at (sheetOf a p) (drop (length (sheetOf a p)) b) n (sym (g .1)) in
     ap (λ (l : List ℕ). readOf l code') e ∙ read-bytes a p k (c .0) (c .1) code'
 
 -- the very same split where its unused places hold 0
-pub read-written-same : (a : List ℕ) (p : Split) → Sized a p → Unused p → (b : List ℕ) (n code code' : ℕ) → writtenOf a p b code ≡ w.Length n
+pub read-written-same : (a : List ℕ) (p : Split) → Sized a p → Unused p → (b : List ℕ) (n code code' : ℕ) → writtenOf a p (length b) code ≡ w.Length n
     → readOf (take n (leftOf a p b)) code' ≡ asRead a p
 read-written-same a p k u b n code code' h =
-    let g = written-back a p b code h in
+    let g = written-back a p (length b) code h in
     let c = number-back a p (length b) (g .0) in
     read-written a p k b n code code' h ∙ ap (λ (q : Split). asRead a q) (trimmed-same a p k (allowed-most (p .count) (c .0)) u)
 
@@ -283,7 +283,7 @@ bytes-read s bytes code h =
 
 -- writing what was read into a buffer with room gives the same bytes, and leaves the rest of the buffer
 pub written-read : (s : List ℕ) → Bytes s → (code : ℕ) → readOf s code .answer ≡ Read → (b : List ℕ) (code' : ℕ) → length s ≤ length b
-    → (writtenOf (readOf s code .analysis .amounts) (readOf s code .split) b code' ≡ w.Length (length s))
+    → (writtenOf (readOf s code .analysis .amounts) (readOf s code .split) (length b) code' ≡ w.Length (length s))
     × (leftOf (readOf s code .analysis .amounts) (readOf s code .split) b ≡ s ++ drop (length s) b)
 written-read s bytes code h b code' l =
     let x = read-whole s code h in
@@ -295,6 +295,6 @@ written-read s bytes code h b code' l =
     let m : allowedCount (p .count) ≡ true = ap (λ (y : Sheet). allowedCount (y .split .count)) r ∙ sectioned s (x .sections) .allowed in
     let k : length (sheetOf a p) ≤ length b = subst (λ (y : List ℕ). length y ≤ length b) (sym e) l in
     let z = number-none a p (length b) m j k in (
-      written-length a p b code' z ∙ ap (λ (y : List ℕ). w.Length (length y)) e,
+      written-length a p (length b) code' z ∙ ap (λ (y : List ℕ). w.Length (length y)) e,
       left-sheet a p b z ∙ ap (λ (y : List ℕ). y ++ drop (length y) b) e,
     )
