@@ -1,6 +1,7 @@
 use mathlib.Core.Path.{_≡_, sym, ap, _∙_, refl}
 use Prim.Native.Nat.{ℕ, suc, _+_, _-_, _*_, _≤_, _<_}
 use native.Mathlib.Omega.{arith}
+use Rattle.analysis.specs.Register.{CODES}
 use mathlib.Core.Logic.{⊎-elim}
 use lib.ListN.{length, getD, drop}
 use Rattle.sheet.specs.Components.{countOf}
@@ -12,10 +13,10 @@ use Rattle.writer.proofs.listed.Reads as reads
 use Rattle.writer.proofs.listed.Lts as lts
 
 abbrev Inv-loop : tie.InvT-loop
-Inv-loop a n₀ k₀ n k = (k ≤ 14) × (n ≤ k) × (length a ≡ 14) × (n + countOf (drop k a) ≡ countOf a)
+Inv-loop a n₀ k₀ n k = (k ≤ CODES) × (n ≤ k) × (length a ≡ CODES) × (n + countOf (drop k a) ≡ countOf a)
 
 abbrev μ-loop : tie.MeasureT-loop
-μ-loop a n₀ k₀ n k = 14 - k
+μ-loop a n₀ k₀ n k = CODES - k
 
 loop-holds : tie.Need-loop-holds Inv-loop μ-loop
 loop-holds c = (search needs, search needs, search needs, search needs)
@@ -36,7 +37,7 @@ loop-less : tie.Need-loop-less Inv-loop μ-loop
 loop-less c = search needs
 
 loop-again : tie.Need-loop-again Inv-loop μ-loop
-loop-again c = 
+loop-again c =
     let a = c .before .before .before .args in
     let l = c .before .before .loop in
     let h : l .k < length (a .t1) = omega arith in
@@ -46,7 +47,7 @@ loop-again c =
     (c .if1 .came)
 
 returns : tie.Need-returns Inv-loop μ-loop
-returns c = 
+returns c =
     let a = c .before .before .args in
     let l = c .before .loop in
     let h : length (a .t1) ≤ l .k = omega arith in

@@ -24,7 +24,7 @@ returns : tie.Need-returns
 returns c = left-alone _ _ _ _ (c .before .before .answer .ensures) _ _ (c .enum-told2 .given .1)
 
 put-sheet-requires : tie.Need-put-sheet-requires
-put-sheet-requires c κs = 
+put-sheet-requires c κs =
     let g = room _ _ (c .before .before .before .before .before .before .args .b .now) _ (c .before .before .before .before .answer .ensures) _ (c .before .before .enum-told .given .1) in
     (allowed-most _ (g .0), g .1)
 
