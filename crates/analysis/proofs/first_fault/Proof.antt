@@ -1,3 +1,4 @@
+-- `analysis::first_fault` meets its contract. The loop's invariant: the amounts from this code on are in range where all are. Assumes nothing.
 use mathlib.Core.Path.{_≡_, sym, ap, _∙_, refl}
 use Prim.Native.Nat.{ℕ, suc, _+_, _-_, _*_, _≤_, _<_}
 use native.Mathlib.Omega.{arith}
@@ -9,9 +10,6 @@ use Rattle.analysis.proofs.Turns.{all-go, all-stop, all-end}
 use borrow.Author.Needs.{needs}
 use Rattle.analysis.proofs.first_fault.Statement.{statement}
 use Rattle.analysis.proofs.first_fault.Tie as tie
-use Rattle.analysis.proofs.first_fault.Reads as reads
-use Rattle.analysis.proofs.first_fault.Lts as lts
-use Rattle.analysis.proofs.in_range.Reads as in-range-reads
 
 abbrev Inv-loop : tie.InvT-loop
 Inv-loop amounts code₀ code = (code ≤ CODES) × (length amounts ≡ CODES) × (allInRange code (drop code amounts) ≡ allInRange 0 amounts)

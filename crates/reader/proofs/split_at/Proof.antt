@@ -1,3 +1,4 @@
+-- `reader::split_at` meets its contract. The loop's invariant: the columns so far and the records from place i on give those of all. Assumes nothing.
 use mathlib.Core.Path.{_≡_, sym, ap, _∙_, refl}
 use Prim.Native.Nat.{ℕ, suc, _+_, _-_, _*_, _≤_, _<_}
 use native.Mathlib.Omega.{arith}
@@ -12,9 +13,6 @@ use Rattle.reader.proofs.Turns.{bytes-go, column-go, bytes-end, column-
 use borrow.Author.Needs.{needs}
 use Rattle.reader.proofs.split_at.Statement.{statement}
 use Rattle.reader.proofs.split_at.Tie as tie
-use Rattle.reader.proofs.split_at.Reads as reads
-use Rattle.reader.proofs.split_at.Lts as lts
-use Rattle.reader.proofs.amount_at.Reads as amount-at-reads
 
 abbrev Inv-loop : tie.InvT-loop
 Inv-loop s at m systems₀ codes₀ amounts₀ i₀ w₀ systems codes amounts i w = (i ≤ m) × (w ≡ at + 6 * i)

@@ -1,3 +1,4 @@
+-- `writer::listed` meets its contract. The loop's invariant: the count so far and that from this code on make the whole. Assumes nothing.
 use mathlib.Core.Path.{_≡_, sym, ap, _∙_, refl}
 use Prim.Native.Nat.{ℕ, suc, _+_, _-_, _*_, _≤_, _<_}
 use native.Mathlib.Omega.{arith}
@@ -9,8 +10,6 @@ use Rattle.writer.proofs.Turns.{count-none, count-one, count-end}
 use borrow.Author.Needs.{needs}
 use Rattle.writer.proofs.listed.Statement.{statement}
 use Rattle.writer.proofs.listed.Tie as tie
-use Rattle.writer.proofs.listed.Reads as reads
-use Rattle.writer.proofs.listed.Lts as lts
 
 abbrev Inv-loop : tie.InvT-loop
 Inv-loop a n₀ k₀ n k = (k ≤ CODES) × (n ≤ k) × (length a ≡ CODES) × (n + countOf (drop k a) ≡ countOf a)

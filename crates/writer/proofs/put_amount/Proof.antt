@@ -1,3 +1,4 @@
+-- `writer::put_amount` meets its contract. Assumes nothing.
 use mathlib.Core.Path.{_≡_, sym, ap, _∙_, refl}
 use Prim.Native.Nat.{ℕ, suc, _+_, _-_, _*_, _≤_, _<_}
 use native.Mathlib.Omega.{arith}
@@ -6,9 +7,6 @@ use Rattle.writer.proofs.Turns.{four-bytes}
 use borrow.Author.Needs.{needs}
 use Rattle.writer.proofs.put_amount.Statement.{statement}
 use Rattle.writer.proofs.put_amount.Tie as tie
-use Rattle.writer.proofs.put_amount.Reads as reads
-use Rattle.writer.proofs.put_amount.Lts as lts
-use Rattle.writer.proofs.put_byte.Reads as put-byte-reads
 
 cast-put-byte : tie.Need-cast-put-byte
 cast-put-byte c = search needs

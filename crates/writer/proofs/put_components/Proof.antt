@@ -1,3 +1,4 @@
+-- `writer::put_components` meets its contract. The loop's invariant: the stores so far and those of the codes from k on make the whole run. Assumes nothing.
 use mathlib.Core.Path.{_≡_, sym, ap, _∙_, refl}
 use Prim.Native.Nat.{ℕ, suc, _+_, _-_, _*_, _≤_, _<_}
 use native.Mathlib.Omega.{arith}
@@ -12,9 +13,6 @@ use Rattle.writer.proofs.Turns.{sets-append, count-none, count-one, cou
 use borrow.Author.Needs.{needs}
 use Rattle.writer.proofs.put_components.Statement.{statement}
 use Rattle.writer.proofs.put_components.Tie as tie
-use Rattle.writer.proofs.put_components.Reads as reads
-use Rattle.writer.proofs.put_components.Lts as lts
-use Rattle.writer.proofs.put_component.Reads as put-component-reads
 
 abbrev Inv-loop : tie.InvT-loop
 Inv-loop b₀ a at₀ k₀ b at k = (k ≤ CODES) × (length a ≡ CODES) × (length b ≡ length b₀) × (at + 5 * countOf (drop k a) ≡ 1 + 5 * countOf a) × (sets b at (componentBytes k (drop k a)) ≡ sets b₀ 1 (componentBytes 0 a))

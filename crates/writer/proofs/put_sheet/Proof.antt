@@ -1,3 +1,4 @@
+-- `writer::put_sheet` meets its contract. Assumes nothing.
 use mathlib.Core.Path.{_≡_, sym, ap, _∙_, refl}
 use Prim.Native.Nat.{ℕ, suc, _+_, _-_, _*_, _≤_, _<_}
 use native.Mathlib.Omega.{arith}
@@ -9,12 +10,6 @@ use Rattle.writer.proofs.Turns.{sheet-put, length-byte, length-run}
 use borrow.Author.Needs.{needs}
 use Rattle.writer.proofs.put_sheet.Statement.{statement}
 use Rattle.writer.proofs.put_sheet.Tie as tie
-use Rattle.writer.proofs.put_sheet.Reads as reads
-use Rattle.writer.proofs.put_sheet.Lts as lts
-use Rattle.writer.proofs.listed.Reads as listed-reads
-use Rattle.writer.proofs.put_byte.Reads as put-byte-reads
-use Rattle.writer.proofs.put_components.Reads as put-components-reads
-use Rattle.writer.proofs.put_split.Reads as put-split-reads
 
 listed-requires : tie.Need-listed-requires
 listed-requires c κs = search needs
