@@ -6,14 +6,14 @@ ghost use Rattle.analysis.specs.Register.{CODES};
 ghost use Rattle.sheet.specs.Bytes.{number, numberAt};
 ghost use Rattle.sheet.specs.Components.{codeRefusal, codesReading, amountsFrom};
 ghost use Rattle.sheet.specs.Split.{RECORDS, splitAt};
-ghost use Rattle.sheet.specs.Sheet.{sectionsOf};
+ghost use Rattle.sheet.specs.Sheet.{LISTED, sectionsOf};
 ghost use Rattle.sheet.specs.Read.{refusedSheet, ReadAs};
 ghost use Rattle.reader.specs.Find.{ZeroRecord, AmountsRefused};
 use analysis::Analysis;
 use analysis::CODES;
 use analysis::Checked;
 use section::Section;
-use sheet::COMPONENT_RECORDS;
+use sheet::LISTED;
 use sheet::RECORDS;
 use sheet::Reading;
 use sheet::Sections;
@@ -48,7 +48,7 @@ fn sections(s: &[u8]) -> Sections
     else {
         return Sections::Torn;
     };
-    if COMPONENT_RECORDS < n {
+    if LISTED < n {
         return Sections::Torn;
     }
     let split = section::peek(s, end, 6);
@@ -97,10 +97,11 @@ fn code_refusal(c: u8, p: u8) -> u32
 
 // The first of `n` component records whose code is refused, with its place.
 fn codes(s: &[u8], n: usize) -> Reading
-    requires { ⌜ (n ≤ 11) × (1 + 5 * n ≤ length (now s)) ⌝ }
+    requires { ⌜ (n ≤ LISTED) × (1 + 5 * n ≤ length (now s)) ⌝ }
     ensures { λ r. ⌜ r ≡ codesReading n (now (s .entry)) 1 0 0 ⌝ }
 {
     let mut i: usize = 0;
+    let mut place: u32 = 0;
     let mut at: usize = 1;
     let mut p: u8 = 0;
     while i < n {
@@ -109,12 +110,13 @@ fn codes(s: &[u8], n: usize) -> Reading
         if refusal != 0 {
             return Reading::Refused {
                 number: refusal,
-                place: i as u32,
+                place,
                 code: 0,
             };
         }
         p = c;
         i += 1;
+        place += 1;
         at += 5;
     }
     Reading::Read

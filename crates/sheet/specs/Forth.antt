@@ -8,12 +8,12 @@ use lib.ListN.{length, getD, set, take, drop, replicate, length-append, length-r
 use lib.Seq.{set-at, append-snoc, drop-cons, take-append-seam}
 use lib.Dec.{eqb, leb}
 use borrow.Author.Tests.{eq-eqb, ne-eqb, eqb-true, eqb-false, leb-true, leb-false}
-use Rattle.analysis.specs.Register.{statusOf, ifElse}
+use Rattle.analysis.specs.Register.{CODES, statusOf, ifElse}
 use Rattle.sheet.specs.declared.Reading.{Reading}
 use Rattle.sheet.specs.declared.Reading.the-variants.{Read, Refused}
 use Rattle.sheet.specs.Bytes.{number, numberAt, bytesOf}
 use Rattle.sheet.specs.Components.{refusalBy, codeRefusal, codesReading, amountsFrom, zeroListed, countOf, componentBytes}
-use Rattle.sheet.specs.Split.{padded, recordBytes, byteColumn, amountColumn}
+use Rattle.sheet.specs.Split.{RECORDS, padded, recordBytes, byteColumn, amountColumn}
 use Rattle.sheet.specs.Cases.{status-above, code-back}
 use Rattle.sheet.specs.Back.{cut, cut-take, some-comps, some-count}
 
@@ -88,16 +88,16 @@ zeros-count zero l = refl
 zeros-count (suc g) l = zeros-count g l
 
 -- a code that is not refused is above the one before, and an index of an analysis
-pub fault-none : (c p : ℕ) → codeRefusal c p ≡ 0 → (p < c) × (c < 14)
+pub fault-none : (c p : ℕ) → codeRefusal c p ≡ 0 → (p < c) × (c < CODES)
 fault-none c p h =
     let g = code-back c p h in
-    (g .1, go (leb 14 c) refl (g .0))
+    (g .1, go (leb CODES c) refl (g .0))
   where
-    go : (t : Bool) → leb 14 c ≡ t → refusalBy (statusOf c) ≡ 0 → c < 14
+    go : (t : Bool) → leb CODES c ≡ t → refusalBy (statusOf c) ≡ 0 → c < CODES
     go true e z =
-        let two = status-above c (leb-true 14 c e) in
+        let two = status-above c (leb-true CODES c e) in
         absurd (omega arith)
-    go false e z = leb-false 14 c e
+    go false e z = leb-false CODES c e
 
 module _ (n : ℕ) (s : List ℕ) (at : ℕ) where
   pub codes-one : (i p : ℕ) → codesReading (suc n) s at i p ≡ Read → (codeRefusal (getD s at 0) p ≡ 0) × (codesReading n s (at + 5) (i + 1) (getD s at 0) ≡ Read)
@@ -162,7 +162,7 @@ fill-step n s bytes at p next ws z gap w c x ec ex zz lw pc sc o h r =
     }
 
 pub fill-forth : (n : ℕ) (s : List ℕ) → Bytes s → (at i p next : ℕ) (ws : List ℕ) (z : ℕ) → codesReading n s at i p ≡ Read → zeroListed n s at ≡ false
-    → length ws ≡ p + 1 → p + 1 + z ≡ 14 → at + 5 * n ≡ next → next ≤ length s → Filled n s at p next ws z
+    → length ws ≡ p + 1 → p + 1 + z ≡ CODES → at + 5 * n ≡ next → next ≤ length s → Filled n s at p next ws z
 fill-forth zero s bytes at i p next ws z good nz l k e h =
     let q : next ≡ at = omega arith in
     let a : componentBytes (p + 1) (replicate z 0) ≡ [] = ap (λ (r : List ℕ). componentBytes (p + 1) r) (sym (append-nil (replicate z 0))) ∙ zeros-comps z (p + 1) [] in
@@ -179,9 +179,9 @@ fill-forth (suc n) s bytes at i p next ws z good nz l k e h =
     let o = zero-one n s at nz in
     let lw : length ws + (getD s at 0 - (p + 1)) ≡ getD s at 0 = omega arith in
     let lv : length ((ws ++ replicate (getD s at 0 - (p + 1)) 0) ++ (numberAt s (at + 1) ∷ [])) ≡ getD s at 0 + 1 = simp (length-append, length-replicate) (omega arith) in
-    fill-step n s bytes at p next ws z (getD s at 0 - (p + 1)) (14 - (getD s at 0 + 1)) (getD s at 0) (numberAt s (at + 1)) refl refl
+    fill-step n s bytes at p next ws z (getD s at 0 - (p + 1)) (CODES - (getD s at 0 + 1)) (getD s at 0) (numberAt s (at + 1)) refl refl
     (omega arith) lw (omega arith) (omega arith) (o .0) (omega arith)
-    (fill-forth n s bytes (at + 5) (i + 1) (getD s at 0) next ((ws ++ replicate (getD s at 0 - (p + 1)) 0) ++ (numberAt s (at + 1) ∷ [])) (14 - (getD s at 0 + 1)) (g .1) (o .1) lv (omega arith) (omega arith) h)
+    (fill-forth n s bytes (at + 5) (i + 1) (getD s at 0) next ((ws ++ replicate (getD s at 0 - (p + 1)) 0) ++ (numberAt s (at + 1) ∷ [])) (CODES - (getD s at 0 + 1)) (g .1) (o .1) lv (omega arith) (omega arith) h)
 
 pub length-bytes : (m : ℕ) (s : List ℕ) (at : ℕ) → length (byteColumn m s at) ≡ m
 length-bytes zero s at = refl
@@ -195,4 +195,4 @@ length-nums (suc m) s at = ap suc (length-nums m s (at + 6))
 pub column-forth : (m : ℕ) (vs : List ℕ) → length vs ≡ m → m ≤ length (padded vs) → cut m 0 (padded vs) ≡ vs
 column-forth m vs l h =
     let k : 0 + m ≤ length (padded vs) = omega arith in
-    cut-take m 0 (padded vs) k ∙ ap (λ (n : ℕ). take n (padded vs)) (sym l) ∙ take-append-seam vs (replicate (9 - length vs) 0)
+    cut-take m 0 (padded vs) k ∙ ap (λ (n : ℕ). take n (padded vs)) (sym l) ∙ take-append-seam vs (replicate (RECORDS - length vs) 0)

@@ -9,7 +9,7 @@ use lib.ListN.{length, getD, take, drop, replicate, length-append}
 use lib.Seq.{length-take-le, drop-length, getD-at, drop-at, take-at}
 use lib.Dec.{eqb}
 use borrow.Author.Tests.{eqb-true, eqb-false}
-use Rattle.analysis.specs.Register.{statusOf, ifElse}
+use Rattle.analysis.specs.Register.{CODES, statusOf, ifElse}
 use Rattle.analysis.specs.Check.{greatestOf, inRange, allInRange, refusalOf}
 use Rattle.analysis.specs.Ranges.{passed-ranges}
 use Rattle.sheet.specs.declared.Reading.{Reading}
@@ -20,7 +20,7 @@ use Rattle.sheet.specs.declared.Split.{Split}
 use Rattle.sheet.specs.declared.Written.the-variants as w
 use Rattle.sheet.specs.Components.{codesReading, amountsFrom, zeroListed, countOf, componentBytes}
 use Rattle.sheet.specs.Split.{RECORDS, allowedCount, recordBytes, splitBytes, byteColumn, amountColumn, padded, splitAt, noSplit, trimmed}
-use Rattle.sheet.specs.Sheet.{SHEET, sheetOf, sectionsOf}
+use Rattle.sheet.specs.Sheet.{LISTED, SHEET, sheetOf, sectionsOf}
 use Rattle.sheet.specs.Read.{amountsOf, amountsRefusal, contentOf, readOf}
 use Rattle.sheet.specs.Write.{writeRefusal, writtenOf, leftOf}
 use Rattle.sheet.specs.Cases.{both-true, allowed-most, Sectioned, sectioned, sections-both, read-good, Whole, read-whole, amounts-checked, amounts-back, length-components, length-sheet, number-none, number-back, written-length, written-back, left-sheet}
@@ -49,13 +49,13 @@ count-room k (x ∷ xs) h =
     go g r false false e f = omega (arith, r)
 
 -- at most eleven codes are listed
-pub count-most : (a : List ℕ) → length a ≡ 14 → refusalOf a ≡ 0 → countOf a ≤ 11
+pub count-most : (a : List ℕ) → length a ≡ CODES → refusalOf a ≡ 0 → countOf a ≤ LISTED
 unfolding room statusOf
 count-most a l h =
-    let r : countOf a ≤ room 0 14 = subst (λ (n : ℕ). countOf a ≤ room 0 n) l (count-room 0 a (passed-ranges a h)) in r
+    let r : countOf a ≤ room 0 CODES = subst (λ (n : ℕ). countOf a ≤ room 0 n) l (count-room 0 a (passed-ranges a h)) in r
 
 -- a sheet that is written, or read, has at most 111 bytes
-pub longest-written : (a : List ℕ) (p : Split) (size : ℕ) → length a ≡ 14 → writeRefusal a p size ≡ 0 → length (sheetOf a p) ≤ SHEET
+pub longest-written : (a : List ℕ) (p : Split) (size : ℕ) → length a ≡ CODES → writeRefusal a p size ≡ 0 → length (sheetOf a p) ≤ SHEET
 longest-written a p size l h =
     let g = number-back a p size h in
     let n = count-most a l (g .1) in
@@ -74,10 +74,10 @@ longest-read s code h =
 
 -- an analysis and a split as they stand in arrays
 pub record Sized (a : List ℕ) (p : Split) : Type 0 where
-  pub amounts-of-codes : length a ≡ 14
-  pub systems : length (p .systems) ≡ 9
-  pub codes : length (p .codes) ≡ 9
-  pub amounts : length (p .amounts) ≡ 9
+  pub amounts-of-codes : length a ≡ CODES
+  pub systems : length (p .systems) ≡ RECORDS
+  pub codes : length (p .codes) ≡ RECORDS
+  pub amounts : length (p .amounts) ≡ RECORDS
 
 pad-same : (m z : ℕ) (xs : List ℕ) → m + z ≡ length xs → ((i : ℕ) → m ≤ i → getD xs i 0 ≡ 0) → take m xs ++ replicate z 0 ≡ xs
 pad-same zero zero [] e h = refl
@@ -89,12 +89,12 @@ pad-same zero (suc z) (x ∷ xs) e h =
 pad-same (suc m) z [] e h = absurd (omega arith)
 pad-same (suc m) z (x ∷ xs) e h = ap (λ (l : List ℕ). x ∷ l) (pad-same m z xs (omega arith) (λ i k. h (suc i) (omega arith)))
 
-module _ (m : ℕ) (xs : List ℕ) (h : m ≤ 9) (l : length xs ≡ 9) where
+module _ (m : ℕ) (xs : List ℕ) (h : m ≤ RECORDS) (l : length xs ≡ RECORDS) where
   taken : length (take m xs) ≡ m
   taken = length-take-le m xs (omega arith)
 
   column-same : ((i : ℕ) → m ≤ i → getD xs i 0 ≡ 0) → padded (take m xs) ≡ xs
-  column-same z = ap (λ (k : ℕ). take m xs ++ replicate (9 - k) 0) taken ∙ pad-same m (9 - m) xs (omega arith) z
+  column-same z = ap (λ (k : ℕ). take m xs ++ replicate (RECORDS - k) 0) taken ∙ pad-same m (RECORDS - m) xs (omega arith) z
 
   column-cut : cut m 0 xs ≡ take m xs
   column-cut = cut-take m 0 xs (omega arith)
@@ -106,7 +106,7 @@ pub record Unused (p : Split) : Type 0 where
   pub amounts : (i : ℕ) → p .count ≤ i → getD (p .amounts) i 0 ≡ 0
 
 -- trimming such a split changes nothing
-pub trimmed-same : (a : List ℕ) (p : Split) → Sized a p → p .count ≤ 9 → Unused p → trimmed p ≡ p
+pub trimmed-same : (a : List ℕ) (p : Split) → Sized a p → p .count ≤ RECORDS → Unused p → trimmed p ≡ p
 trimmed-same a p k h u =
     let x = column-same (p .count) (p .systems) h (k .systems) (u .systems) in
     let y = column-same (p .count) (p .codes) h (k .codes) (u .codes) in
@@ -122,7 +122,7 @@ trimmed-read m s at =
     λ i. record { count = m; systems = x i; codes = y i; amounts = z i }
   where
     column : (vs : List ℕ) → length vs ≡ m → padded (take m (padded vs)) ≡ padded vs
-    column vs l = ap padded (take-at vs (replicate (9 - length vs) 0) m l)
+    column vs l = ap padded (take-at vs (replicate (RECORDS - length vs) 0) m l)
 
 -- ---- reading what was written
 
@@ -178,7 +178,7 @@ module _ (xs : List ℕ) (p : Split) (k : Sized (0 ∷ xs) p) (allowed : allowed
   amounts : amountsOf n s ≡ 0 ∷ xs
   unfolding s r n
   amounts =
-      let l : length xs ≡ 13 = omega (arith, k .amounts-of-codes) in
+      let l : length xs ≡ CODES - 1 = omega (arith, k .amounts-of-codes) in
       ap (λ (j : ℕ). amountsFrom n s 1 (0 ∷ replicate j 0)) (sym l) ∙ fill-back xs 1 (0 ∷ []) s 1 r refl refl
 
   split : splitAt (p .count) s (2 + 5 * n) ≡ trimmed p
@@ -217,19 +217,19 @@ read-bytes (x ∷ xs) p k allowed passed code =
     passed
 
 -- reading what was written into a buffer gives the same analysis and the same split
-pub read-written : (a : List ℕ) (p : Split) → Sized a p → (b : List ℕ) (n code code' : ℕ) → writtenOf a p b code ≡ w.Length n
+pub read-written : (a : List ℕ) (p : Split) → Sized a p → (b : List ℕ) (n code code' : ℕ) → writtenOf a p (length b) code ≡ w.Length n
     → readOf (take n (leftOf a p b)) code' ≡ asRead a (trimmed p)
 read-written a p k b n code code' h =
-    let g = written-back a p b code h in
+    let g = written-back a p (length b) code h in
     let c = number-back a p (length b) (g .0) in
     let e = ap (λ (l : List ℕ). take n l) (left-sheet a p b (g .0)) ∙ take-at (sheetOf a p) (drop (length (sheetOf a p)) b) n (sym (g .1)) in
     ap (λ (l : List ℕ). readOf l code') e ∙ read-bytes a p k (c .0) (c .1) code'
 
 -- the very same split where its unused places hold 0
-pub read-written-same : (a : List ℕ) (p : Split) → Sized a p → Unused p → (b : List ℕ) (n code code' : ℕ) → writtenOf a p b code ≡ w.Length n
+pub read-written-same : (a : List ℕ) (p : Split) → Sized a p → Unused p → (b : List ℕ) (n code code' : ℕ) → writtenOf a p (length b) code ≡ w.Length n
     → readOf (take n (leftOf a p b)) code' ≡ asRead a p
 read-written-same a p k u b n code code' h =
-    let g = written-back a p b code h in
+    let g = written-back a p (length b) code h in
     let c = number-back a p (length b) (g .0) in
     read-written a p k b n code code' h ∙ ap (λ (q : Split). asRead a q) (trimmed-same a p k (allowed-most (p .count) (c .0)) u)
 
@@ -242,8 +242,8 @@ module _ (s : List ℕ) (bytes : Bytes s) (x : Whole s) where
   passed : (zeroListed (x .n) s 1 ≡ false) × (refusalOf (amountsOf (x .n) s) ≡ 0)
   passed = amounts-back (x .n) s (x .amounts)
 
-  filled : Filled (x .n) s 1 0 (1 + 5 * x .n) (0 ∷ []) 13
-  filled = fill-forth (x .n) s bytes 1 0 0 (1 + 5 * x .n) (0 ∷ []) 13 (x .codes) (passed .0) refl refl refl (omega (arith, shape .size))
+  filled : Filled (x .n) s 1 0 (1 + 5 * x .n) (0 ∷ []) (CODES - 1)
+  filled = fill-forth (x .n) s bytes 1 0 0 (1 + 5 * x .n) (0 ∷ []) (CODES - 1) (x .codes) (passed .0) refl refl refl (omega (arith, shape .size))
 
   p : Split
   p = splitAt (x .m) s (x .first)
@@ -283,7 +283,7 @@ bytes-read s bytes code h =
 
 -- writing what was read into a buffer with room gives the same bytes, and leaves the rest of the buffer
 pub written-read : (s : List ℕ) → Bytes s → (code : ℕ) → readOf s code .answer ≡ Read → (b : List ℕ) (code' : ℕ) → length s ≤ length b
-    → (writtenOf (readOf s code .analysis .amounts) (readOf s code .split) b code' ≡ w.Length (length s))
+    → (writtenOf (readOf s code .analysis .amounts) (readOf s code .split) (length b) code' ≡ w.Length (length s))
     × (leftOf (readOf s code .analysis .amounts) (readOf s code .split) b ≡ s ++ drop (length s) b)
 written-read s bytes code h b code' l =
     let x = read-whole s code h in
@@ -295,6 +295,6 @@ written-read s bytes code h b code' l =
     let m : allowedCount (p .count) ≡ true = ap (λ (y : Sheet). allowedCount (y .split .count)) r ∙ sectioned s (x .sections) .allowed in
     let k : length (sheetOf a p) ≤ length b = subst (λ (y : List ℕ). length y ≤ length b) (sym e) l in
     let z = number-none a p (length b) m j k in (
-      written-length a p b code' z ∙ ap (λ (y : List ℕ). w.Length (length y)) e,
+      written-length a p (length b) code' z ∙ ap (λ (y : List ℕ). w.Length (length y)) e,
       left-sheet a p b z ∙ ap (λ (y : List ℕ). y ++ drop (length y) b) e,
     )

@@ -22,11 +22,11 @@ writeRefusal a p size =
     1
 
 -- the answer; a refusal 5 carries `code`
-unfoldable pub writtenOf : List ℕ → Split → List ℕ → ℕ → Written
-writtenOf a p b code =
-    ifElse (eqb (writeRefusal a p (length b)) 0)
+unfoldable pub writtenOf : List ℕ → Split → ℕ → ℕ → Written
+writtenOf a p size code =
+    ifElse (eqb (writeRefusal a p size) 0)
     (Length (length (sheetOf a p)))
-    (Refused (writeRefusal a p (length b)) (ifElse (eqb (writeRefusal a p (length b)) 5) code 0))
+    (Refused (writeRefusal a p size) (ifElse (eqb (writeRefusal a p size) 5) code 0))
 
 -- the buffer after it: the sheet's bytes at its start and the rest as it was, or all of it as it was
 unfoldable pub leftOf : List ℕ → Split → List ℕ → List ℕ
@@ -43,6 +43,6 @@ codeOf (Refused number code) = code
 
 -- the promise of the writer: answer and buffer are fixed but for the code of 5, and that is a code at fault
 pub record WrittenAs (a : List ℕ) (p : Split) (b : List ℕ) (r : Written) (left : List ℕ) : Type 0 where
-  pub answer : r ≡ writtenOf a p b (codeOf r)
+  pub answer : r ≡ writtenOf a p (length b) (codeOf r)
   pub buffer : left ≡ leftOf a p b
   pub code : numberOf r ≡ 5 → AtFault a (codeOf r)

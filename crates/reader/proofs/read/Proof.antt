@@ -1,3 +1,4 @@
+-- `reader::read` meets its contract. Assumes nothing.
 use mathlib.Core.Path.{_≡_, sym, ap, _∙_, refl}
 use Prim.Native.Nat.{ℕ, suc, _+_, _-_, _*_, _≤_, _<_}
 use native.Mathlib.Omega.{arith}
@@ -11,14 +12,6 @@ use Rattle.reader.proofs.Answers.{answer-torn, answer-codes, answer-amo
 use borrow.Author.Needs.{needs}
 use Rattle.reader.proofs.read.Statement.{statement}
 use Rattle.reader.proofs.read.Tie as tie
-use Rattle.reader.proofs.read.Reads as reads
-use Rattle.reader.proofs.read.Lts as lts
-use Rattle.reader.proofs.amounts.Reads as amounts-reads
-use Rattle.reader.proofs.amounts_refused.Reads as amounts-refused-reads
-use Rattle.reader.proofs.codes.Reads as codes-reads
-use Rattle.reader.proofs.refused.Reads as refused-reads
-use Rattle.reader.proofs.sections.Reads as sections-reads
-use Rattle.reader.proofs.split_at.Reads as split-at-reads
 
 both : (c : tie.After-known-told) → let g = c .before .parts .given .0 in sectionsOf (c .before .before .before .before .before .args .s .now) ≡ Both (g .0) (g .1 .0) (g .1 .1 .0)
 both c = sym (c .before .before .before .sections .ensures) ∙ c .before .parts .given .1
