@@ -3,9 +3,9 @@ use mathlib.Core.Path.{_≡_, refl, sym, _∙_, ap, ap₂, subst}
 use Prim.Native.Nat.{ℕ, zero, suc, _+_, _*_, _-_, _<_, _≤_}
 use native.Mathlib.Nat as N
 use native.Mathlib.Omega.{arith}
-use lib.IntN.{ℤ, pos, negsuc, negℤ, natAbs, _+ℤ_, _-ℤ_, _*ℤ_, +ℤ-invr, +ℤ-negℤ-cancel, *ℤ-one, one}
+use lib.IntN.{ℤ, pos, negsuc, negℤ, natAbs, _+ℤ_, _-ℤ_, _*ℤ_, +ℤ-invr, *ℤ-one, one}
 use lib.Signed.{quotZ, remZ}
-use Rattle.integer.specs.Ring.{ring, natAbs-*, natAbs-+, natAbs--, quot-rem, rem-lt}
+use Rattle.integer.specs.Ring.{ring, natAbs-*, natAbs-+, natAbs--, quot-is, rem-lt}
 use Rattle.integer.specs.Fraction.{Fraction, whole, plus, times, over, Within, Close}
 
 pub close : {w : ℤ} {f : Fraction} {u : ℕ} → Within w f u → Close w f u
@@ -17,6 +17,18 @@ looser {w} {f} {u} {v} h k = record { positive = h .positive; near = N.lt-of-lt-
 pub close-whole : (z : ℤ) → Close z (whole z) 0
 unfolding one
 close-whole z = record { positive = N.le-refl 1; near = rw (*ℤ-one z, +ℤ-invr z) (N.le-refl 0) }
+
+-- the fraction's terms multiplied by a positive number: the same distance
+scaled : (w e K p : ℤ) → w *ℤ (K *ℤ p) -ℤ e *ℤ p ≡ (w *ℤ K -ℤ e) *ℤ p
+scaled w e K p = simp ring
+
+pub within-scaled : {w : ℤ} {f : Fraction} {u : ℕ} (p : ℕ) → 0 < p → Within w f u → Within w (record { num = f .num *ℤ pos p; den = f .den * p }) u
+within-scaled {w} {f} {u} p p>0 h = record {
+  positive = N.mul-pos (h .positive) p>0;
+  near =
+      rw (scaled w (f .num) (pos (f .den)) (pos p), natAbs-* (w *ℤ pos (f .den) -ℤ f .num) (pos p), ← N.mul-assoc u (f .den) p)
+      (N.mul-lt-mul-of-pos-right (h .near) p>0);
+}
 
 -- ---- sums
 
@@ -62,12 +74,16 @@ close-times {w} {f} {u} p h = record {
       (N.mul-le-mul-right p (h .near));
 }
 
--- ---- one division, the fraction dropped: less than one unit more
+-- the strict one, by a positive number
+pub within-times : {w : ℤ} {f : Fraction} {u : ℕ} (p : ℕ) → 0 < p → Within w f u → Within (w *ℤ pos p) (times f p) (u * p)
+within-times {w} {f} {u} p p>0 h = record {
+  positive = h .positive;
+  near =
+      rw (taken w (f .num) (pos (f .den)) (pos p), natAbs-* (w *ℤ pos (f .den) -ℤ f .num) (pos p), ← more-units u (f .den) p)
+      (N.mul-lt-mul-of-pos-right (h .near) p>0);
+}
 
-quot-is : (z : ℤ) (d : ℕ) → quotZ z (pos d) *ℤ pos d ≡ z -ℤ remZ z (pos d)
-quot-is z d =
-    sym (+ℤ-negℤ-cancel (quotZ z (pos d) *ℤ pos d) (remZ z (pos d)))
-    ∙ ap (λ (v : ℤ). v -ℤ remZ z (pos d)) (sym (quot-rem z d))
+-- ---- one division, the fraction dropped: less than one unit more
 
 split : (w q d r e K : ℤ) → q *ℤ d ≡ w -ℤ r → q *ℤ (K *ℤ d) -ℤ e ≡ (w *ℤ K -ℤ e) -ℤ r *ℤ K
 split w q d r e K h = first ∙ ap (λ (v : ℤ). v *ℤ K -ℤ e) h ∙ last

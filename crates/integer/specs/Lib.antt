@@ -1,5 +1,6 @@
 pub mod Ring
 pub mod Order
 pub mod Normal
+pub mod Floor
 pub mod Fraction
 pub mod Distance

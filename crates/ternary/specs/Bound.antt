@@ -1,4 +1,5 @@
--- The rule of the tables: each one's sizes add up to at most 2 * 10 ^ 12, by one test; so a partial number is no larger. Assumes nothing.
+-- The rule of the coefficients: each list's magnitudes add up to at most 2000000000000 units, by one computed test of all lists; so no
+-- partial number is larger. Assumes nothing.
 use mathlib.Core.Bool.{Bool, true, false}
 use mathlib.Core.List.{List, [], _∷_}
 use Prim.Native.Nat.{ℕ, zero, suc, _≤_, zero-le}

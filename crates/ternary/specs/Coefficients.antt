@@ -1,4 +1,5 @@
--- The systems' coefficients, by rows: row k has those of n1 ^ k, by powers of n2. Assumes nothing.
+-- The coefficients of the five systems in units (001 Table 5, Mix1 to Mix5; a(2,2) of system 20 as 000 prints it): a(k,l) times
+-- 100 ^ (k + l), by rows, row k with l rising. Assumes nothing.
 use mathlib.Core.List.{List, [], _∷_}
 use mathlib.Core.Bool.{Bool, true, false}
 use Prim.Native.Nat.{ℕ, suc}

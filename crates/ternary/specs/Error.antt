@@ -1,4 +1,4 @@
--- The working rule is less than one unit off for each division. Assumes nothing.
+-- The working rule is less than one unit from the exact value for each of its divisions, whatever the coefficients are. Assumes nothing.
 use mathlib.Core.Path.{_≡_, refl, sym, _∙_, ap, ap₂, subst}
 use mathlib.Core.List.{List, [], _∷_, map}
 use Prim.Native.Nat.{ℕ, zero, suc, _+_, _*_, _-_, _^_, _<_, _≤_}
@@ -7,7 +7,7 @@ use native.Mathlib.Omega.{arith}
 use lib.IntN.{ℤ, pos, negsuc, negℤ, natAbs, _+ℤ_, _-ℤ_, _*ℤ_, +ℤ-invr, +ℤ-idr, +ℤ-negℤ-cancel, zero-*ℤ, +ℤ-idl, *ℤ-one, one}
 use lib.Signed.{quotZ, remZ}
 use lib.ListN.{length}
-use Rattle.integer.specs.Ring.{ring, natAbs-neg, natAbs-*, natAbs-+, natAbs--, quot-rem, rem-lt, distr, *ℤ-assoc}
+use Rattle.integer.specs.Ring.{ring, natAbs-neg, natAbs-*, natAbs-+, natAbs--, quot-is, rem-lt, distr, *ℤ-assoc}
 use Rattle.ternary.specs.WorkingRule.{stepZ, horner, worked, rowSum, tableSum, exact, coefs, rowsOf}
 
 -- w is e / K up to u units
@@ -53,11 +53,6 @@ split w n q d r e K h = first ∙ ap (λ (v : ℤ). v *ℤ K -ℤ e *ℤ n) h �
 
     last : (w *ℤ n -ℤ r) *ℤ K -ℤ e *ℤ n ≡ (w *ℤ K -ℤ e) *ℤ n -ℤ r *ℤ K
     last = simp ring
-
-quot-is : (z : ℤ) (d : ℕ) → quotZ z (pos d) *ℤ pos d ≡ z -ℤ remZ z (pos d)
-quot-is z d =
-    sym (+ℤ-negℤ-cancel (quotZ z (pos d) *ℤ pos d) (remZ z (pos d)))
-    ∙ ap (λ (v : ℤ). v -ℤ remZ z (pos d)) (sym (quot-rem z d))
 
 pub near-step : {w e : ℤ} {K u : ℕ} (n d : ℕ) → Near w e K u → n ≤ d → 0 < d → 0 < K → Nearer (quotZ (w *ℤ pos n) (pos d)) (e *ℤ pos n) (K * d) (suc u)
 near-step {w} {e} {K} {u} n d h n≤d d>0 K>0 = record {

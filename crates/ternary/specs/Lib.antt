@@ -4,3 +4,8 @@ pub mod Error
 pub mod Size
 pub mod Bound
 pub mod Partial
+pub mod Answer
+pub mod Whole
+pub mod Precomputed
+pub mod Table
+pub mod Marked

@@ -1,4 +1,4 @@
--- A partial number of a system at three amounts (000 A.3.4): by the working rule, and exactly. Assumes nothing.
+-- A partial number of a system at three amounts (000 A.3.4; document 01, "A partial number"): as worked out, and exactly. Assumes nothing.
 use mathlib.Core.Path.{_≡_, refl}
 use mathlib.Core.List.{List, [], _∷_}
 use Prim.Native.Nat.{ℕ, zero, suc, _+_, _*_, _^_, _≤_, _<_}

@@ -1,0 +1,27 @@
+-- What is read back from the bits of a call's result or a parameter. Assumes nothing.
+use mathlib.Core.Path.{_≡_, sym, ap, ap₂, _∙_}
+use Prim.Native.Nat.{ℕ, _^_, _<_}
+use lib.IntN.{ℤ, pos}
+use lib.Signed.{mag}
+use mir.Syntax.{w64}
+use mir.Val.{SFits, toZ, ofZ}
+use mir.ValLaws.{toZ-ofZ}
+use Rattle.ternary.specs.WorkingRule.{stepZ}
+
+pub read-back : (z : ℤ) → mag z < 2 ^ 63 → toZ w64 (ofZ w64 z) ≡ z
+read-back z h = toZ-ofZ w64 z (record { sfits = h })
+
+pub arg-back : (z : ℤ) → SFits w64 z → toZ w64 (ofZ w64 z) ≡ z
+arg-back z f = toZ-ofZ w64 z f
+
+-- a result x that the code found to be 0
+pub zero-back : (z x : ℤ) → mag z < 2 ^ 63 → z ≡ x → ofZ w64 z ≡ 0 → x ≡ pos 0
+zero-back z x h e t = sym e ∙ sym (read-back z h) ∙ ap (toZ w64) t
+
+-- a call's result that its contract says to be x
+pub result-back : {z x : ℤ} → mag z < 2 ^ 63 → z ≡ x → toZ w64 (ofZ w64 z) ≡ x
+result-back {z} h e = read-back z h ∙ e
+
+-- the result of a step of what stands in bits
+pub step-back : {z acc acc′ c c′ : ℤ} (n d : ℕ) → mag z < 2 ^ 63 → z ≡ stepZ acc′ n d c′ → acc′ ≡ acc → c′ ≡ c → toZ w64 (ofZ w64 z) ≡ stepZ acc n d c
+step-back n d h e p q = result-back h e ∙ ap₂ (λ (x y : ℤ). stepZ x n d y) p q

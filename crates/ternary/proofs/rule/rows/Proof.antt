@@ -1,0 +1,64 @@
+-- `ternary::rule::rows` meets its contract. Assumes nothing.
+use mathlib.Core.Path.{_∙_}
+use Rattle.ternary.specs.Table.{inTable}
+use Rattle.ternary.proofs.Bits.{result-back}
+use Rattle.ternary.proofs.Combine.{rows-room, rows-worked}
+use borrow.Author.Needs.{needs}
+use Rattle.ternary.proofs.rule.rows.Statement.{statement}
+use Rattle.ternary.proofs.rule.rows.Tie as tie
+
+first-row-requires : tie.Need-first-row-requires
+first-row-requires c κs = search needs
+
+last-rows-requires : tie.Need-last-rows-requires
+last-rows-requires c κs = search needs
+
+row-requires : tie.Need-row-requires
+row-requires c κs = search needs
+
+row-requires-2 : tie.Need-row-requires-2
+row-requires-2 c κs = search needs
+
+row-requires-3 : tie.Need-row-requires-3
+row-requires-3 c κs = search needs
+
+combined-requires : tie.Need-combined-requires
+combined-requires c κs =
+    let s = c .before .before .before .before .before in
+    let a = s .args in (
+      rows-room (inTable (a .t .now)) (a .v .n) (a .w .n) (a .v .d) (a .w .d)
+          (result-back (c .before .before .before .last-rows .ok) (c .before .before .before .last-rows .ensures))
+          (result-back (c .row3 .ok) (c .row3 .ensures))
+          (result-back (c .before .row2 .ok) (c .before .row2 .ensures))
+          (result-back (c .before .before .row .ok) (c .before .before .row .ensures))
+          (result-back (c .before .before .before .before .first-row .ok) (c .before .before .before .before .first-row .ensures))
+          (s .pre .2 .n-le)
+          (s .pre .3 .n-le)
+          (s .pre .0 .sum),
+      s .pre .2,
+    )
+
+returns : tie.Need-returns
+returns c =
+    let s = c .before .before .before .before .before .before in
+    let a = s .args in
+    result-back (c .combined .ok) (c .combined .ensures)
+    ∙ rows-worked (inTable (a .t .now)) (a .v .n) (a .w .n) (a .v .d) (a .w .d)
+    (result-back (c .before .before .before .before .last-rows .ok) (c .before .before .before .before .last-rows .ensures))
+    (result-back (c .before .row3 .ok) (c .before .row3 .ensures))
+    (result-back (c .before .before .row2 .ok) (c .before .before .row2 .ensures))
+    (result-back (c .before .before .before .row .ok) (c .before .before .before .row .ensures))
+    (result-back (c .before .before .before .before .before .first-row .ok) (c .before .before .before .before .before .first-row .ensures))
+    (s .pre .1)
+
+pub rows-spec : {M : Type 1} → statement M
+rows-spec =
+    tie.close
+    (tie.spec
+    first-row-requires
+    last-rows-requires
+    row-requires
+    row-requires-2
+    row-requires-3
+    combined-requires
+    returns)

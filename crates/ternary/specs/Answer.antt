@@ -1,0 +1,89 @@
+-- The answer to a partial number by cases (document 01, "What is turned away"): 13 before 12, else the number as worked out. Assumes nothing.
+use mathlib.Core.Path.{_≡_, refl, subst, subst⁻¹}
+use mathlib.Core.Bool.{Bool, true, false}
+use mathlib.Core.List.{List, [], _∷_}
+use Prim.Native.Nat.{ℕ, zero, suc, _+_, _≤_, _<_}
+use native.Mathlib.Nat as N
+use lib.Dec.{T, eqb, ltb, leb, lt→ltb, le→leb, leb→le}
+use lib.IntN.{ℤ}
+use lib.ListN.{getD}
+use Rattle.ternary.specs.declared.Partial.{Partial}
+use Rattle.ternary.specs.declared.Partial.the-variants.{Number, Refused}
+use Rattle.ternary.specs.Coefficients.{tables, systems, placeIn}
+use Rattle.ternary.specs.Partial.{partialNumber}
+
+-- whether a number is in a list
+unfoldable pub isIn : List ℕ → ℕ → Bool
+isIn [] n = false
+isIn (m ∷ ms) n = elim (eqb n m) [ true ↦ true | false ↦ isIn ms n ]
+
+-- whether there is a system of that number
+abbrev pub isSystem : ℕ → Bool
+isSystem system = isIn systems system
+
+-- the list of a system's coefficients
+unfoldable pub tableOf : ℕ → List ℤ
+tableOf system = getD tables (placeIn systems system) []
+
+-- the amounts of a mixture add up to 1 to 1000000 parts
+abbrev pub isMixture : ℕ → Bool
+isMixture d = elim (ltb 0 d) [ true ↦ leb d 1000000 | false ↦ false ]
+
+abbrev pick : Bool → Partial → Partial → Partial
+pick true a b = a
+pick false a b = b
+
+-- 13: no such system; 12: no mixture; else the number
+unfoldable pub partialOf : ℕ → ℕ → ℕ → ℕ → Partial
+partialOf system n1 n2 n3 = pick (isSystem system) (pick (isMixture (n1 + n2 + n3)) (Number (partialNumber system n1 n2 n3)) (Refused 12)) (Refused 13)
+
+-- ---- each case
+
+answered : (b m : Bool) (p : Partial) → b ≡ true → m ≡ true → pick b (pick m p (Refused 12)) (Refused 13) ≡ p
+answered true true p h k = refl
+answered true false p h k = absurd (subst⁻¹ T k tt)
+answered false m p h k = absurd (subst⁻¹ T h tt)
+
+refused-12 : (b m : Bool) (p : Partial) → b ≡ true → m ≡ false → pick b (pick m p (Refused 12)) (Refused 13) ≡ Refused 12
+refused-12 true true p h k = absurd (subst T k tt)
+refused-12 true false p h k = refl
+refused-12 false m p h k = absurd (subst⁻¹ T h tt)
+
+refused-13 : (b m : Bool) (p : Partial) → b ≡ false → pick b (pick m p (Refused 12)) (Refused 13) ≡ Refused 13
+refused-13 true m p h = absurd (subst T h tt)
+refused-13 false m p h = refl
+
+within-limit : (a b : Bool) → T a → T b → elim a [ true ↦ b | false ↦ false ] ≡ true
+within-limit true true h k = refl
+within-limit true false h k = absurd k
+within-limit false b h k = absurd h
+
+pub mixture-yes : (d : ℕ) → 0 < d → d ≤ 1000000 → isMixture d ≡ true
+mixture-yes d h k = within-limit (ltb 0 d) (leb d 1000000) (lt→ltb 0 d h) (le→leb d 1000000 k)
+
+pub mixture-zero : (d : ℕ) → d ≡ 0 → isMixture d ≡ false
+mixture-zero d e = rw e
+
+beyond : (a b : Bool) → (T b → ⊥) → elim a [ true ↦ b | false ↦ false ] ≡ false
+beyond true true h = absurd (h tt)
+beyond true false h = refl
+beyond false b h = refl
+
+pub mixture-above : (d : ℕ) → 1000000 < d → isMixture d ≡ false
+mixture-above d h = beyond (ltb 0 d) (leb d 1000000) (λ t. N.not-le-of-lt h (leb→le d 1000000 t))
+
+module _ (system n1 n2 n3 : ℕ) where
+  -- a known system and a mixture: the number as worked out
+  pub partial-is : isSystem system ≡ true → 0 < n1 + n2 + n3 → n1 + n2 + n3 ≤ 1000000 → partialOf system n1 n2 n3 ≡ Number (partialNumber system n1 n2 n3)
+  unfolding partialOf
+  partial-is h k l = answered (isSystem system) (isMixture (n1 + n2 + n3)) (Number (partialNumber system n1 n2 n3)) h (mixture-yes (n1 + n2 + n3) k l)
+
+  -- a known system and no mixture: 12
+  pub partial-12 : isSystem system ≡ true → isMixture (n1 + n2 + n3) ≡ false → partialOf system n1 n2 n3 ≡ Refused 12
+  unfolding partialOf
+  partial-12 h k = refused-12 (isSystem system) (isMixture (n1 + n2 + n3)) (Number (partialNumber system n1 n2 n3)) h k
+
+  -- no system of that number: 13, whatever the amounts are
+  pub partial-13 : isSystem system ≡ false → partialOf system n1 n2 n3 ≡ Refused 13
+  unfolding partialOf
+  partial-13 h = refused-13 (isSystem system) (isMixture (n1 + n2 + n3)) (Number (partialNumber system n1 n2 n3)) h

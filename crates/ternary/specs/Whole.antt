@@ -1,0 +1,17 @@
+-- The whole number of a rating (document 01, "The split and the rating"): (rating + 5000000) / 10000000 rounded down. Assumes nothing.
+use mathlib.Core.Path.{_≡_}
+use Prim.Native.Nat.{ℕ, _<_}
+use lib.Dec.{lit<}
+use lib.IntN.{ℤ, pos, _+ℤ_, _*ℤ_}
+use lib.Signed.{_≤ℤ_, _<ℤ_}
+use Rattle.integer.specs.Floor.{floorOver, floor-low, floor-high}
+
+abbrev pub wholeNumber : ℤ → ℤ
+wholeNumber rating = floorOver (rating +ℤ pos 5000000) 10000000
+
+-- rounded down: w * 10000000 ≤ rating + 5000000 < (w + 1) * 10000000, of any rating, also below zero
+pub whole-low : (rating : ℤ) → (wholeNumber rating *ℤ pos 10000000) ≤ℤ (rating +ℤ pos 5000000)
+whole-low rating = floor-low (rating +ℤ pos 5000000) 10000000 (lit< tt)
+
+pub whole-high : (rating : ℤ) → (rating +ℤ pos 5000000) <ℤ ((wholeNumber rating +ℤ pos 1) *ℤ pos 10000000)
+whole-high rating = floor-high (rating +ℤ pos 5000000) 10000000 (lit< tt)
