@@ -1,0 +1,93 @@
+-- The check of an analysis (document 01, "The register and the sheet", "What is turned away", 5 and 6). An analysis is
+-- its list of amounts, that of code k at index k. Assumes nothing.
+use mathlib.Core.Path.{_≡_}
+use mathlib.Core.List.{List, [], _∷_}
+use mathlib.Core.Bool.{Bool, true, false, not}
+use Prim.Native.Nat.{ℕ, suc, _+_, _<_, _≤_}
+use lib.ListN.{getD}
+use lib.Dec.{leb, eqb}
+use Rattle.analysis.specs.declared.Checked.{Checked}
+use Rattle.analysis.specs.declared.Checked.the-variants.{InRange, Refused}
+use Rattle.analysis.specs.Register.{CODES, Status, live, retired, splitsOnly, unknown, statusOf, ifElse}
+
+-- the least and the greatest amount; 1 and 0, which leave no amount, where the code is not live
+abbrev pub leastBy : Status → ℕ
+leastBy (live least greatest required) = least
+leastBy retired = 1
+leastBy splitsOnly = 1
+leastBy unknown = 1
+
+abbrev pub greatestBy : Status → ℕ
+greatestBy (live least greatest required) = greatest
+greatestBy retired = 0
+greatestBy splitsOnly = 0
+greatestBy unknown = 0
+
+-- may the code not be absent?
+abbrev pub requiredBy : Status → Bool
+requiredBy (live least greatest required) = required
+requiredBy retired = false
+requiredBy splitsOnly = false
+requiredBy unknown = false
+
+abbrev pub leastOf : ℕ → ℕ
+leastOf code = leastBy (statusOf code)
+
+abbrev pub greatestOf : ℕ → ℕ
+greatestOf code = greatestBy (statusOf code)
+
+abbrev pub requiredOf : ℕ → Bool
+requiredOf code = requiredBy (statusOf code)
+
+-- is the amount in the code's range? 0 counts as absent, and is where the code may be absent
+unfoldable pub inRange : ℕ → ℕ → Bool
+inRange code amount =
+    ifElse (eqb amount 0) (not (requiredOf code)) (ifElse (leb (leastOf code) amount) (leb amount (greatestOf code)) false)
+
+-- is each amount in its range, the first being that of `code`?
+abbrev pub allInRange : ℕ → List ℕ → Bool
+allInRange code [] = true
+allInRange code (x ∷ xs) = ifElse (inRange code x) (allInRange (suc code) xs) false
+
+-- the amounts added as whole numbers
+abbrev pub totalOf : List ℕ → ℕ
+totalOf [] = 0
+totalOf (x ∷ xs) = x + totalOf xs
+
+-- is a total in its range?
+unfoldable pub totalFits : ℕ → Bool
+totalFits total = ifElse (leb 999900 total) (leb total 1000100) false
+
+-- 5 where the ranges do not hold, then 6 where the total does not, else 0
+abbrev pub refusalBy : Bool → Bool → ℕ
+refusalBy false total = 5
+refusalBy true false = 6
+refusalBy true true = 0
+
+-- the number with which an analysis is refused; 0 where it is in range
+unfoldable pub refusalOf : List ℕ → ℕ
+refusalOf a = refusalBy (allInRange 0 a) (totalFits (totalOf a))
+
+-- is `code` at fault, its amount outside its range or absent where it may not be?
+abbrev pub AtFault : List ℕ → ℕ → Type 0
+AtFault a code = inRange code (getD a code 0) ≡ false
+
+-- the answer with the number `n`; 5 carries `code`, and 6 none
+abbrev pub answerOf : ℕ → ℕ → Checked
+answerOf n code = ifElse (eqb n 0) InRange (Refused n (ifElse (eqb n 5) code 0))
+
+-- the code that an answer carries
+abbrev pub codeOf : Checked → ℕ
+codeOf InRange = 0
+codeOf (Refused number code) = code
+
+-- the promise of the check: the answer is fixed but for the code of 5, and that is a code at fault
+pub record Checking (a : List ℕ) (r : Checked) : Type 0 where
+  pub answer : r ≡ answerOf (refusalOf a) (codeOf r)
+  pub code : refusalOf a ≡ 5 → AtFault a (codeOf r)
+
+-- what a search for a code at fault finds: `r`, or CODES where there is none
+pub record Fault (a : List ℕ) (r : ℕ) : Type 0 where
+  pub within : r ≤ CODES
+  pub ranges : eqb r CODES ≡ allInRange 0 a
+  pub fault : r < CODES → AtFault a r

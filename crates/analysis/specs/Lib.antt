@@ -1,0 +1,4 @@
+pub mod Register
+pub mod Table
+pub mod Check
+pub mod Ranges

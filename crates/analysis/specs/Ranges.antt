@@ -1,0 +1,163 @@
+-- What holds of an analysis that is not refused, for those who compute with one. Assumes nothing.
+use mathlib.Core.Path.{_≡_, refl, sym, _∙_}
+use mathlib.Core.List.{List, [], _∷_}
+use mathlib.Core.Bool.{Bool, true, false, not}
+use Prim.Native.Nat.{ℕ, zero, suc, _+_, _≤_, _<_}
+use native.Mathlib.Omega.{arith}
+use native.Mathlib.Numerals.{add-one}
+use lib.Dec.{eqb, leb}
+use lib.ListN.{length, getD, drop, drop-of-length-le}
+use lib.Seq.{drop-cons}
+use borrow.Author.Tests.{eqb-true, eqb-false, leb-true, leb-false}
+use Rattle.analysis.specs.Register.{ifElse, statusOf}
+use Rattle.analysis.specs.Check.{leastOf, greatestOf, requiredOf, inRange, allInRange, totalOf, totalFits, refusalBy, refusalOf}
+
+-- the sum of the amounts from code k on
+pub total-go : (k : ℕ) (a : List ℕ) → k < length a → totalOf (drop k a) ≡ getD a k 0 + totalOf (drop (k + 1) a)
+total-go k a h = rw (drop-cons a k 0 h, add-one)
+
+pub total-end : (k : ℕ) (a : List ℕ) → length a ≤ k → totalOf (drop k a) ≡ 0
+total-end k a h = rw drop-of-length-le
+
+-- an amount that is in range, by cases on the two tests
+module _ (least greatest x : ℕ) where
+  by-least : (absent t u : Bool) → eqb x 0 ≡ t → leb least x ≡ u
+      → ifElse t absent (ifElse u (leb x greatest) false) ≡ true → (x ≡ 0 → ⊥) → least ≤ x
+  by-least absent true u e d h n = absurd (n (eqb-true x 0 e))
+  by-least absent false true e d h n = leb-true least x d
+  by-least absent false false e d h n = let z : _≡_ {A = Bool} false true = h in let y : _≡_ {A = ℕ} 0 1 = cc in absurd (omega arith)
+
+  by-greatest : (absent t u : Bool) → eqb x 0 ≡ t → leb least x ≡ u
+      → ifElse t absent (ifElse u (leb x greatest) false) ≡ true → x ≤ greatest
+  by-greatest absent true u e d h = let z = eqb-true x 0 e in omega arith
+  by-greatest absent false true e d h = leb-true x greatest h
+  by-greatest absent false false e d h = let z : _≡_ {A = Bool} false true = h in let y : _≡_ {A = ℕ} 0 1 = cc in absurd (omega arith)
+
+  by-required : (t u : Bool) → eqb x 0 ≡ t → leb least x ≡ u
+      → ifElse t false (ifElse u (leb x greatest) false) ≡ true → x ≡ 0 → ⊥
+  by-required true u e d h n = let z : _≡_ {A = Bool} false true = h in let y : _≡_ {A = ℕ} 0 1 = cc in omega arith
+  by-required false u e d h n = eqb-false x 0 e n
+
+module _ (code x : ℕ) (h : inRange code x ≡ true) where
+  pub range-least : (x ≡ 0 → ⊥) → leastOf code ≤ x
+  unfolding inRange
+  range-least n = by-least (leastOf code) (greatestOf code) x (not (requiredOf code)) (eqb x 0) (leb (leastOf code) x) refl refl h n
+
+  pub range-greatest : x ≤ greatestOf code
+  unfolding inRange
+  range-greatest = by-greatest (leastOf code) (greatestOf code) x (not (requiredOf code)) (eqb x 0) (leb (leastOf code) x) refl refl h
+
+  pub range-present : requiredOf code ≡ true → x ≡ 0 → ⊥
+  unfolding inRange
+  range-present r =
+      by-required (leastOf code) (greatestOf code) x (eqb x 0) (leb (leastOf code) x) refl refl (rw r at h)
+
+  pub range-required : requiredOf code ≡ true → leastOf code ≤ x
+  range-required r = range-least (range-present r)
+
+-- each amount of an analysis whose amounts are all in range
+all-head : (t u : Bool) → ifElse t u false ≡ true → (t ≡ true) × (u ≡ true)
+all-head true u h = (refl, h)
+all-head false u h = let z : _≡_ {A = Bool} false true = h in (z, cc)
+
+all-from : (a : List ℕ) (code k : ℕ) → allInRange code a ≡ true → k < length a → inRange (code + k) (getD a k 0) ≡ true
+all-from [] code k h l = absurd (omega arith)
+all-from (x ∷ xs) code zero h l =
+    let e : code + zero ≡ code = omega arith in
+    rw e (all-head (inRange code x) (allInRange (suc code) xs) h .0)
+all-from (x ∷ xs) code (suc k) h l =
+    let e : code + suc k ≡ suc code + k = omega arith in
+    rw e (all-from xs (suc code) k (all-head (inRange code x) (allInRange (suc code) xs) h .1) (omega arith))
+
+pub all-at : (a : List ℕ) (k : ℕ) → allInRange 0 a ≡ true → k < length a → inRange k (getD a k 0) ≡ true
+all-at a k h l = let e : 0 + k ≡ k = omega arith in rw e at (all-from a 0 k h l)
+
+-- what it says that an analysis is not refused
+refusal-none : (t u : Bool) → refusalBy t u ≡ 0 → (t ≡ true) × (u ≡ true)
+refusal-none true true h = (refl, refl)
+refusal-none true false h = absurd (omega arith)
+refusal-none false u h = absurd (omega arith)
+
+module _ (a : List ℕ) (h : refusalOf a ≡ 0) where
+  pub passed-ranges : allInRange 0 a ≡ true
+  unfolding refusalOf
+  passed-ranges = refusal-none (allInRange 0 a) (totalFits (totalOf a)) h .0
+
+  passed-total : totalFits (totalOf a) ≡ true
+  unfolding refusalOf
+  passed-total = refusal-none (allInRange 0 a) (totalFits (totalOf a)) h .1
+
+  pub passed-least : 999900 ≤ totalOf a
+  unfolding totalFits
+  passed-least = leb-true 999900 (totalOf a) (all-head (leb 999900 (totalOf a)) (leb (totalOf a) 1000100) passed-total .0)
+
+  pub passed-greatest : totalOf a ≤ 1000100
+  unfolding totalFits
+  passed-greatest = leb-true (totalOf a) 1000100 (all-head (leb 999900 (totalOf a)) (leb (totalOf a) 1000100) passed-total .1)
+
+-- the ranges as inequalities, code by code, and the total
+pub record WithinRanges (a : List ℕ) : Type 0 where
+  pub no-code : getD a 0 0 ≡ 0
+  pub methane-least : 400000 ≤ getD a 1 0
+  pub methane-greatest : getD a 1 0 ≤ 999700
+  pub ethane-least : 100 ≤ getD a 2 0
+  pub ethane-greatest : getD a 2 0 ≤ 150000
+  pub propane-least : 100 ≤ getD a 3 0
+  pub propane-greatest : getD a 3 0 ≤ 60000
+  pub i-butane-least : 10 ≤ getD a 4 0
+  pub i-butane-greatest : getD a 4 0 ≤ 40000
+  pub n-butane-least : 10 ≤ getD a 5 0
+  pub n-butane-greatest : getD a 5 0 ≤ 40000
+  pub neo-pentane-greatest : getD a 6 0 ≤ 500
+  pub i-pentane-greatest : getD a 7 0 ≤ 20000
+  pub n-pentane-greatest : getD a 8 0 ≤ 20000
+  pub retired-nine : getD a 9 0 ≡ 0
+  pub hexanes-greatest : getD a 10 0 ≤ 15000
+  pub carbon-dioxide-greatest : getD a 11 0 ≤ 100000
+  pub nitrogen-greatest : getD a 12 0 ≤ 150000
+  pub retired-thirteen : getD a 13 0 ≡ 0
+  pub total-least : 999900 ≤ totalOf a
+  pub total-greatest : totalOf a ≤ 1000100
+
+module _ (a : List ℕ) (l : length a ≡ 14) where
+  -- the total is the sum over the codes
+  pub total-sum : totalOf a
+      ≡ getD a 0 0 + getD a 1 0 + getD a 2 0 + getD a 3 0 + getD a 4 0 + getD a 5 0 + getD a 6 0 + getD a 7 0 + getD a 8 0
+      + getD a 9 0 + getD a 10 0 + getD a 11 0 + getD a 12 0 + getD a 13 0
+  total-sum =
+      omega (arith, total-go 0 a (omega arith), total-go 1 a (omega arith), total-go 2 a (omega arith), total-go 3 a (omega arith), total-go 4 a (omega arith), total-go 5 a (omega arith), total-go 6 a (omega arith), total-go 7 a (omega arith), total-go 8 a (omega arith), total-go 9 a (omega arith), total-go 10 a (omega arith), total-go 11 a (omega arith), total-go 12 a (omega arith), total-go 13 a (omega arith), total-end 14 a (omega arith))
+
+  module _ (h : refusalOf a ≡ 0) where
+    at-most : (k : ℕ) → k < 14 → getD a k 0 ≤ greatestOf k
+    at-most k s = range-greatest k (getD a k 0) (all-at a k (passed-ranges a h) (omega arith))
+
+    at-least : (k : ℕ) → k < 14 → requiredOf k ≡ true → leastOf k ≤ getD a k 0
+    at-least k s r = range-required k (getD a k 0) (all-at a k (passed-ranges a h) (omega arith)) r
+
+    -- not refused: every range holds
+    pub within-ranges : WithinRanges a
+    unfolding statusOf
+    within-ranges =
+        record {
+          no-code = let z = at-most 0 (omega arith) in omega arith;
+          methane-least = at-least 1 (omega arith) refl;
+          methane-greatest = at-most 1 (omega arith);
+          ethane-least = at-least 2 (omega arith) refl;
+          ethane-greatest = at-most 2 (omega arith);
+          propane-least = at-least 3 (omega arith) refl;
+          propane-greatest = at-most 3 (omega arith);
+          i-butane-least = at-least 4 (omega arith) refl;
+          i-butane-greatest = at-most 4 (omega arith);
+          n-butane-least = at-least 5 (omega arith) refl;
+          n-butane-greatest = at-most 5 (omega arith);
+          neo-pentane-greatest = at-most 6 (omega arith);
+          i-pentane-greatest = at-most 7 (omega arith);
+          n-pentane-greatest = at-most 8 (omega arith);
+          retired-nine = let z = at-most 9 (omega arith) in omega arith;
+          hexanes-greatest = at-most 10 (omega arith);
+          carbon-dioxide-greatest = at-most 11 (omega arith);
+          nitrogen-greatest = at-most 12 (omega arith);
+          retired-thirteen = let z = at-most 13 (omega arith) in omega arith;
+          total-least = passed-least a h;
+          total-greatest = passed-greatest a h;
+        }

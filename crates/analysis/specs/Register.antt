@@ -1,0 +1,83 @@
+-- The register of component codes (document 01, "The register and the sheet"; ranges of 001 Table 1): every key ever
+-- given, retired ones included, for a key is never given again. Assumes nothing.
+use mathlib.Core.Path.{_≡_, refl}
+use mathlib.Core.List.{List, [], _∷_}
+use mathlib.Core.Bool.{Bool, true, false}
+use Prim.Native.Nat.{ℕ}
+use lib.Dec.{eqb, ltb}
+
+-- a code is live, with the least and the greatest amount in parts and whether it must be present; or retired; or legal in
+-- splits only; or no key of the register. A part, by document 01, is 0.0001 % by volume.
+pub data Status : Type 0 where
+  live : ℕ → ℕ → Bool → Status
+  retired : Status
+  splitsOnly : Status
+  unknown : Status
+
+pub record Entry : Type 0 where
+  pub code : ℕ
+  pub status : Status
+
+abbrev entry : ℕ → Status → Entry
+entry code status = record { code = code; status = status }
+
+-- methane, ethane, propane, i-butane, n-butane, neo-pentane, i-pentane, n-pentane, a retired code, hexanes+,
+-- carbon dioxide, nitrogen, a retired code, and the butanes of the simplified mixture
+abbrev pub register : List Entry
+register =
+    entry 1 (live 400000 999700 true) ∷
+    entry 2 (live 100 150000 true) ∷
+    entry 3 (live 100 60000 true) ∷
+    entry 4 (live 10 40000 true) ∷
+    entry 5 (live 10 40000 true) ∷
+    entry 6 (live 10 500 false) ∷
+    entry 7 (live 10 20000 false) ∷
+    entry 8 (live 10 20000 false) ∷
+    entry 9 retired ∷
+    entry 10 (live 10 15000 false) ∷
+    entry 11 (live 50 100000 false) ∷
+    entry 12 (live 50 150000 false) ∷
+    entry 13 retired ∷
+    entry 14 splitsOnly ∷
+    []
+
+-- the indices of an analysis: its codes are below 14
+abbrev pub CODES : ℕ
+CODES = 14
+
+abbrev pub ifElse {ℓ} : {A : Type ℓ} → Bool → A → A → A
+ifElse true a b = a
+ifElse false a b = b
+
+-- what a code is by the entries of a list
+abbrev pub statusIn : List Entry → ℕ → Status
+statusIn [] c = unknown
+statusIn (e ∷ es) c = ifElse (eqb c (e .code)) (e .status) (statusIn es c)
+
+unfoldable pub statusOf : ℕ → Status
+statusOf c = statusIn register c
+
+abbrev pub keysOf : List Entry → List ℕ
+keysOf [] = []
+keysOf (e ∷ es) = e .code ∷ keysOf es
+
+abbrev pub isIn : ℕ → List ℕ → Bool
+isIn x [] = false
+isIn x (y ∷ ys) = ifElse (eqb x y) true (isIn x ys)
+
+abbrev pub distinct : List ℕ → Bool
+distinct [] = true
+distinct (x ∷ xs) = ifElse (isIn x xs) false (distinct xs)
+
+-- does each number stand above the one before, the first above `p`?
+abbrev pub rising : ℕ → List ℕ → Bool
+rising p [] = true
+rising p (x ∷ xs) = ifElse (ltb p x) (rising x xs) false
+
+-- no key stands twice
+pub no-key-twice : distinct (keysOf register) ≡ true
+no-key-twice = refl
+
+-- and the keys rise from 1
+pub keys-rise : rising 0 (keysOf register) ≡ true
+keys-rise = refl

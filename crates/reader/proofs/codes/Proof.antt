@@ -1,0 +1,81 @@
+use mathlib.Core.Path.{_≡_, sym, ap, _∙_, refl}
+use Prim.Native.Nat.{ℕ, suc, _+_, _-_, _*_, _≤_, _<_}
+use native.Mathlib.Omega.{arith}
+use native.Mathlib.Nat.{sub-zero}
+use Rattle.sheet.specs.declared.Reading.the-variants.{Refused}
+use Rattle.sheet.specs.Components.{codesReading, codeRefusal}
+use Rattle.reader.proofs.Turns.{codes-go, codes-stop, codes-end}
+use borrow.Author.Needs.{needs}
+use Rattle.reader.proofs.codes.Statement.{statement}
+use Rattle.reader.proofs.codes.Tie as tie
+use Rattle.reader.proofs.codes.Reads as reads
+use Rattle.reader.proofs.codes.Lts as lts
+use Rattle.reader.proofs.code_refusal.Reads as code-refusal-reads
+
+abbrev Inv-loop : tie.InvT-loop
+Inv-loop s n i₀ at₀ p₀ i at p = (i ≤ n) × (at ≡ 1 + 5 * i) × (codesReading (n - i) s at i p ≡ codesReading n s 1 0 0)
+
+abbrev μ-loop : tie.MeasureT-loop
+μ-loop s n i₀ at₀ p₀ i at p = n - i
+
+loop-holds : tie.Need-loop-holds Inv-loop μ-loop
+loop-holds c = (search needs, search needs, simp sub-zero)
+
+shared-slice-read-c : tie.Need-shared-slice-read-c Inv-loop μ-loop
+shared-slice-read-c c = search needs
+
+code-refusal-requires : tie.Need-code-refusal-requires Inv-loop μ-loop
+code-refusal-requires c κs = search needs
+
+cast-t11 : tie.Need-cast-t11 Inv-loop μ-loop
+cast-t11 c = search needs
+
+returns : tie.Need-returns Inv-loop μ-loop
+returns c =
+    let a = c .before .before .before .before .before .before .args in
+    let l = c .before .before .before .before .loop in
+    let t = c .before .before .before .loop-test .taken in
+    let f = c .before .code-refusal .ensures in
+    let stop = codes-stop (a .n) (l .i) (a .s .now) (l .at) (l .p) t (λ z. c .if1 .taken (f ∙ z)) in
+    ap (λ (x : ℕ). Refused x (l .i) 0) f ∙ sym stop ∙ l .inv .2
+
+add-i : tie.Need-add-i Inv-loop μ-loop
+add-i c = search needs
+
+add-at : tie.Need-add-at Inv-loop μ-loop
+add-at c = search needs
+
+loop-less : tie.Need-loop-less Inv-loop μ-loop
+loop-less c = search needs
+
+loop-again : tie.Need-loop-again Inv-loop μ-loop
+loop-again c =
+    let a = c .before .before .before .before .before .before .args in
+    let l = c .before .before .before .before .loop in
+    let t = c .before .before .before .loop-test .taken in
+    let f = c .before .code-refusal .ensures in
+    let go = codes-go (a .n) (l .i) (a .s .now) (l .at) (l .p) t (sym f ∙ c .if1 .left) in
+    (search needs, search needs, sym go ∙ l .inv .2)
+
+returns-2 : tie.Need-returns-2 Inv-loop μ-loop
+returns-2 c =
+    let a = c .before .before .before .args in
+    let l = c .before .loop in
+    sym (codes-end (a .n) (l .i) (a .s .now) (l .at) (l .p) (c .loop-test .left)) ∙ l .inv .2
+
+pub codes-spec : {M : Type 1} → statement M
+codes-spec =
+    tie.close
+    (tie.spec
+    Inv-loop
+    μ-loop
+    loop-holds
+    shared-slice-read-c
+    code-refusal-requires
+    cast-t11
+    returns
+    add-i
+    add-at
+    loop-less
+    loop-again
+    returns-2)

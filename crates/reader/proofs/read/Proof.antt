@@ -1,0 +1,119 @@
+use mathlib.Core.Path.{_≡_, sym, ap, _∙_, refl}
+use Prim.Native.Nat.{ℕ, suc, _+_, _-_, _*_, _≤_, _<_}
+use native.Mathlib.Omega.{arith}
+use lib.ListN.{length, getD}
+use Rattle.sheet.specs.declared.Reading.the-variants.{Read}
+use Rattle.sheet.specs.declared.Sections.the-variants.{Both}
+use Rattle.sheet.specs.Sheet.{sectionsOf}
+use Rattle.sheet.specs.Read.{refusedSheet}
+use Rattle.sheet.specs.Cases.{allowed-most, sectioned}
+use Rattle.reader.proofs.Answers.{answer-torn, answer-codes, answer-amounts, answer-good}
+use borrow.Author.Needs.{needs}
+use Rattle.reader.proofs.read.Statement.{statement}
+use Rattle.reader.proofs.read.Tie as tie
+use Rattle.reader.proofs.read.Reads as reads
+use Rattle.reader.proofs.read.Lts as lts
+use Rattle.reader.proofs.amounts.Reads as amounts-reads
+use Rattle.reader.proofs.amounts_refused.Reads as amounts-refused-reads
+use Rattle.reader.proofs.codes.Reads as codes-reads
+use Rattle.reader.proofs.refused.Reads as refused-reads
+use Rattle.reader.proofs.sections.Reads as sections-reads
+use Rattle.reader.proofs.split_at.Reads as split-at-reads
+
+both : (c : tie.After-known-told) → let g = c .before .parts .given .0 in sectionsOf (c .before .before .before .before .before .args .s .now) ≡ Both (g .0) (g .1 .0) (g .1 .1 .0)
+both c = sym (c .before .before .before .sections .ensures) ∙ c .before .parts .given .1
+
+sections-requires : tie.Need-sections-requires
+sections-requires c κs = search needs
+
+enum-known-parts : tie.Need-enum-known-parts
+enum-known-parts c = search needs
+
+enum-told : tie.Need-enum-told
+enum-told c = search needs
+
+refused-requires : tie.Need-refused-requires
+refused-requires c κs = search needs
+
+returns : tie.Need-returns
+returns c = answer-torn _ _ (sym (c .before .before .before .sections .ensures) ∙ c .before .enum-told .given .1) (c .refused .ensures)
+
+codes-requires : tie.Need-codes-requires
+codes-requires c κs =
+    let g = sectioned _ (both (c)) in
+    (g .few, omega (arith, g .size))
+
+enum-told-2 : tie.Need-enum-told-2
+enum-told-2 c = search needs
+
+enum-told-3 : tie.Need-enum-told-3
+enum-told-3 c = search needs
+
+refused-requires-2 : tie.Need-refused-requires-2
+refused-requires-2 c κs = search needs
+
+returns-2 : tie.Need-returns-2
+returns-2 c =
+    let t = c .before .enum-told3 .given .1 in
+    answer-codes _ _ _ _ _ (both (c .before .before .before .before)) _ _ _ (sym (c .before .before .before .codes .ensures) ∙ t) (c .refused2 .ensures ∙ ap refusedSheet t)
+
+amounts-requires : tie.Need-amounts-requires
+amounts-requires c κs =
+    let g = sectioned _ (both (c .before .before .before)) in
+    omega (arith, g .size)
+
+amounts-refused-requires : tie.Need-amounts-refused-requires
+amounts-refused-requires c κs =
+    let g = sectioned _ (both (c .before .before .before .before)) in
+    (omega (arith, g .size), c .amounts .ensures)
+
+enum-known-checked : tie.Need-enum-known-checked
+enum-known-checked c = search needs
+
+refused-requires-3 : tie.Need-refused-requires-3
+refused-requires-3 c κs = search needs
+
+enum-told-4 : tie.Need-enum-told-4
+enum-told-4 c = search needs
+
+split-at-requires : tie.Need-split-at-requires
+split-at-requires c κs =
+    let g = sectioned _ (both (c .before .before .before .before .before .before .before)) in
+    (allowed-most _ (g .allowed), omega (arith, g .size, g .begins))
+
+returns-3 : tie.Need-returns-3
+returns-3 c =
+    let t = c .before .before .checked .given .1 in
+    let d = sym (c .before .before .before .before .before .before .before .before .codes .ensures) ∙ c .before .before .before .before .before .before .enum-told2 .given .1 in
+    answer-amounts _ _ _ _ _ (both (c .before .before .before .before .before .before .before .before .before)) d _ _ _ (c .before .before .before .before .amounts-refused .ensures) t (c .refused3 .ensures)
+
+returns-4 : tie.Need-returns-4
+returns-4 c =
+    let t = c .before .enum-told4 .given .1 in
+    let d = sym (c .before .before .before .before .before .before .before .codes .ensures) ∙ c .before .before .before .before .before .enum-told2 .given .1 in
+    let f = c .before .before .before .before .amounts .ensures in
+    let p = c .split-at .ensures in
+    answer-good _ _ _ _ _ (both (c .before .before .before .before .before .before .before .before)) d _ (c .before .before .before .amounts-refused .ensures) t (λ i. record { answer = Read; analysis = record { amounts = f i }; split = p i })
+
+pub read-spec : {M : Type 1} → statement M
+read-spec =
+    tie.close
+    (tie.spec
+    sections-requires
+    enum-known-parts
+    enum-told
+    refused-requires
+    returns
+    codes-requires
+    enum-told-2
+    enum-told-3
+    refused-requires-2
+    returns-2
+    amounts-requires
+    amounts-refused-requires
+    enum-known-checked
+    refused-requires-3
+    enum-told-4
+    split-at-requires
+    returns-3
+    returns-4)

@@ -1,0 +1,260 @@
+// The reader of a sheet: refusals 1 to 6, or the analysis and the split. No public function has a `requires`.
+ghost use mathlib.Core.Path.{_≡_};
+ghost use Prim.Native.Nat.{ℕ, _+_, _*_, _<_, _≤_};
+ghost use lib.ListN.{length, replicate};
+ghost use Rattle.analysis.specs.Register.{CODES};
+ghost use Rattle.sheet.specs.Bytes.{number, numberAt};
+ghost use Rattle.sheet.specs.Components.{codeRefusal, codesReading, amountsFrom};
+ghost use Rattle.sheet.specs.Split.{RECORDS, splitAt};
+ghost use Rattle.sheet.specs.Sheet.{sectionsOf};
+ghost use Rattle.sheet.specs.Read.{refusedSheet, ReadAs};
+ghost use Rattle.reader.specs.Find.{ZeroRecord, AmountsRefused};
+use analysis::Analysis;
+use analysis::CODES;
+use analysis::Checked;
+use section::Section;
+use sheet::COMPONENT_RECORDS;
+use sheet::RECORDS;
+use sheet::Reading;
+use sheet::Sections;
+use sheet::Sheet;
+use sheet::Split;
+
+// Four bytes as a number, high byte first.
+fn join(a: u8, b: u8, c: u8, d: u8) -> u32
+    ensures { λ r. ⌜ r ≡ number a b c d ⌝ }
+{
+    a as u32 * 16777216 + b as u32 * 65536 + c as u32 * 256 + d as u32
+}
+
+// The amount whose four bytes stand at `at`.
+fn amount_at(s: &[u8], at: usize) -> u32
+    requires { ⌜ at + 4 ≤ length (now s) ⌝ }
+    ensures { λ r. ⌜ r ≡ numberAt (now (s .entry)) at ⌝ }
+{
+    join(s[at], s[at + 1], s[at + 2], s[at + 3])
+}
+
+// The two sections, the second beginning where the first ends, and nothing after it.
+fn sections(s: &[u8]) -> Sections
+    ensures { λ r. ⌜ r ≡ sectionsOf (now (s .entry)) ⌝ }
+{
+    let components = section::peek(s, 0, 5);
+    let Section::Records {
+        count: n,
+        first: _,
+        end,
+    } = components
+    else {
+        return Sections::Torn;
+    };
+    if COMPONENT_RECORDS < n {
+        return Sections::Torn;
+    }
+    let split = section::peek(s, end, 6);
+    let Section::Records {
+        count: m,
+        first,
+        end: last,
+    } = split
+    else {
+        return Sections::Torn;
+    };
+    let allowed = sheet::allowed_count(m);
+    if !allowed {
+        return Sections::Torn;
+    }
+    if last != s.len() {
+        return Sections::Torn;
+    }
+    Sections::Both {
+        components: n,
+        records: m,
+        first,
+    }
+}
+
+// The refusal of a code in components by the register: 2 unknown or legal in splits only, 3 retired; 0 where it is live.
+const REFUSALS: [u32; CODES] = [2, 0, 0, 0, 0, 0, 0, 0, 0, 3, 0, 0, 0, 3];
+
+// The refusal of the code `c` after the code `p`, or 0.
+fn code_refusal(c: u8, p: u8) -> u32
+    ensures { λ r. ⌜ r ≡ codeRefusal c p ⌝ }
+{
+    let k = c as usize;
+    if CODES <= k {
+        return 2;
+    }
+    let refusal = REFUSALS[k];
+    if refusal != 0 {
+        return refusal;
+    }
+    if c <= p {
+        return 4;
+    }
+    0
+}
+
+// The first of `n` component records whose code is refused, with its place.
+fn codes(s: &[u8], n: usize) -> Reading
+    requires { ⌜ (n ≤ 11) × (1 + 5 * n ≤ length (now s)) ⌝ }
+    ensures { λ r. ⌜ r ≡ codesReading n (now (s .entry)) 1 0 0 ⌝ }
+{
+    let mut i: usize = 0;
+    let mut at: usize = 1;
+    let mut p: u8 = 0;
+    while i < n {
+        let c = s[at];
+        let refusal = code_refusal(c, p);
+        if refusal != 0 {
+            return Reading::Refused {
+                number: refusal,
+                place: i as u32,
+                code: 0,
+            };
+        }
+        p = c;
+        i += 1;
+        at += 5;
+    }
+    Reading::Read
+}
+
+// The place of the first of `n` component records with the amount 0, or `n`.
+fn zero_record(s: &[u8], n: usize) -> usize
+    requires { ⌜ 1 + 5 * n ≤ length (now s) ⌝ }
+    ensures { λ r. ⌜ ZeroRecord n (now (s .entry)) r ⌝ }
+{
+    let mut i: usize = 0;
+    let mut at: usize = 1;
+    while i < n {
+        let x = amount_at(s, at + 1);
+        if x == 0 {
+            return i;
+        }
+        i += 1;
+        at += 5;
+    }
+    i
+}
+
+// The amounts of `n` component records, by code.
+fn amounts(s: &[u8], n: usize) -> [u32; CODES]
+    requires { ⌜ 1 + 5 * n ≤ length (now s) ⌝ }
+    ensures { λ r. ⌜ r ≡ amountsFrom n (now (s .entry)) 1 (replicate CODES 0) ⌝ }
+{
+    let mut a = [0u32; CODES];
+    let mut i: usize = 0;
+    let mut at: usize = 1;
+    while i < n {
+        let c = s[at] as usize;
+        let x = amount_at(s, at + 1);
+        if c < CODES {
+            a[c] = x;
+        }
+        i += 1;
+        at += 5;
+    }
+    a
+}
+
+// The split of `m` records at `at`.
+fn split_at(s: &[u8], at: usize, m: usize) -> Split
+    requires { ⌜ (m ≤ RECORDS) × (at + 6 * m ≤ length (now s)) ⌝ }
+    ensures { λ r. ⌜ r ≡ splitAt m (now (s .entry)) at ⌝ }
+{
+    let mut systems = [0u8; RECORDS];
+    let mut codes = [0u8; RECORDS];
+    let mut amounts = [0u32; RECORDS];
+    let mut i: usize = 0;
+    let mut w: usize = at;
+    while i < m {
+        systems[i] = s[w];
+        codes[i] = s[w + 1];
+        amounts[i] = amount_at(s, w + 2);
+        i += 1;
+        w += 6;
+    }
+    Split {
+        count: m,
+        systems,
+        codes,
+        amounts,
+    }
+}
+
+// All zeros beside a refusal.
+fn refused(answer: Reading) -> Sheet
+    ensures { λ r. ⌜ r ≡ refusedSheet answer ⌝ }
+{
+    Sheet {
+        answer,
+        analysis: Analysis {
+            amounts: [0u32; CODES],
+        },
+        split: Split {
+            count: 0,
+            systems: [0u8; RECORDS],
+            codes: [0u8; RECORDS],
+            amounts: [0u32; RECORDS],
+        },
+    }
+}
+
+// Is a component listed at 0, or the analysis out of range? Refused 5 or 6, or not.
+fn amounts_refused(s: &[u8], n: usize, a: Analysis) -> Checked
+    requires { ⌜ (1 + 5 * n ≤ length (now s)) × (a .amounts ≡ amountsFrom n (now s) 1 (replicate CODES 0)) ⌝ }
+    ensures { λ r. ⌜ AmountsRefused n (now (s .entry)) r ⌝ }
+{
+    let place = zero_record(s, n);
+    if place < n {
+        let at = 1 + 5 * place;
+        return Checked::Refused {
+            number: 5,
+            code: s[at] as u32,
+        };
+    }
+    analysis::check(a)
+}
+
+// The sheet that the bytes are, or the refusal.
+pub fn read(s: &[u8]) -> Sheet
+    ensures { λ r. ⌜ ReadAs (now (s .entry)) r ⌝ }
+{
+    let parts = sections(s);
+    let Sections::Both {
+        components: n,
+        records: m,
+        first,
+    } = parts
+    else {
+        return refused(Reading::Refused {
+            number: 1,
+            place: 0,
+            code: 0,
+        });
+    };
+    let answer = codes(s, n);
+    let Reading::Read = answer else {
+        return refused(answer);
+    };
+    let a = Analysis {
+        amounts: amounts(s, n),
+    };
+    let checked = amounts_refused(s, n, a);
+    match checked {
+        Checked::Refused { number, code } => refused(Reading::Refused {
+            number,
+            place: 0,
+            code,
+        }),
+        Checked::InRange => {
+            let split = split_at(s, first, m);
+            Sheet {
+                answer: Reading::Read,
+                analysis: a,
+                split,
+            }
+        }
+    }
+}

@@ -1,0 +1,21 @@
+use mathlib.Core.Path.{_≡_, sym, ap, _∙_, refl}
+use Prim.Native.Nat.{ℕ, suc, _+_, _-_, _*_, _≤_, _<_}
+use native.Mathlib.Omega.{arith}
+use Rattle.sheet.specs.Split.{allowedCount}
+use borrow.Author.Tests.{eq-eqb, ne-eqb}
+use borrow.Author.Needs.{needs}
+use Rattle.sheet.proofs.allowed_count.Statement.{statement}
+use Rattle.sheet.proofs.allowed_count.Tie as tie
+use Rattle.sheet.proofs.allowed_count.Reads as reads
+use Rattle.sheet.proofs.allowed_count.Lts as lts
+
+returns : tie.Need-returns
+unfolding allowedCount
+returns c = rw (eq-eqb _ _ (c .if1 .taken))
+
+returns-2 : tie.Need-returns-2
+unfolding allowedCount
+returns-2 c = rw (ne-eqb _ _ (c .if1 .left))
+
+pub allowed-count-spec : {M : Type 1} → statement M
+allowed-count-spec = tie.close (tie.spec returns returns-2)

@@ -1,0 +1,15 @@
+-- Amounts as bytes (document 01, "The register and the sheet"): four bytes, high byte first. Assumes nothing.
+use Prim.Native.Nat.{ℕ, _+_, _*_, _/_, _%_}
+use mathlib.Core.List.{List, [], _∷_}
+use lib.ListN.{getD}
+
+-- the number of four bytes, and that of the four bytes of `s` at `at`
+abbrev pub number : ℕ → ℕ → ℕ → ℕ → ℕ
+number a b c d = a * 16777216 + b * 65536 + c * 256 + d
+
+abbrev pub numberAt : List ℕ → ℕ → ℕ
+numberAt s at = number (getD s at 0) (getD s (at + 1) 0) (getD s (at + 2) 0) (getD s (at + 3) 0)
+
+-- the four bytes of a number
+abbrev pub bytesOf : ℕ → List ℕ
+bytesOf x = x / 16777216 ∷ x / 65536 % 256 ∷ x / 256 % 256 ∷ x % 256 ∷ []

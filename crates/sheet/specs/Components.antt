@@ -1,0 +1,51 @@
+-- The components of a sheet (document 01, "The register and the sheet"): records of one code byte and four amount bytes.
+-- Assumes nothing.
+use Prim.Native.Nat.{ℕ, zero, suc, _+_, _*_}
+use mathlib.Core.List.{List, [], _∷_, _++_}
+use mathlib.Core.Bool.{Bool, true, false}
+use lib.ListN.{getD, set}
+use lib.Dec.{leb, eqb}
+use Rattle.analysis.specs.Register.{Status, live, retired, splitsOnly, unknown, statusOf, ifElse}
+use Rattle.sheet.specs.declared.Reading.{Reading}
+use Rattle.sheet.specs.declared.Reading.the-variants.{Read, Refused}
+use Rattle.sheet.specs.Bytes.{numberAt, bytesOf}
+
+-- the refusal of a code in components by what the register says of it: 3 retired, 2 unknown or legal in splits only
+abbrev pub refusalBy : Status → ℕ
+refusalBy (live least greatest required) = 0
+refusalBy retired = 3
+refusalBy splitsOnly = 2
+refusalBy unknown = 2
+
+-- the refusal of `code` after the code `p` (0 before the first), 2 or 3, then 4 where it is not above that; or 0
+unfoldable pub codeRefusal : ℕ → ℕ → ℕ
+codeRefusal code p = ifElse (eqb (refusalBy (statusOf code)) 0) (ifElse (leb code p) 4 0) (refusalBy (statusOf code))
+
+-- record by record: the first of `n` records at `at` that is refused, with its place, that of the first of them being `i`
+abbrev pub codesReading : ℕ → List ℕ → ℕ → ℕ → ℕ → Reading
+codesReading zero s at i p = Read
+codesReading (suc n) s at i p =
+    ifElse (eqb (codeRefusal (getD s at 0) p) 0)
+    (codesReading n s (at + 5) (i + 1) (getD s at 0))
+    (Refused (codeRefusal (getD s at 0) p) i 0)
+
+-- the amounts `a`, with those of `n` records at `at` put in
+abbrev pub amountsFrom : ℕ → List ℕ → ℕ → List ℕ → List ℕ
+amountsFrom zero s at a = a
+amountsFrom (suc n) s at a = amountsFrom n s (at + 5) (set a (getD s at 0) (numberAt s (at + 1)))
+
+-- is a component listed at 0 in `n` records at `at`?
+abbrev pub zeroListed : ℕ → List ℕ → ℕ → Bool
+zeroListed zero s at = false
+zeroListed (suc n) s at = ifElse (eqb (numberAt s (at + 1)) 0) true (zeroListed n s (at + 5))
+
+-- how many amounts are listed: only codes with an amount are
+abbrev pub countOf : List ℕ → ℕ
+countOf [] = 0
+countOf (x ∷ xs) = ifElse (eqb x 0) (countOf xs) (suc (countOf xs))
+
+-- the records of the amounts `xs`, the first of which is that of the code `k`
+abbrev pub componentBytes : ℕ → List ℕ → List ℕ
+componentBytes k [] = []
+componentBytes k (x ∷ xs) =
+    ifElse (eqb x 0) (componentBytes (suc k) xs) (k ∷ bytesOf x ++ componentBytes (suc k) xs)

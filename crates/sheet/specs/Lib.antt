@@ -1,0 +1,10 @@
+pub mod Bytes
+pub mod Components
+pub mod Split
+pub mod Sheet
+pub mod Read
+pub mod Write
+pub mod Cases
+pub mod Back
+pub mod Forth
+pub mod RoundTrip

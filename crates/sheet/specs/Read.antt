@@ -1,0 +1,82 @@
+-- Reading a sheet (document 01, "What is turned away", 1 to 6). Assumes nothing.
+use Prim.Native.Nat.{ℕ, _+_, _*_, _<_}
+use mathlib.Core.Path.{_≡_}
+use mathlib.Core.Logic.{_⊎_}
+use mathlib.Core.List.{List}
+use mathlib.Core.Bool.{Bool, true, false}
+use lib.ListN.{getD, replicate}
+use lib.Dec.{eqb}
+use Rattle.analysis.specs.Register.{CODES, ifElse}
+use Rattle.analysis.specs.Check.{refusalOf, AtFault}
+use Rattle.sheet.specs.declared.Reading.{Reading}
+use Rattle.sheet.specs.declared.Reading.the-variants.{Read, Refused}
+use Rattle.sheet.specs.declared.Sections.{Sections}
+use Rattle.sheet.specs.declared.Sections.the-variants.{Torn, Both}
+use Rattle.sheet.specs.declared.Sheet.{Sheet}
+use Rattle.sheet.specs.Bytes.{numberAt}
+use Rattle.sheet.specs.Components.{codesReading, amountsFrom, zeroListed}
+use Rattle.sheet.specs.Split.{splitAt, noSplit}
+use Rattle.sheet.specs.Sheet.{sectionsOf}
+
+-- the amounts of `n` components, by code
+abbrev pub amountsOf : ℕ → List ℕ → List ℕ
+amountsOf n s = amountsFrom n s 1 (replicate CODES 0)
+
+-- the number by the amounts: 5 for a component listed at 0, then that of the analysis
+unfoldable pub amountsRefusal : ℕ → List ℕ → ℕ
+amountsRefusal n s = ifElse (zeroListed n s 1) 5 (refusalOf (amountsOf n s))
+
+-- a refusal by the amounts; 5 carries `code`
+abbrev pub byAmounts : ℕ → ℕ → Reading
+byAmounts number code = ifElse (eqb number 0) Read (Refused number 0 (ifElse (eqb number 5) code 0))
+
+abbrev pub refusedSheet : Reading → Sheet
+refusedSheet x = record { answer = x; analysis = record { amounts = replicate CODES 0 }; split = noSplit }
+
+-- what the sheet holds: `n` components, and `m` split records at `first`
+abbrev pub contentOf : ℕ → ℕ → ℕ → List ℕ → Sheet
+contentOf n m first s = record { answer = Read; analysis = record { amounts = amountsOf n s }; split = splitAt m s first }
+
+-- all zeros beside a refusal
+abbrev pub withAnswer : Reading → Sheet → Sheet
+withAnswer Read sheet = sheet
+withAnswer (Refused number place code) sheet = refusedSheet (Refused number place code)
+
+-- after the codes, the amounts
+abbrev pub afterCodes : Reading → ℕ → List ℕ → ℕ → Reading
+afterCodes Read n s code = byAmounts (amountsRefusal n s) code
+afterCodes (Refused number place code') n s code = Refused number place code'
+
+-- 1 over the whole sheet, then record by record 2, 3, 4, then 5 and 6
+unfoldable pub readBy : Sections → List ℕ → ℕ → Sheet
+readBy Torn s code = refusedSheet (Refused 1 0 0)
+readBy (Both n m first) s code = withAnswer (afterCodes (codesReading n s 1 0 0) n s code) (contentOf n m first s)
+
+-- the sheet that the bytes `s` are; a refusal 5 carries `code`
+unfoldable pub readOf : List ℕ → ℕ → Sheet
+readOf s code = readBy (sectionsOf s) s code
+
+-- the number of an answer, and the code that it carries
+abbrev pub numberOf : Reading → ℕ
+numberOf Read = 0
+numberOf (Refused number place code) = number
+
+abbrev pub codeOf : Reading → ℕ
+codeOf Read = 0
+codeOf (Refused number place code) = code
+
+-- `code` stands in one of `n` component records with the amount 0
+pub record ListedAtZero (n : ℕ) (s : List ℕ) (code : ℕ) : Type 0 where
+  pub place : ℕ
+  pub listed : place < n
+  pub code-there : getD s (1 + 5 * place) 0 ≡ code
+  pub amount-there : numberAt s (1 + 5 * place + 1) ≡ 0
+
+-- a code at fault in a sheet of `n` components: listed at 0, out of its range, or absent where it may not be
+abbrev pub FaultIn : ℕ → List ℕ → ℕ → Type 0
+FaultIn n s code = ListedAtZero n s code ⊎ AtFault (amountsOf n s) code
+
+-- the promise of the reader: the sheet is fixed but for the code of 5, and that is a code at fault
+pub record ReadAs (s : List ℕ) (r : Sheet) : Type 0 where
+  pub sheet : r ≡ readOf s (codeOf (r .answer))
+  pub code : numberOf (r .answer) ≡ 5 → FaultIn (getD s 0 0) s (codeOf (r .answer))

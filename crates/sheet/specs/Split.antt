@@ -1,0 +1,68 @@
+-- The split of a sheet (document 01, "The register and the sheet"): records of system byte, code byte and four amount
+-- bytes. A split is its count and three columns. Assumes nothing.
+use Prim.Native.Nat.{ℕ, zero, suc, _+_, _-_}
+use mathlib.Core.List.{List, [], _∷_, _++_}
+use mathlib.Core.Bool.{Bool, true, false}
+use lib.ListN.{length, getD, take, replicate}
+use lib.Dec.{eqb}
+use Rattle.analysis.specs.Register.{ifElse}
+use Rattle.sheet.specs.declared.Split.{Split}
+use Rattle.sheet.specs.Bytes.{numberAt, bytesOf}
+
+-- the places of a column
+abbrev pub RECORDS : ℕ
+RECORDS = 9
+
+-- the counts of a split section: none or nine
+unfoldable pub allowedCount : ℕ → Bool
+allowedCount m = ifElse (eqb m 0) true (eqb m 9)
+
+-- the bytes of `m` records from the place `i` on, of the columns `xs`, `ys` and `zs`
+abbrev pub recordBytes : ℕ → ℕ → List ℕ → List ℕ → List ℕ → List ℕ
+recordBytes zero i xs ys zs = []
+recordBytes (suc m) i xs ys zs = getD xs i 0 ∷ getD ys i 0 ∷ bytesOf (getD zs i 0) ++ recordBytes m (i + 1) xs ys zs
+
+abbrev pub splitBytes : Split → List ℕ
+splitBytes p = recordBytes (p .count) 0 (p .systems) (p .codes) (p .amounts)
+
+-- a column of bytes, and one of amounts, of `m` records at `at`
+abbrev pub byteColumn : ℕ → List ℕ → ℕ → List ℕ
+byteColumn zero s at = []
+byteColumn (suc m) s at = getD s at 0 ∷ byteColumn m s (at + 6)
+
+abbrev pub amountColumn : ℕ → List ℕ → ℕ → List ℕ
+amountColumn zero s at = []
+amountColumn (suc m) s at = numberAt s at ∷ amountColumn m s (at + 6)
+
+-- a column with zeros in the places that are not used
+abbrev pub padded : List ℕ → List ℕ
+padded xs = xs ++ replicate (RECORDS - length xs) 0
+
+-- the split of `m` records at `at`
+abbrev pub splitAt : ℕ → List ℕ → ℕ → Split
+splitAt m s at =
+    record {
+      count = m;
+      systems = padded (byteColumn m s at);
+      codes = padded (byteColumn m s (at + 1));
+      amounts = padded (amountColumn m s (at + 2));
+    }
+
+abbrev pub noSplit : Split
+noSplit =
+    record {
+      count = 0;
+      systems = replicate RECORDS 0;
+      codes = replicate RECORDS 0;
+      amounts = replicate RECORDS 0;
+    }
+
+-- a split with zeros in the places that its count does not use
+abbrev pub trimmed : Split → Split
+trimmed p =
+    record {
+      count = p .count;
+      systems = padded (take (p .count) (p .systems));
+      codes = padded (take (p .count) (p .codes));
+      amounts = padded (take (p .count) (p .amounts));
+    }

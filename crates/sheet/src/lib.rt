@@ -1,0 +1,59 @@
+// A sheet: what it holds, and the answers of its reader and its writer. The bytes and the two round trips are in specs/.
+// No public function has a `requires`.
+ghost use mathlib.Core.Path.{_≡_};
+ghost use Rattle.sheet.specs.Split.{allowedCount};
+use analysis::Analysis;
+
+// The most records of components, the most records of a split, and the bytes of the longest sheet.
+pub const COMPONENT_RECORDS: usize = 11;
+
+pub const RECORDS: usize = 9;
+
+pub const SHEET: usize = 111;
+
+// A split as records, in a sheet's order; a count of 0 is no split. Places from the count on are not used.
+pub struct Split {
+    pub count: usize,
+    pub systems: [u8; RECORDS],
+    pub codes: [u8; RECORDS],
+    pub amounts: [u32; RECORDS],
+}
+
+// What a sheet's two sections are: how many components, how many split records and where the first of those stands.
+pub enum Sections {
+    Torn,
+    Both {
+        components: usize,
+        records: usize,
+        first: usize,
+    },
+}
+
+// The answer to a sheet. A refusal carries its number, for 2 to 4 the record's place from 0, for 5 a code at fault.
+pub enum Reading {
+    Read,
+    Refused { number: u32, place: u32, code: u32 },
+}
+
+// A sheet as read: all zeros beside a refusal.
+pub struct Sheet {
+    pub answer: Reading,
+    pub analysis: Analysis,
+    pub split: Split,
+}
+
+// The answer to writing: the sheet's length, or the refusal's number and for 5 a code at fault.
+pub enum Written {
+    Length(usize),
+    Refused { number: u32, code: u32 },
+}
+
+// May a split have so many records?
+pub fn allowed_count(count: usize) -> bool
+    ensures { λ r. ⌜ r ≡ allowedCount count ⌝ }
+{
+    if count == 0 {
+        return true;
+    }
+    count == RECORDS
+}

@@ -1,0 +1,103 @@
+-- The writer's answers: each is the one of the definition, by the tests that lead to it. Assumes nothing.
+use mathlib.Core.Path.{_≡_, refl, ap, sym, _∙_, subst}
+use mathlib.Core.List.{List, [], _∷_, _++_}
+use mathlib.Core.Bool.{Bool, true, false}
+use Prim.Native.Nat.{ℕ, zero, suc, _+_, _*_, _≤_, _<_}
+use native.Mathlib.Omega.{arith}
+use lib.ListN.{length, drop}
+use lib.Dec.{eqb}
+use borrow.Author.Tests.{eqb-true, eqb-false}
+use Rattle.analysis.specs.Register.{ifElse}
+use Rattle.analysis.specs.declared.Checked.{Checked}
+use Rattle.analysis.specs.declared.Checked.the-variants as checked
+use Rattle.analysis.specs.Check as check
+use Rattle.analysis.specs.Check.{refusalOf, answerOf, Checking}
+use Rattle.sheet.specs.declared.Split.{Split}
+use Rattle.sheet.specs.declared.Written.{Written}
+use Rattle.sheet.specs.declared.Written.the-variants.{Length, Refused}
+use Rattle.sheet.specs.Split.{allowedCount}
+use Rattle.sheet.specs.Components.{countOf}
+use Rattle.sheet.specs.Sheet.{sheetOf}
+use Rattle.sheet.specs.Write.{writeRefusal, writtenOf, leftOf, codeOf, WrittenAs}
+use Rattle.sheet.specs.Cases.{never, length-sheet, number-count, number-check, number-short, number-none, number-back, written-length, written-refused, written-back, left-sheet, left-same}
+use Rattle.writer.specs.Answered.{Answered}
+
+module _ (a : List ℕ) (p : Split) (size : ℕ) where
+  pub answer-count : allowedCount (p .count) ≡ false → Answered a p size (Refused 1 0)
+  answer-count h =
+      record { answer = sym (written-refused a p size 0 1 (number-count a p size h) (λ z. omega arith)); code = λ z. absurd (omega arith) }
+
+  module _ (h : allowedCount (p .count) ≡ true) where
+    -- what a refusal by the check says of the number
+    refused-number : (number code : ℕ) → checked.Refused number code ≡ answerOf (refusalOf a) code
+        → (refusalOf a ≡ 0 → ⊥) × (refusalOf a ≡ number) × (ifElse (eqb (refusalOf a) 5) code 0 ≡ code)
+    refused-number number code e = go (eqb (refusalOf a) 0) refl e
+      where
+        go : (t : Bool) → eqb (refusalOf a) 0 ≡ t
+            → checked.Refused number code ≡ ifElse t checked.InRange (checked.Refused (refusalOf a) (ifElse (eqb (refusalOf a) 5) code 0))
+            → (refusalOf a ≡ 0 → ⊥) × (refusalOf a ≡ number) × (ifElse (eqb (refusalOf a) 5) code 0 ≡ code)
+        go true q e = let z : _≡_ {A = ℕ} 0 1 = cc in absurd (never z)
+        go false q e = (eqb-false _ _ q, cc, cc)
+
+    refused-answer : (number code : ℕ) → Checking a (checked.Refused number code) → Answered a p size (Refused number code)
+    refused-answer number code k =
+        let q = refused-number number code (k .answer) in
+        let g = written-refused a p size code (refusalOf a) (number-check a p size h (q .0)) (q .0) in
+        record {
+          answer = sym (g ∙ ap (λ (x : ℕ). Refused (refusalOf a) x) (q .2) ∙ ap (λ (x : ℕ). Refused x code) (q .1));
+          code = λ f. k .code (q .1 ∙ f);
+        }
+
+    pub answer-check : (number code : ℕ) (y : Checked) → Checking a y → y ≡ checked.Refused number code → Answered a p size (Refused number code)
+    answer-check number code y k e = refused-answer number code (subst (λ (x : Checked). Checking a x) e k)
+
+    in-range : (y : Checked) → Checking a y → y ≡ checked.InRange → refusalOf a ≡ 0
+    in-range y k e = go (eqb (refusalOf a) 0) refl (subst (λ (x : Checked). Checking a x) e k .answer)
+      where
+        go : (t : Bool) → eqb (refusalOf a) 0 ≡ t
+            → checked.InRange ≡ ifElse t checked.InRange (checked.Refused (refusalOf a) (ifElse (eqb (refusalOf a) 5) 0 0)) → refusalOf a ≡ 0
+        go true q e = eqb-true _ _ q
+        go false q e = let z : _≡_ {A = ℕ} 0 1 = cc in absurd (never z)
+
+    module _ (y : Checked) (k : Checking a y) (e : y ≡ checked.InRange) (n len : ℕ) (c : n ≡ countOf a) (l : len ≡ 2 + 5 * n + 6 * p .count) where
+      exact : len ≡ length (sheetOf a p)
+      exact = omega (arith, length-sheet a p)
+
+      pub answer-short : size < len → Answered a p size (Refused 14 0)
+      answer-short s =
+          let g = number-short a p size h (in-range y k e) (omega (arith, exact)) in
+          record { answer = sym (written-refused a p size 0 14 g (λ z. omega arith)); code = λ z. absurd (omega arith) }
+
+      pub answer-length : len ≤ size → Answered a p size (Length len)
+      answer-length s =
+          let g = number-none a p size h (in-range y k e) (omega (arith, exact)) in
+          record { answer = ap Length exact ∙ sym (written-length a p size 0 g); code = λ z. absurd (omega arith) }
+
+-- the buffer: as it was beside a refusal, the sheet at its start beside a length
+module _ (a : List ℕ) (p : Split) (b : List ℕ) (r : Written) (k : Answered a p (length b) r) where
+  fits-of : (n : ℕ) → r ≡ Length n → writtenOf a p (length b) 0 ≡ Length n
+  fits-of n e = sym (subst (λ (x : Written). Answered a p (length b) x) e k .answer)
+
+  -- a length says that the sheet may be written and has room
+  pub room : (n : ℕ) → r ≡ Length n → (allowedCount (p .count) ≡ true) × (length (sheetOf a p) ≤ length b)
+  room n e =
+      let g = number-back a p (length b) (written-back a p (length b) 0 (fits-of n e) .0) in
+      (g .0, g .2)
+
+  pub wrote : (n : ℕ) → r ≡ Length n → (left : List ℕ) → left ≡ sheetOf a p ++ drop (length (sheetOf a p)) b → WrittenAs a p b r left
+  wrote n e left d =
+      record {
+        answer = k .answer;
+        buffer = d ∙ sym (left-sheet a p b (written-back a p (length b) 0 (fits-of n e) .0));
+        code = k .code;
+      }
+
+  refused-not : (number code : ℕ) → r ≡ Refused number code → writeRefusal a p (length b) ≡ 0 → ⊥
+  refused-not number code e z =
+      let g = written-length a p (length b) code z in
+      let f = subst (λ (x : Written). Answered a p (length b) x) e k .answer in
+      let w : _≡_ {A = ℕ} 0 1 = cc in
+      never w
+
+  pub left-alone : (number code : ℕ) → r ≡ Refused number code → WrittenAs a p b r b
+  left-alone number code e = record { answer = k .answer; buffer = sym (left-same a p b (refused-not number code e)); code = k .code }

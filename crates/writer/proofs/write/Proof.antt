@@ -1,0 +1,47 @@
+use mathlib.Core.Path.{_≡_, sym, ap, _∙_, refl}
+use Prim.Native.Nat.{ℕ, suc, _+_, _-_, _*_, _≤_, _<_}
+use native.Mathlib.Omega.{arith}
+use Rattle.sheet.specs.Cases.{allowed-most}
+use Rattle.writer.proofs.Answers.{room, wrote, left-alone}
+use borrow.Author.Needs.{needs}
+use Rattle.writer.proofs.write.Statement.{statement}
+use Rattle.writer.proofs.write.Tie as tie
+use Rattle.writer.proofs.write.Reads as reads
+use Rattle.writer.proofs.write.Lts as lts
+use Rattle.writer.proofs.answer.Reads as answer-reads
+use Rattle.writer.proofs.put_sheet.Reads as put-sheet-reads
+
+answer-requires : tie.Need-answer-requires
+answer-requires c κs = search needs
+
+enum-told : tie.Need-enum-told
+enum-told c = search needs
+
+enum-told-2 : tie.Need-enum-told-2
+enum-told-2 c = search needs
+
+returns : tie.Need-returns
+returns c = left-alone _ _ _ _ (c .before .before .answer .ensures) _ _ (c .enum-told2 .given .1)
+
+put-sheet-requires : tie.Need-put-sheet-requires
+put-sheet-requires c κs = 
+    let g = room _ _ (c .before .before .before .before .before .before .args .b .now) _ (c .before .before .before .before .answer .ensures) _ (c .before .before .enum-told .given .1) in
+    (allowed-most _ (g .0), g .1)
+
+same-length : tie.Need-same-length
+same-length c = search needs
+
+returns-2 : tie.Need-returns-2
+returns-2 c = wrote _ _ _ _ (c .before .before .before .before .before .before .before .answer .ensures) _ (c .before .before .before .before .before .enum-told .given .1) _ (c .before .before .put-sheet .ensures)
+
+pub write-spec : {M : Type 1} → statement M
+write-spec =
+    tie.close
+    (tie.spec
+    answer-requires
+    enum-told
+    enum-told-2
+    returns
+    put-sheet-requires
+    same-length
+    returns-2)

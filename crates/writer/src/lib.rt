@@ -1,0 +1,158 @@
+// The writer of a sheet: refusals 1, 5, 6 and 14, or the sheet's bytes at the start of a lent buffer.
+// No public function has a `requires`.
+ghost use mathlib.Core.Path.{_≡_};
+ghost use Prim.Native.Nat.{ℕ, _+_, _*_, _<_, _≤_};
+ghost use mathlib.Core.List.{_∷_, _++_};
+ghost use lib.ListN.{length, drop, set};
+ghost use lib.Seq.{sets};
+ghost use Rattle.sheet.specs.Bytes.{bytesOf};
+ghost use Rattle.sheet.specs.Components.{countOf, componentBytes};
+ghost use Rattle.sheet.specs.Split.{RECORDS, splitBytes};
+ghost use Rattle.sheet.specs.Sheet.{sheetOf};
+ghost use Rattle.sheet.specs.Write.{WrittenAs};
+ghost use Rattle.writer.specs.Answered.{Answered};
+use analysis::Analysis;
+use analysis::CODES;
+use analysis::Checked;
+use sheet::RECORDS;
+use sheet::Split;
+use sheet::Written;
+
+// One byte.
+fn put_byte(b: &mut [u8], at: usize, x: u8)
+    requires { ⌜ at < length (now b) ⌝ }
+    ensures { λ _. ⌜ now (b .exit) ≡ set (now (b .entry)) at x ⌝ }
+{
+    b[at] = x;
+}
+
+// An amount as four bytes, high byte first.
+fn put_amount(b: &mut [u8], at: usize, x: u32)
+    requires { ⌜ at + 4 ≤ length (now b) ⌝ }
+    ensures { λ _. ⌜ now (b .exit) ≡ sets (now (b .entry)) at (bytesOf x) ⌝ }
+{
+    put_byte(b, at, (x / 16777216) as u8);
+    put_byte(b, at + 1, (x / 65536 % 256) as u8);
+    put_byte(b, at + 2, (x / 256 % 256) as u8);
+    put_byte(b, at + 3, (x % 256) as u8);
+}
+
+// A component's record: code and amount.
+fn put_component(b: &mut [u8], at: usize, code: u8, x: u32)
+    requires { ⌜ at + 5 ≤ length (now b) ⌝ }
+    ensures { λ _. ⌜ now (b .exit) ≡ sets (now (b .entry)) at (code ∷ bytesOf x) ⌝ }
+{
+    put_byte(b, at, code);
+    put_amount(b, at + 1, x);
+}
+
+// A split's record: system, code and amount.
+fn put_record(b: &mut [u8], at: usize, system: u8, code: u8, x: u32)
+    requires { ⌜ at + 6 ≤ length (now b) ⌝ }
+    ensures { λ _. ⌜ now (b .exit) ≡ sets (now (b .entry)) at (system ∷ code ∷ bytesOf x) ⌝ }
+{
+    put_byte(b, at, system);
+    put_component(b, at + 1, code, x);
+}
+
+// How many codes have an amount.
+fn listed(a: [u32; CODES]) -> usize
+    ensures { λ r. ⌜ (r ≡ countOf a) × (r ≤ 14) ⌝ }
+{
+    let mut n: usize = 0;
+    let mut k: usize = 0;
+    while k < CODES {
+        if a[k] != 0 {
+            n += 1;
+        }
+        k += 1;
+    }
+    n
+}
+
+// The records of the codes with an amount, after the count byte; where they end.
+fn put_components(a: [u32; CODES], b: &mut [u8]) -> usize
+    requires { ⌜ 1 + 5 * countOf a ≤ length (now b) ⌝ }
+    ensures { λ r. ⌜ (r ≡ 1 + 5 * countOf a) × (now (b .exit) ≡ sets (now (b .entry)) 1 (componentBytes 0 a)) ⌝ }
+{
+    let mut at: usize = 1;
+    let mut k: usize = 0;
+    while k < CODES {
+        let x = a[k];
+        if x != 0 {
+            put_component(b, at, k as u8, x);
+            at += 5;
+        }
+        k += 1;
+    }
+    at
+}
+
+// The records of a split.
+fn put_split(p: Split, b: &mut [u8], at: usize)
+    requires { ⌜ (p .count ≤ RECORDS) × (at + 6 * p .count ≤ length (now b)) ⌝ }
+    ensures { λ _. ⌜ now (b .exit) ≡ sets (now (b .entry)) at (splitBytes p) ⌝ }
+{
+    let m = p.count;
+    let systems = p.systems;
+    let codes = p.codes;
+    let amounts = p.amounts;
+    let mut i: usize = 0;
+    let mut w: usize = at;
+    while i < m {
+        put_record(b, w, systems[i], codes[i], amounts[i]);
+        i += 1;
+        w += 6;
+    }
+}
+
+// The answer for a buffer of `size` bytes.
+fn answer(a: Analysis, p: Split, size: usize) -> Written
+    ensures { λ r. ⌜ Answered (a .amounts) p size r ⌝ }
+{
+    let m = p.count;
+    let allowed = sheet::allowed_count(m);
+    if !allowed {
+        return Written::Refused { number: 1, code: 0 };
+    }
+    let checked = analysis::check(a);
+    if let Checked::Refused { number, code } = checked {
+        return Written::Refused { number, code };
+    }
+    let amounts = a.amounts;
+    let n = listed(amounts);
+    let len = 2 + 5 * n + 6 * m;
+    if size < len {
+        return Written::Refused {
+            number: 14,
+            code: 0,
+        };
+    }
+    Written::Length(len)
+}
+
+// The sheet's bytes at the buffer's start; the rest stays.
+fn put_sheet(a: [u32; CODES], p: Split, b: &mut [u8])
+    requires { ⌜ (p .count ≤ RECORDS) × (length (sheetOf a p) ≤ length (now b)) ⌝ }
+    ensures { λ _. ⌜ now (b .exit) ≡ sheetOf a p ++ drop (length (sheetOf a p)) (now (b .entry)) ⌝ }
+{
+    let n = listed(a);
+    put_byte(b, 0, n as u8);
+    let at = put_components(a, b);
+    let m = p.count;
+    put_byte(b, at, m as u8);
+    put_split(p, b, at + 1);
+}
+
+// The sheet of the analysis and the split in the buffer, and its length; or a refusal, and the buffer as it was.
+pub fn write(a: Analysis, p: Split, b: &mut [u8]) -> Written
+    ensures { λ r. ⌜ WrittenAs (a .amounts) p (now (b .entry)) r (now (b .exit)) ⌝ }
+{
+    let answer = answer(a, p, b.len());
+    let Written::Length(_) = answer else {
+        return answer;
+    };
+    let amounts = a.amounts;
+    put_sheet(amounts, p, b);
+    answer
+}

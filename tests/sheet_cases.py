@@ -1,0 +1,347 @@
+#!/usr/bin/env python3
+"""Cases for reading and writing sheets, with the answers that document 01 fixes.
+
+sheet_cases.py           writes crates/sheet_cases/data/ and crates/sheet_cases/stdout
+sheet_cases.py --check   compares those files with what is made here
+
+The reader below is written from document 01 ("The register and the sheet",
+"What is turned away"), apart from the program that is tested.
+
+A data file is a count of cases in two bytes and the cases, all numbers high
+byte first. A case is a length in two bytes, the codes at fault in two bytes
+(bit k for code k) and so many bytes: a sheet to read, or in `writings` 14
+amounts of four bytes, a split count, nine split records and the sheet that is
+to be written. One line is printed for each:
+
+  READ      14 amounts (indexed by code), SPLIT, split count, three fields a
+            record, WRITE and its counts
+  REFUSED   number, and for 2 to 4 the place, for 5 FAULT where the code that
+            came with it is at fault
+
+The counts after WRITE are over buffers of 0 to 112 bytes: refused 5 with a
+code at fault, refused 6, refused 14, written, and anything else. A refusal
+counts only where the buffer is unchanged; a writing only where the length is
+the sheet's, the sheet's bytes stand first and the bytes after them are
+unchanged.
+"""
+import os
+import sys
+
+CRATE = os.path.join(os.path.dirname(os.path.abspath(__file__)), '..', 'crates', 'sheet_cases')
+
+# Least and greatest amount in parts, by code.
+RANGE = {1: (400000, 999700), 2: (100, 150000), 3: (100, 60000), 4: (10, 40000), 5: (10, 40000), 6: (10, 500),
+         7: (10, 20000), 8: (10, 20000), 10: (10, 15000), 11: (50, 100000), 12: (50, 150000)}
+RETIRED = (9, 13)
+REQUIRED = (1, 2, 3, 4, 5)
+LEAST_TOTAL, GREATEST_TOTAL = 999900, 1000100
+MOST_COMPONENTS = 11
+SPLIT_COUNTS = (0, 9)
+COMPONENT_SIZE, SPLIT_SIZE = 5, 6
+LARGEST_BUFFER = 112
+U32 = (1 << 32) - 1
+
+
+def number(data):
+    return int.from_bytes(data, 'big')
+
+
+def sections(data):
+    """The component and the split records, or None where the sheet is torn."""
+    found, at = [], 0
+    for size, allowed in ((COMPONENT_SIZE, range(MOST_COMPONENTS + 1)), (SPLIT_SIZE, SPLIT_COUNTS)):
+        if at >= len(data) or data[at] not in allowed:
+            return None
+        first, at = at + 1, at + 1 + data[at] * size
+        if at > len(data):
+            return None
+        found.append([data[i:i + size] for i in range(first, at, size)])
+    return found if at == len(data) else None
+
+
+def faults(amounts, listed):
+    """The codes at fault: an amount outside its range, or one of 1 to 5 absent."""
+    wrong = {c for c in REQUIRED if c not in listed}
+    for c in listed:
+        if c not in RANGE or not RANGE[c][0] <= amounts[c] <= RANGE[c][1]:
+            wrong.add(c)
+    return wrong
+
+
+def checked(amounts, listed):
+    """(number, codes at fault), number 0 where the analysis is in range."""
+    wrong = faults(amounts, listed)
+    if wrong:
+        return 5, wrong
+    total = sum(amounts)
+    return (0 if LEAST_TOTAL <= total <= GREATEST_TOTAL else 6), set()
+
+
+def read(data):
+    """('READ', amounts, split), or ('REFUSED', number, place or codes at fault)."""
+    found = sections(data)
+    if found is None:
+        return 'REFUSED', 1, None
+    components, records = found
+    amounts, before = [0] * 14, 0
+    for place, record in enumerate(components):
+        code = record[0]
+        if code == 0 or code >= 14:
+            return 'REFUSED', 2, place
+        if code in RETIRED:
+            return 'REFUSED', 3, place
+        if code <= before:
+            return 'REFUSED', 4, place
+        before, amounts[code] = code, number(record[1:])
+    refused, wrong = checked(amounts, [record[0] for record in components])
+    if refused:
+        return 'REFUSED', refused, wrong or None
+    return 'READ', amounts, [(r[0], r[1], number(r[2:])) for r in records]
+
+
+def sheet(components, split=()):
+    """The bytes of a sheet of any records."""
+    out = bytes([len(components)])
+    for code, amount in components:
+        out += bytes([code]) + amount.to_bytes(4, 'big')
+    out += bytes([len(split)])
+    for system, code, amount in split:
+        out += bytes([system, code]) + amount.to_bytes(4, 'big')
+    return out
+
+
+def written(length):
+    """Counts of a sheet of this length, over every buffer."""
+    return [0, 0, min(length, LARGEST_BUFFER + 1), max(0, LARGEST_BUFFER + 1 - length), 0]
+
+
+def line(data):
+    answer = read(data)
+    if answer[0] == 'READ':
+        _, amounts, split = answer
+        fields = ['READ', *amounts, 'SPLIT', len(split), *(x for r in split for x in r), 'WRITE', *written(len(data))]
+    elif answer[1] == 5:
+        fields = ['REFUSED', 5, 'FAULT']
+    else:
+        fields = [x for x in answer if x is not None]
+    return ' '.join(map(str, fields))
+
+
+# The gas of 001 Table A.1, and its starting split.
+GAS = [(1, 970797), (2, 16658), (3, 2417), (4, 346), (5, 245), (6, 11), (7, 73), (8, 125), (10, 84), (11, 528), (12, 8715)]
+START = [(4, 1, 326410), (4, 2, 8402), (4, 3, 1219), (7, 1, 326410), (7, 3, 1219), (7, 14, 765), (8, 1, 326409), (8, 2, 8401), (8, 14, 765)]
+# The five that may not be absent, and records that no split should have.
+FIVE = [(1, 900000), (2, 60000), (3, 30000), (4, 5000), (5, 5000)]
+ODD = [(0, 0, 0), (255, 255, U32), (20, 9, 1), (7, 13, 256), (7, 3, 65536), (7, 3, 16777216), (2, 14, 100), (1, 2, 3), (9, 9, 9)]
+
+
+def truncations():
+    for good in (sheet(GAS), sheet(FIVE, ODD), sheet(GAS, START)):
+        for n in range(len(good) + 1):
+            yield good[:n]
+
+
+def extensions():
+    for good in (sheet(FIVE), sheet(GAS, START)):
+        for byte in range(256):
+            yield good + bytes([byte])
+
+
+def flips():
+    for good in (sheet(GAS), sheet(FIVE, ODD)):
+        for i in range(len(good)):
+            for bit in range(8):
+                yield good[:i] + bytes([good[i] ^ 1 << bit]) + good[i + 1:]
+
+
+def counts():
+    """Counts, each with so many records after it, and with one byte less and more."""
+    many = [(k, 100) for k in range(1, 256)]
+    for n in (0, 1, 10, 11, 12, 13, 128, 255):
+        whole = sheet(many[:n])
+        yield from (whole, whole[:-1], whole + b'\0')
+    for n in (0, 1, 8, 9, 10, 12, 128, 255):
+        whole = sheet(GAS, [(4, 1, n)] * n)
+        yield from (whole, whole[:-1], whole + b'\0')
+    for n in (8, 12, 255):
+        yield bytes([n]) + sheet(GAS)[1:]
+        yield sheet(GAS)[:-1] + bytes([n])
+        yield bytes([n]) + sheet(GAS, START)[1:]
+        yield sheet(GAS, START)[:56] + bytes([n]) + sheet(GAS, START)[57:]
+
+
+def put(records, place, code=None, amount=None):
+    old = records[place]
+    return records[:place] + [(old[0] if code is None else code, old[1] if amount is None else amount)] + records[place + 1:]
+
+
+def codes():
+    for place in range(len(GAS)):
+        for code in (0, 9, 13, 14, 15, 128, 255):
+            yield sheet(put(GAS, place, code))
+            yield sheet(put(GAS, place, code), START)
+        for code in sorted({1, GAS[place - 1][0] - 1, GAS[place - 1][0], GAS[(place + 1) % len(GAS)][0]}):
+            yield sheet(put(GAS, place, code))
+    yield sheet(GAS[::-1])
+    # The earlier record decides, then 2 before 3 before 4; 1 before all, 5 and 6 after.
+    for first in (0, 9, 13, 14, 1):
+        for second in (0, 9, 13, 14, 1):
+            both = put(put(GAS, 4, first), 7, second)
+            yield from (sheet(both), sheet(both) + b'\0', sheet(put(both, 0, None, 0)), sheet(put(both, 10, None, U32), START))
+    # The code before counts also where its amount is out of range, and a retired code below it stays retired.
+    yield sheet([(12, 8715), (9, 100)])
+    yield sheet([(12, 8715), (11, 528)])
+    yield sheet([(1, 0), (1, 970797)])
+    yield sheet([(9, 100)])
+    yield sheet([(13, 100)])
+    yield sheet([(2, 100), (14, 100)])
+    yield from (bytes([]), bytes([0]), bytes([0, 0]), bytes([0, 0, 0]))
+    yield bytes.fromhex('01090000006400')
+
+
+def amounts():
+    """Each code at and about its ends, listed with the total kept where methane can keep it."""
+    for place, (code, _) in enumerate(GAS):
+        least, greatest = RANGE[code]
+        for amount in (0, 1, 49, 50, 99, 100, least - 1, least, least + 1, greatest - 1, greatest, greatest + 1, 1 << 24, 1 << 31, U32):
+            if not 0 <= amount <= U32:
+                continue
+            changed = put(GAS, place, None, amount)
+            if code != 1:
+                rest = 1000000 - sum(x for c, x in changed if c != 1)
+                changed = put(changed, 0, None, rest if 0 <= rest <= U32 else GAS[0][1])
+            yield sheet(changed)
+    # Each code left out: 1 to 5 are at fault, the others absent.
+    for place, (code, amount) in enumerate(GAS):
+        yield sheet(put(GAS, 0, None, GAS[0][1] + amount)[:place] + GAS[place + 1:])
+        yield sheet(GAS[:place] + GAS[place + 1:])
+    # Methane at its ends.
+    yield sheet([(1, 999700), (2, 100), (3, 100), (4, 50), (5, 50)])
+    yield sheet([(1, 999701), (2, 100), (3, 100), (4, 50), (5, 49)])
+    yield sheet([(1, 400000), (2, 150000), (3, 60000), (4, 40000), (5, 40000), (7, 20000), (8, 20000), (10, 15000), (11, 100000), (12, 150000)])
+    yield sheet([(1, 405000), (2, 150000), (3, 60000), (4, 40000), (5, 40000), (7, 20000), (8, 20000), (10, 15000), (11, 100000), (12, 150000)])
+    yield sheet([(1, 399999), (2, 150000), (3, 60000), (4, 40000), (5, 40000), (7, 20000), (8, 20000), (10, 20000), (11, 100000), (12, 150000)])
+    # Ethane 99 and 100.
+    yield sheet([(1, 969901), (2, 99), (3, 20000), (4, 5000), (5, 5000)])
+    yield sheet([(1, 969900), (2, 100), (3, 20000), (4, 5000), (5, 5000)])
+    # 5 before 6, one code at fault or two.
+    yield sheet(put(put(GAS, 1, None, 99), 0, None, 400000))
+    yield sheet(put(put(GAS, 1, None, 150001), 9, None, 100001))
+
+
+def totals():
+    for base in (GAS, FIVE):
+        rest = sum(x for c, x in base if c != 1)
+        for total in (999899, 999900, 999901, 1000000, 1000099, 1000100, 1000101, 600000, 1100000):
+            for split in ((), START):
+                yield sheet(put(base, 0, None, total - rest), split)
+    # Totals that come into range only where they wrap at 32 bits.
+    yield sheet(FIVE + [(11, 1 << 31), (12, 1 << 31)])
+    yield sheet(FIVE + [(11, U32), (12, 1)])
+
+
+def fields():
+    yield from counts()
+    yield from codes()
+    yield from amounts()
+    yield from totals()
+
+
+def writings():
+    """(amounts by code, split): what a reader would never hand on is refused too."""
+    gas = [0] * 14
+    for code, amount in GAS:
+        gas[code] = amount
+    five = [0] * 14
+    for code, amount in FIVE:
+        five[code] = amount
+    for split in ([], START, ODD):
+        yield from ((gas, split), (five, split), ([0] * 14, split))
+        for code in range(14):
+            for amount in (0, 1, 9, 99, 100, 40000, 1000000, U32):
+                yield gas[:code] + [amount] + gas[code + 1:], split
+        for total in (999899, 999900, 1000100, 1000101):
+            yield [0, total - sum(five[2:])] + five[2:], split
+            yield [0, total - sum(gas[2:])] + gas[2:], split
+        # Totals that come into range only where they wrap at 32 bits.
+        yield five[:11] + [1 << 31, 1 << 31] + five[13:], split
+        yield five[:11] + [U32, 1] + five[13:], split
+
+
+def write_case(analysis, split):
+    """The case's bytes, and its line."""
+    refused, wrong = checked(analysis, [c for c in range(14) if analysis[c]])
+    records = split or [(0, 0, 0)] * 9
+    body = b''.join(a.to_bytes(4, 'big') for a in analysis) + bytes([len(split)])
+    body += b''.join(bytes([s, c]) + a.to_bytes(4, 'big') for s, c, a in records)
+    if refused == 5:
+        counted = [LARGEST_BUFFER + 1, 0, 0, 0, 0]
+    elif refused == 6:
+        counted = [0, LARGEST_BUFFER + 1, 0, 0, 0]
+    else:
+        out = sheet([(c, analysis[c]) for c in range(14) if analysis[c]], split)
+        counted, body = written(len(out)), body + out
+    return body, wrong, ' '.join(map(str, ['WRITE', *counted]))
+
+
+def packed(cases):
+    """A data file of (bytes, codes at fault)."""
+    out = len(cases).to_bytes(2, 'big')
+    for data, wrong in cases:
+        out += len(data).to_bytes(2, 'big') + sum(1 << c for c in wrong).to_bytes(2, 'big') + data
+    return out
+
+
+def once(cases):
+    return list(dict.fromkeys(cases))
+
+
+def files():
+    """Every file by its path under the crate."""
+    made, out = {}, []
+    for topic in (truncations, extensions, flips, fields):
+        cases = once(topic())
+        answers = [read(data) for data in cases]
+        made['data/' + topic.__name__] = packed([(d, a[2] if a[:2] == ('REFUSED', 5) else ()) for d, a in zip(cases, answers)])
+        out += [topic.__name__] + [line(data) for data in cases]
+    cases = [write_case(a, s) for a, s in writings()]
+    made['data/writings'] = packed([(data, wrong) for data, wrong, _ in cases])
+    out += ['writings'] + [text for _, _, text in cases]
+    made['stdout'] = ('\n'.join(out) + '\n').encode()
+    return made
+
+
+def self_test():
+    """What document 01 and the plan name, of the reader above."""
+    assert line(bytes.fromhex('01090000006400')) == 'REFUSED 3 0'
+    assert len(sheet(GAS, START)) == 111 and read(sheet(GAS, START))[0] == 'READ'
+    rest = sum(x for c, x in GAS if c != 1)
+    for total, answer in ((999899, 'REFUSED 6'), (999900, 'READ'), (1000100, 'READ'), (1000101, 'REFUSED 6')):
+        assert line(sheet(put(GAS, 0, None, total - rest))).startswith(answer)
+    assert line(sheet([(1, 969901), (2, 99), (3, 20000), (4, 5000), (5, 5000)])) == 'REFUSED 5 FAULT'
+    assert line(sheet([(1, 969900), (2, 100), (3, 20000), (4, 5000), (5, 5000)])).startswith('READ')
+
+
+def main():
+    self_test()
+    made = files()
+    if sys.argv[1:] == ['--check']:
+        wrong = []
+        for path, data in made.items():
+            full = os.path.join(CRATE, path)
+            if not os.path.exists(full) or open(full, 'rb').read() != data:
+                wrong.append(path)
+        wrong += ['data/' + f for f in os.listdir(os.path.join(CRATE, 'data')) if 'data/' + f not in made]
+        if wrong:
+            sys.exit('sheet_cases.py: not as generated: ' + ' '.join(sorted(wrong)))
+        print(f'sheet_cases.py: {made["stdout"].count(10)} lines, as generated')
+        return
+    if sys.argv[1:]:
+        sys.exit(__doc__)
+    os.makedirs(os.path.join(CRATE, 'data'), exist_ok=True)
+    for path, data in made.items():
+        with open(os.path.join(CRATE, path), 'wb') as out:
+            out.write(data)
+
+
+main()
