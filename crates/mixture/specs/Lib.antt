@@ -1,0 +1,10 @@
+pub mod Scaling
+pub mod Simplification
+pub mod Inert
+pub mod Limits
+pub mod Answers
+pub mod Total
+pub mod Share
+pub mod Largest
+pub mod Bounds
+pub mod Marked

@@ -1,0 +1,29 @@
+-- The marked figures of simplification and of the inert mixture: the gas of 001 Table A.1; and two analyses in range at
+-- the rules for equal remainders and for halves. Assumes nothing.
+use Prim.Native.Nat.{ℕ}
+use mathlib.Core.Path.{_≡_, refl}
+use mathlib.Core.List.{List, [], _∷_}
+use Rattle.mixture.specs.Scaling.{greatestTo, distributed, scaledOf}
+use Rattle.mixture.specs.Simplification.{tenthsOf, simplifiedOf}
+use Rattle.mixture.specs.Inert.{methaneShare, inertOf}
+
+-- the gas of 001 Table A.1, by codes
+abbrev pub tableA1 : List ℕ
+tableA1 = 0 ∷ 970797 ∷ 16658 ∷ 2417 ∷ 346 ∷ 245 ∷ 11 ∷ 73 ∷ 125 ∷ 0 ∷ 84 ∷ 528 ∷ 8715 ∷ 0 ∷ []
+
+pub marked : (simplifiedOf tableA1 ≡ 979229 ∷ 16803 ∷ 2438 ∷ 1530 ∷ []) × (inertOf tableA1 ≡ 999468 ∷ 532 ∷ 0 ∷ [])
+unfolding greatestTo distributed scaledOf tenthsOf methaneShare
+marked = (refl, refl)
+
+-- equal remainders of ethane and propane, of which one gets a part
+pub equal-remainders :
+    simplifiedOf (0 ∷ 856641 ∷ 19981 ∷ 19981 ∷ 18632 ∷ 19263 ∷ 0 ∷ 0 ∷ 0 ∷ 0 ∷ 0 ∷ 65502 ∷ 0 ∷ 0 ∷ [])
+    ≡ 916686 ∷ 21382 ∷ 21381 ∷ 40551 ∷ []
+unfolding greatestTo distributed scaledOf tenthsOf
+equal-remainders = refl
+
+-- n1 at a half
+pub half-up :
+    inertOf (0 ∷ 913669 ∷ 145 ∷ 170 ∷ 10 ∷ 10 ∷ 0 ∷ 0 ∷ 0 ∷ 0 ∷ 0 ∷ 85932 ∷ 0 ∷ 0 ∷ []) ≡ 914063 ∷ 85937 ∷ 0 ∷ []
+unfolding tenthsOf methaneShare
+half-up = refl
