@@ -1,1 +1,5 @@
 pub mod Packed
+pub mod Weights
+pub mod Cases
+pub mod Loops
+pub mod Listing

@@ -1,14 +1,14 @@
 -- What holds of each candidate and its three members, each by one computed test over the candidates. Assumes nothing.
 use Prim.Native.Nat.{ℕ, zero, suc, _+_, _≤_, _<_}
-use mathlib.Core.Path.{_≡_, refl, sym}
+use mathlib.Core.Path.{_≡_, refl}
 use mathlib.Core.Bool.{Bool, true, false, not, cond, _||_}
-use mathlib.Core.List.{List, [], _∷_}
+use mathlib.Core.List.{[], _∷_}
 use native.Mathlib.Omega.{arith}
-use lib.Dec.{T, eqb, ltb, leb, eqb→eq, ltb→lt, leb→le, T-not, eqb-refl}
+use lib.Dec.{T, eqb, ltb, leb, eqb→eq, ltb→lt, leb→le}
 use lib.ListN.{getD, length, List·getD-eq-default}
 use borrow.Author.Tests.{eqb-true, eq-eqb, ne-eqb}
-use Rattle.systems.specs.Systems.{COMPONENTS, members, memberOf, hasOf, elem, candidates, Candidate}
-use Rattle.systems.specs.Table.{every, each, each-candidate, everyTo, eachTo, to-true, of-true}
+use Rattle.systems.specs.Systems.{COMPONENTS, members, memberOf, hasOf, elem, Candidate}
+use Rattle.systems.specs.Table.{each, each-candidate, everyTo, eachTo, to-true, of-true}
 
 -- the number of the numbers below n that the test passes at
 unfoldable pub countTo : (ℕ → Bool) → ℕ → ℕ

@@ -1,0 +1,107 @@
+-- The choice of systems (document 01, "Choice of systems"; 000 A.3.2), for any list of candidates, any order of the
+-- components and any key that says which system goes before another. Assumes nothing.
+use Prim.Native.Nat.{ℕ, _+_, _*_, _-_}
+use mathlib.Core.List.{List, [], _∷_, _++_}
+use mathlib.Core.Bool.{Bool, true, false, not, _&&_}
+use lib.Dec.{ltb}
+use lib.ListN.{getD, set, length, replicate}
+use Rattle.systems.specs.Systems.{memberOf, hasOf, candidates}
+use Rattle.systems.specs.declared.Choice.{Choice}
+
+-- ---- fitness
+
+-- the weights of methane, ethane, propane and butane, times 480
+abbrev pub weights : List ℕ
+weights = 48 ∷ 75 ∷ 80 ∷ 100 ∷ []
+
+-- a component's weight times its parts; 0 where it is no component
+abbrev pub weightedOf : List ℕ → ℕ → ℕ
+weightedOf mix c = getD weights c 0 * getD mix c 0
+
+-- a system's fitness times 480, over the three components that it contains
+unfoldable pub fitnessOf : List ℕ → ℕ → ℕ
+fitnessOf mix system = weightedOf mix (memberOf system 0) + weightedOf mix (memberOf system 1) + weightedOf mix (memberOf system 2)
+
+-- ---- the choice
+
+-- the order in which components take systems: propane, ethane, butane, methane
+abbrev pub order : List ℕ
+order = 2 ∷ 1 ∷ 3 ∷ 0 ∷ []
+
+-- a fold over a list, from its first number on
+unfoldable pub fold : {A : Type 0} → (A → ℕ → A) → List ℕ → A → A
+fold step [] a = a
+fold step (x ∷ xs) a = fold step xs (step a x)
+
+-- room for a mark at each system number: whether the system is chosen
+abbrev pub NUMBERS : ℕ
+NUMBERS = 9
+
+abbrev pub isChosen : List Bool → ℕ → Bool
+isChosen marks system = getD marks system false
+
+abbrev pub oneIf : Bool → ℕ
+oneIf true = 1
+oneIf false = 0
+
+-- how many of the chosen systems contain component c
+abbrev pub countOf : List Bool → ℕ → ℕ → ℕ → ℕ
+countOf marks c n system = n + oneIf (isChosen marks system && hasOf system c)
+
+unfoldable pub containingOf : List ℕ → List Bool → ℕ → ℕ
+containingOf systems marks c = fold (countOf marks c) systems 0
+
+-- a system contains component c and is not chosen
+abbrev pub openOf : List Bool → ℕ → ℕ → Bool
+openOf marks c system = hasOf system c && not (isChosen marks system)
+
+-- a system's score for component c: 0 where it cannot be taken, else its key and 1
+unfoldable pub scoreOf : (ℕ → ℕ) → List Bool → ℕ → ℕ → ℕ
+scoreOf key marks c system = elim (openOf marks c system) [ true ↦ key system + 1 | false ↦ 0 ]
+
+-- the better of the best so far (0: none) and the next system; equal ones go to the best so far, whose number is lower
+unfoldable pub betterOf : (ℕ → ℕ) → List Bool → ℕ → ℕ → ℕ → ℕ
+betterOf key marks c best system = elim (ltb (scoreOf key marks c best) (scoreOf key marks c system)) [ true ↦ system | false ↦ best ]
+
+-- the fittest system that contains component c and is not chosen
+unfoldable pub fittestOf : (ℕ → ℕ) → List ℕ → List Bool → ℕ → ℕ
+fittestOf key systems marks c = fold (betterOf key marks c) systems 0
+
+-- component c takes it where fewer than the wanted number of chosen systems contain c
+unfoldable pub takeOf : (ℕ → ℕ) → List ℕ → ℕ → List Bool → ℕ → List Bool
+takeOf key systems wanted marks c =
+    elim (ltb (containingOf systems marks c) wanted) [ true ↦ set marks (fittestOf key systems marks c) true | false ↦ marks ]
+
+-- the components of an order do so, one after the other
+unfoldable pub passOf : (ℕ → ℕ) → List ℕ → List ℕ → ℕ → List Bool → List Bool
+passOf key systems components wanted marks = fold (takeOf key systems wanted) components marks
+
+-- two passes from no chosen system: each component is to be in one, and then in two
+unfoldable pub marksOf : (ℕ → ℕ) → List ℕ → List ℕ → List Bool
+marksOf key systems components =
+    passOf key systems components 2 (passOf key systems components 1 (replicate NUMBERS false))
+
+-- the chosen systems in the order of the candidates, which rises
+unfoldable pub listOf : List Bool → List ℕ → ℕ → List ℕ
+listOf marks l system = elim (isChosen marks system) [ true ↦ l ++ (system ∷ []) | false ↦ l ]
+
+unfoldable pub chosenOf : List ℕ → List Bool → List ℕ
+chosenOf systems marks = fold (listOf marks) systems []
+
+-- the choice for a mixture
+unfoldable pub chooseOf : List ℕ → List ℕ
+chooseOf mix = chosenOf candidates (marksOf (fitnessOf mix) candidates order)
+
+-- ---- the choice as it is answered: the count, and room for 8 systems with 0 in the places left over
+
+abbrev pub SYSTEMS : ℕ
+SYSTEMS = 8
+
+unfoldable pub paddedOf : List ℕ → List ℕ
+paddedOf l = l ++ replicate (SYSTEMS - length l) 0
+
+abbrev pub answerOf : List ℕ → Choice
+answerOf l = record { count = length l; systems = paddedOf l }
+
+abbrev pub choiceOf : List ℕ → Choice
+choiceOf mix = answerOf (chooseOf mix)

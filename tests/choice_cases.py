@@ -1,0 +1,98 @@
+#!/usr/bin/env python3
+"""The mixtures of crates/choice_cases and the systems that are chosen for them, worked out from 000 alone:
+A.3.1 for the simplified mixtures of gases, formula (A.1) with the sums of Table A.3 as exact fractions for the
+fitness, and A.3.2.4 for the choice.
+
+  choice_cases.py            prints the lines that the program has to print
+  choice_cases.py --check    compares the program's mixtures and its file `stdout` with them
+"""
+import os
+import re
+import sys
+from fractions import Fraction
+
+METHANE, ETHANE, PROPANE, BUTANE = range(4)
+SYSTEMS = {
+    2: {PROPANE, ETHANE, BUTANE},
+    4: {METHANE, ETHANE, PROPANE},
+    7: {METHANE, PROPANE, BUTANE},
+    8: {METHANE, ETHANE, BUTANE},
+}
+SUMS = {METHANE: 1000, ETHANE: 640, PROPANE: 600, BUTANE: 480}   # Table A.3
+SEQUENCE = (PROPANE, ETHANE, BUTANE, METHANE)                    # A.3.2.4
+
+
+def simplified(gas):
+    """A gas by codes, in parts: its mixture of 1000000 parts, the largest remainders rounded up."""
+    amounts = [Fraction(gas.get(code, 0)) for code in (1, 2, 3)]
+    amounts.append(gas.get(4, 0) + gas.get(5, 0)
+                   + Fraction(23, 10) * (gas.get(6, 0) + gas.get(7, 0) + gas.get(8, 0))
+                   + Fraction(53, 10) * gas.get(10, 0))
+    shares = [1000000 * amount / sum(amounts) for amount in amounts]
+    whole = [int(share) for share in shares]
+    by_remainder = sorted(range(4), key=lambda c: (whole[c] - shares[c], c))
+    for c in by_remainder[:1000000 - sum(whole)]:
+        whole[c] += 1
+    return tuple(whole)
+
+
+def fitness(mixture, system):
+    return sum(Fraction(mixture[c] * 100, SUMS[c]) for c in SYSTEMS[system])
+
+
+def chosen(mixture):
+    taken = []
+    for wanted in (1, 2):
+        for c in SEQUENCE:
+            if sum(c in SYSTEMS[s] for s in taken) < wanted:
+                free = [s for s in sorted(SYSTEMS) if c in SYSTEMS[s] and s not in taken]
+                most = max(fitness(mixture, s) for s in free)
+                taken.append(min(s for s in free if fitness(mixture, s) == most))
+    return sorted(taken)
+
+
+def gas(*amounts):
+    """Amounts of codes 1 to 8 and 10 to 12."""
+    return dict(zip((1, 2, 3, 4, 5, 6, 7, 8, 10, 11, 12), amounts))
+
+
+TABLE_A1 = gas(970797, 16658, 2417, 346, 245, 11, 73, 125, 84, 528, 8715)
+EXAMPLE_1 = gas(900900, 55400, 13200, 2100, 1900, 0, 400, 500, 600, 14600, 10400)
+EXAMPLE_2 = gas(866475, 1169, 94500, 0, 1461, 0, 0, 292, 0, 36103, 0)
+BUTANE_RICH = gas(454500, 100000, 60000, 40000, 40000, 500, 20000, 20000, 15000, 100000, 150000)
+
+MIXTURES = [
+    simplified(TABLE_A1),
+    simplified(EXAMPLE_1),
+    simplified(EXAMPLE_2),
+    simplified(BUTANE_RICH),
+    (500000, 150000, 110000, 240000),               # 2 and 4 are equally fit
+    (100000, 400000, 300000, 200000),
+    (100000, 700000, 150000, 50000),
+    (300000, 50000, 600000, 50000),
+    (0, 0, 0, 0),                                   # all are
+    (4294967295, 4294967295, 4294967295, 4294967295),
+]
+
+
+def lines():
+    return [f"{len(chosen(m))} {' '.join(map(str, chosen(m)))}\n" for m in MIXTURES]
+
+
+def main():
+    assert simplified(TABLE_A1) == (979229, 16803, 2438, 1530)
+    assert [chosen(m) for m in MIXTURES[:4]] == [[4, 7, 8]] * 3 + [[2, 7, 8]]
+    if sys.argv[1:] != ["--check"]:
+        sys.stdout.writelines(lines())
+        return
+    crate = os.path.join(os.path.dirname(os.path.abspath(__file__)), "..", "crates", "choice_cases")
+    source = open(os.path.join(crate, "src", "main.rt")).read()
+    calls = re.findall(r"choose\(\[([^\]]*)\]\)", source)
+    if [tuple(int(n) for n in call.split(",") if n.strip()) for call in calls] != MIXTURES:
+        sys.exit("choice_cases: other mixtures in src/main.rt")
+    if open(os.path.join(crate, "stdout")).readlines() != lines():
+        sys.exit("choice_cases: other lines in stdout")
+    print(f"choice_cases: {len(MIXTURES)} mixtures agree")
+
+
+main()
