@@ -4,6 +4,7 @@ pub mod Numbers
 pub mod Trials
 pub mod Fit
 pub mod Loop
+pub mod Scanned
 pub mod Checks
 pub mod Wholes
 pub mod Weights

@@ -248,12 +248,13 @@ pub(crate) fn first_move(
     ensures { λ r. ⌜ r ≡ firstOf (now (ch .entry)) k (now (a .entry)) d ⌝ }
 {
     let was = imbalance(v, k);
+    let mut best = MOVES;
     let mut m = 0;
-    while m < MOVES {
+    while m < best {
         if can(ch, k, a, v, d, m, was) {
-            return m;
+            best = m;
         }
         m = next_giver(k, next_taker(k, m + 1));
     }
-    m
+    best
 }

@@ -29,12 +29,20 @@ const MILLION: u32 = 1000000;
 const INERT: u32 = 20;
 
 fn wide(x: u32) -> u64
-    ensures { λ r. ⌜ (r ≡ x) × (r ≤ 4294967295) ⌝ }
+    ensures { λ r. ⌜ r ≡ x ⌝ }
 {
     x as u64
 }
 
-// The amounts of component c in the k rows, added as whole numbers: nothing wraps.
+// One more amount, added as a whole number: nothing wraps.
+fn added(sum: u64, x: u32) -> u64
+    requires { ⌜ sum ≤ 34359738360 ⌝ }
+    ensures { λ r. ⌜ (r ≡ sum + x) × (r ≤ sum + 4294967295) ⌝ }
+{
+    sum + wide(x)
+}
+
+// The amounts of component c in the k rows, added.
 fn column(a: &[u32; CELLS], k: usize, c: usize) -> u64
     requires { ⌜ (k ≤ 8) × (c < 4) ⌝ }
     ensures { λ r. ⌜ r ≡ columnOf k (now (a .entry)) c ⌝ }
@@ -42,7 +50,7 @@ fn column(a: &[u32; CELLS], k: usize, c: usize) -> u64
     let mut sum: u64 = 0;
     let mut s = 0;
     while s < k {
-        sum += wide(a[s * COMPONENTS + c]);
+        sum = added(sum, a[s * COMPONENTS + c]);
         s += 1;
     }
     sum
