@@ -15,7 +15,8 @@ use Rattle.ternary.specs.Partial.{partialNumber}
 use Rattle.split.specs.Split.{SYSTEMS, CELLS, cellOf, systemOf, amountOf, partsOf, columnOf, numberAt, Chosen, Sound}
 use Rattle.split.specs.Move.{shift}
 use Rattle.split.specs.Folds.{sum-same, sum-shift, sum-has}
-use Rattle.split.specs.Members.{Three, three, has-cases}
+use Rattle.systems.specs.Members.{has-cases}
+use Rattle.split.specs.Members.{Three, three}
 use Rattle.split.specs.Rows.{cell-in}
 
 pub length-shift : (a : List ℕ) (i j d : ℕ) → length (shift a i j d) ≡ length a
@@ -94,17 +95,19 @@ module _ (a : List ℕ) (f t c d : ℕ) (long : length a ≡ CELLS) (lf : f < SY
 
       pub parts-giver : hasOf (systemOf ch f) c ≡ true → partsOf ch after f + d ≡ partsOf ch a f
       unfolding partsOf
-      parts-giver has =
-          has-cases (systemOf ch f) c (partsOf ch after f + d ≡ partsOf ch a f) has
-          (λ e. omega (arith, here (memberOf (systemOf ch f) 0) e, cell-column f (memberOf (systemOf ch f) 1) (w .low1) (λ z. w .ne10 (z ∙ e)), cell-column f (memberOf (systemOf ch f) 2) (w .low2) (λ z. w .ne20 (z ∙ e))))
-          (λ e. omega (arith, here (memberOf (systemOf ch f) 1) e, cell-column f (memberOf (systemOf ch f) 0) (w .low0) (λ z. w .ne10 (sym (z ∙ e))), cell-column f (memberOf (systemOf ch f) 2) (w .low2) (λ z. w .ne21 (z ∙ e))))
-          (λ e. omega (arith, here (memberOf (systemOf ch f) 2) e, cell-column f (memberOf (systemOf ch f) 0) (w .low0) (λ z. w .ne20 (sym (z ∙ e))), cell-column f (memberOf (systemOf ch f) 1) (w .low1) (λ z. w .ne21 (sym (z ∙ e)))))
+      parts-giver has = has-cases (systemOf ch f) c (partsOf ch after f + d ≡ partsOf ch a f) has at
         where
           w : Three (memberOf (systemOf ch f) 0) (memberOf (systemOf ch f) 1) (memberOf (systemOf ch f) 2)
           w = lows f kf
 
           here : (m : ℕ) → c ≡ m → cellOf after f m + d ≡ cellOf a f m
           here m e = rw (← e) (omega (arith, cell-giver, had))
+
+          at : (j : ℕ) → j < 3 → c ≡ memberOf (systemOf ch f) j → partsOf ch after f + d ≡ partsOf ch a f
+          at zero l e = omega (arith, here (memberOf (systemOf ch f) 0) e, cell-column f (memberOf (systemOf ch f) 1) (w .low1) (λ z. w .ne10 (z ∙ e)), cell-column f (memberOf (systemOf ch f) 2) (w .low2) (λ z. w .ne20 (z ∙ e)))
+          at (suc zero) l e = omega (arith, here (memberOf (systemOf ch f) 1) e, cell-column f (memberOf (systemOf ch f) 0) (w .low0) (λ z. w .ne10 (sym (z ∙ e))), cell-column f (memberOf (systemOf ch f) 2) (w .low2) (λ z. w .ne21 (z ∙ e)))
+          at (suc (suc zero)) l e = omega (arith, here (memberOf (systemOf ch f) 2) e, cell-column f (memberOf (systemOf ch f) 0) (w .low0) (λ z. w .ne20 (sym (z ∙ e))), cell-column f (memberOf (systemOf ch f) 1) (w .low1) (λ z. w .ne21 (sym (z ∙ e))))
+          at (suc (suc (suc j))) l e = absurd (omega arith)
 
       pub number-other : (s : ℕ) → s < k → (s ≡ f → ⊥) → (s ≡ t → ⊥) → numberAt ch after s ≡ numberAt ch a s
       unfolding numberAt

@@ -1,7 +1,7 @@
 -- The laws of the split that a search begins with. Assumes nothing.
 use Prim.Native.Nat.{ℕ, zero, suc, _+_, _*_, _-_, _/_, _%_, _≤_, _<_, min}
 use mathlib.Core.Path.{_≡_, refl, sym, ap, ap₂, subst, _∙_}
-use mathlib.Core.Bool.{Bool, true, false, cond}
+use mathlib.Core.Bool.{Bool, true, false, cond, _||_}
 use mathlib.Core.List.{List, [], _∷_}
 use native.Mathlib.Nat as N
 use native.Mathlib.Nat.{not-suc-le-zero, le-of-suc-le-suc}
@@ -12,12 +12,13 @@ use lib.Seq.{getD-set-same, getD-set-other, ext-getD}
 use borrow.Author.Count.{below-more}
 use borrow.Author.Tests.{lt-ltb, le-ltb, ltb-true, ltb-false, eqb-true, eqb-false, eq-eqb, ne-eqb}
 use Rattle.systems.specs.Systems.{COMPONENTS, candidates, memberOf, hasOf, Candidate}
+use Rattle.systems.specs.Members.{has-cases}
+use Rattle.systems.specs.Table.{each-candidate, to-true}
 use Rattle.split.specs.Fold.{sumTo, table}
 use Rattle.split.specs.Split.{SYSTEMS, CELLS, cellOf, systemOf, amountOf, partsOf, columnOf, heldOf, both, Chosen, Stock, Sound}
 use Rattle.split.specs.Start.{sharersOf, shareOf, givenOf, startCell, startOf}
 use Rattle.split.specs.Tables.{length-table, getD-table}
 use Rattle.split.specs.Folds.{sum-more, sum-none, sum-same, sum-has}
-use Rattle.split.specs.Members.{elem-passes, has-cases, both-left, both-right}
 
 abbrev oneIf : Bool → ℕ
 oneIf b = cond b 1 0
@@ -135,10 +136,6 @@ sharers-more ch c n x y system b p e f q = sum-more (λ s. oneIf (hasOf (systemO
 
 -- ---- no row of a start is empty
 
-abbrev either : Bool → Bool → Bool
-either true y = true
-either false y = y
-
 sharers-le : (ch : List ℕ) (c n : ℕ) → sharersOf ch c n ≤ n
 unfolding sharersOf sumTo
 sharers-le ch c zero = omega arith
@@ -168,24 +165,29 @@ module _ (mix ch : List ℕ) (k : ℕ) (most : k ≤ SYSTEMS) (s : ℕ) (h : s <
   -- so its row is not empty
   pub start-row : (c : ℕ) → c < COMPONENTS → hasOf (systemOf ch s) c ≡ true → k ≤ getD mix c 0 → 1 ≤ partsOf ch (startOf mix ch k) s
   unfolding partsOf
-  start-row c l u m =
-      has-cases (systemOf ch s) c (1 ≤ partsOf ch (startOf mix ch k) s) u
-      (λ e. let z : 1 ≤ amountOf ch (startOf mix ch k) s 0 = rw e at (start-some c l u m) in omega (arith, z))
-      (λ e. let z : 1 ≤ amountOf ch (startOf mix ch k) s 1 = rw e at (start-some c l u m) in omega (arith, z))
-      (λ e. let z : 1 ≤ amountOf ch (startOf mix ch k) s 2 = rw e at (start-some c l u m) in omega (arith, z))
+  start-row c l u m = has-cases (systemOf ch s) c (1 ≤ partsOf ch (startOf mix ch k) s) u at
+    where
+      one : (e : ℕ) → c ≡ e → 1 ≤ cellOf (startOf mix ch k) s e
+      one e q = rw (← q) (start-some c l u m)
+
+      at : (j : ℕ) → j < 3 → c ≡ memberOf (systemOf ch s) j → 1 ≤ partsOf ch (startOf mix ch k) s
+      at zero b e = omega (arith, one (memberOf (systemOf ch s) 0) e)
+      at (suc zero) b e = omega (arith, one (memberOf (systemOf ch s) 1) e)
+      at (suc (suc zero)) b e = omega (arith, one (memberOf (systemOf ch s) 2) e)
+      at (suc (suc (suc j))) b e = absurd (omega arith)
 
 -- each candidate contains methane or ethane
 abbrev methaneOrEthane : ℕ → Bool
-methaneOrEthane system = either (hasOf system 0) (hasOf system 1)
+methaneOrEthane system = hasOf system 0 || hasOf system 1
 
 pub start-sound : (mix ch : List ℕ) (k : ℕ) → Chosen ch k → sumTo (λ c. getD mix c 0) COMPONENTS ≤ 1000000
     → k ≤ getD mix 0 0 → k ≤ getD mix 1 0 → Sound ch k (startOf mix ch k)
 unfolding hasOf memberOf
 start-sound mix ch k cn few m e = record {
   stock = start-stock mix ch k (cn .most) few cn;
-  some = λ s h. of s h (hasOf (systemOf ch s) 0) refl (elem-passes methaneOrEthane candidates (systemOf ch s) refl (cn .known s h .listed));
+  some = λ s h. of s h (hasOf (systemOf ch s) 0) refl (to-true (methaneOrEthane (systemOf ch s)) (each-candidate methaneOrEthane tt (systemOf ch s) (cn .known s h)));
 }
   where
-    of : (s : ℕ) → s < k → (b : Bool) → hasOf (systemOf ch s) 0 ≡ b → either (hasOf (systemOf ch s) 0) (hasOf (systemOf ch s) 1) ≡ true → 1 ≤ partsOf ch (startOf mix ch k) s
+    of : (s : ℕ) → s < k → (b : Bool) → hasOf (systemOf ch s) 0 ≡ b → (hasOf (systemOf ch s) 0 || hasOf (systemOf ch s) 1) ≡ true → 1 ≤ partsOf ch (startOf mix ch k) s
     of s h true u t = start-row mix ch k (cn .most) s h 0 (omega arith) u m
     of s h false u t = start-row mix ch k (cn .most) s h 1 (omega arith) (rw u at t) e

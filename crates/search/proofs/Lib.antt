@@ -1,0 +1,11 @@
+pub mod Machine
+pub mod Amounts
+pub mod Numbers
+pub mod Trials
+pub mod Fit
+pub mod Loop
+pub mod Scanned
+pub mod Checks
+pub mod Wholes
+pub mod Weights
+pub mod Answers

@@ -1,0 +1,63 @@
+-- A turn, and a search's loop, from what the code has in hand.
+use Prim.Native.Nat.{ℕ, zero, suc, _+_, _*_, _-_, _%_, _^_, _≤_, _<_}
+use mathlib.Core.Path.{_≡_, refl, sym, ap, _∙_}
+use mathlib.Core.Bool.{Bool}
+use mathlib.Core.List.{List}
+use native.Mathlib.Omega.{arith}
+use lib.Dec.{eqb, eqb→eq}
+use lib.IntN.{ℤ}
+use Rattle.systems.specs.Table.{eachTo}
+use Rattle.split.specs.Split.{cellOf, numberAt, Sound}
+use Rattle.split.specs.Rating.{spreadOf}
+use Rattle.split.specs.Move.{MOVES, componentOf, giverOf, takerOf, movedOf, firstOf}
+use Rattle.split.specs.Search.{goOn, turnOf, stepOf, runOf}
+use Rattle.split.specs.declared.Turn.{Turn}
+use Rattle.split.specs.declared.Turn.the-variants.{Rate, Refuse, Move, Halve}
+use Rattle.split.specs.declared.Found.{Found}
+use Rattle.split.specs.Tests.{Fit}
+use Rattle.split.specs.Steps.{may-move}
+use Rattle.split.specs.Turns.{turn-rate, turn-refuse, turn-on, Moves, moves, sound-step, again-move}
+use Rattle.search.specs.Carried.{listed, Small, Carried, Held}
+use Rattle.search.proofs.Trials.{spread-same}
+
+-- the strides, each by one computed test
+abbrev right : ℕ → Bool
+right level = eqb (1 * 2 ^ level % 4294967296) (2 ^ level)
+
+pub stride-is : (level : ℕ) → level ≤ 16 → 1 * 2 ^ level % 4294967296 ≡ 2 ^ level
+stride-is level h = eqb→eq (1 * 2 ^ level % 4294967296) (2 ^ level) (eachTo right 17 tt level (omega arith))
+
+-- s is the spread of the numbers v, d the stride, m the first move, r what is answered then
+module _ (ch : List ℕ) (k limit allowance : ℕ) (a : List ℕ) (level rounds s : ℕ) (v : List ℤ) (e : s ≡ spreadOf (listed v) k) (held : Held ch k a v) where
+  is-spread : s ≡ spreadOf (numberAt ch a) k
+  is-spread = e ∙ spread-same (listed v) (numberAt ch a) k (held .sound .stock .chosen .some) (held .carried .are)
+
+  pub code-rate : s ≤ limit → Rate s ≡ turnOf ch k limit allowance a level rounds
+  code-rate h = ap Rate is-spread ∙ turn-rate ch k limit allowance a level rounds (rw is-spread at h)
+
+  pub code-refuse : limit < s → rounds ≡ allowance → Refuse ≡ turnOf ch k limit allowance a level rounds
+  code-refuse h = turn-refuse ch k limit allowance a level rounds (rw is-spread at h)
+
+  pub code-on : (d m : ℕ) (r : Turn) → limit < s → (rounds ≡ allowance → ⊥) → d ≡ 2 ^ level → m ≡ firstOf ch k a d → r ≡ goOn level m → r ≡ turnOf ch k limit allowance a level rounds
+  code-on d m r h u p q z =
+      let w : r ≡ goOn level (firstOf ch k a (2 ^ level)) = cc in
+      w ∙ turn-on ch k limit allowance a level rounds (rw is-spread at h) u
+
+-- the arm that moves
+module _ (ch : List ℕ) (k limit allowance : ℕ) (a : List ℕ) (level rounds m d : ℕ) (p : d ≡ 2 ^ level) (t : turnOf ch k limit allowance a level rounds ≡ Move m) where
+  pub fit-is : Fit ch k a d m
+  fit-is = rw p (moves ch k limit allowance a level rounds m t .fit)
+
+  pub may-step : Sound ch k a → (m < MOVES) × (d ≤ cellOf a (giverOf m) (componentOf m)) × (cellOf a (takerOf m) (componentOf m) + d ≤ 1000000)
+  may-step so = may-move ch k a d m so fit-is
+
+  module _ (b : List ℕ) (e : b ≡ movedOf a m d) where
+    step-is : b ≡ stepOf a m level
+    step-is = e ∙ ap (movedOf a m) p
+
+    pub held-next : (w : List ℤ) → Held ch k a w → (v : List ℤ) → Carried ch k (movedOf a m d) v × Small v k → Held ch k b v
+    held-next w h v c = rw e (record { sound = rw p (sound-step ch k limit allowance a level rounds m (h .sound) t); carried = c .0; small = c .1 })
+
+    pub step-next : (S : Found) → rounds ≤ allowance → S ≡ runOf ch k limit allowance (suc (allowance - rounds + level)) a level rounds
+        → (rounds + 1 ≤ allowance) × (S ≡ runOf ch k limit allowance (suc (allowance - (rounds + 1) + level)) b level (rounds + 1))
+    step-next S h inv = again-move ch k limit allowance a level rounds S m b step-is h inv t

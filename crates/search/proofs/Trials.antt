@@ -1,0 +1,130 @@
+-- A move's two rows worked out, the others carried.
+use Prim.Native.Nat.{ℕ, zero, suc, _+_, _*_, _-_, _/_, _%_, _≤_, _<_}
+use mathlib.Core.Path.{_≡_, refl, sym, ap, ap₂, _∙_}
+use mathlib.Core.Bool.{Bool, true, false, cond}
+use mathlib.Core.List.{List}
+use native.Mathlib.Omega.{arith}
+use lib.Dec.{eqb, ltb}
+use lib.IntN.{ℤ, pos, natAbs}
+use lib.ListN.{length, getD, set, length-set}
+use lib.Seq.{getD-set-same, getD-set-other}
+use mir.Syntax.{w64}
+use mir.Val.{toZ, ofZ}
+use borrow.Author.Tests.{eqb-true, eqb-false, eq-eqb, ne-eqb}
+use Rattle.systems.specs.Systems.{COMPONENTS, memberOf, Candidate}
+use Rattle.ternary.specs.Partial.{partialNumber}
+use Rattle.split.specs.Fold.{sumTo}
+use Rattle.split.specs.Split.{SYSTEMS, cellOf, systemOf, partsOf, numberAt, Sound}
+use Rattle.split.specs.Rating.{spreadOf}
+use Rattle.split.specs.Move.{squareOf, imbalanceOf, componentOf, giverOf, takerOf, movedOf, lowersOf}
+use Rattle.split.specs.Folds.{sum-same, greatest-same, least-same}
+use Rattle.split.specs.Members.{Three, three}
+use Rattle.split.specs.Rows.{parts-few}
+use Rattle.split.specs.Tests.{Fit, Between}
+use Rattle.split.specs.Steps.{insteadOf, numberWith, Changed, instead-is, number-with, bt, sound-moved, rest-same, giver-changed, taker-changed}
+use Rattle.search.specs.Carried.{listed, Small, Carried, Held, partsWith, Workable}
+use Rattle.search.proofs.Machine.{back}
+
+-- the imbalance and the spread depend on the k numbers alone
+pub imbalance-same : (u v : ℕ → ℤ) (k : ℕ) → ((i : ℕ) → i < k → u i ≡ v i) → imbalanceOf u k ≡ imbalanceOf v k
+unfolding imbalanceOf
+imbalance-same u v k h =
+    sum-same (λ i. sumTo (λ j. squareOf (u i) (u j)) i) (λ i. sumTo (λ j. squareOf (v i) (v j)) i) k
+    (λ i l. sum-same (λ j. squareOf (u i) (u j)) (λ j. squareOf (v i) (v j)) i (λ j m. pair i j l m))
+  where
+    pair : (i j : ℕ) → i < k → j < i → squareOf (u i) (u j) ≡ squareOf (v i) (v j)
+    pair i j l m = rw (h i l, h j (omega arith))
+
+pub spread-same : (u v : ℕ → ℤ) (k : ℕ) → 0 < k → ((i : ℕ) → i < k → u i ≡ v i) → spreadOf u k ≡ spreadOf v k
+unfolding spreadOf
+spread-same u v k p h = rw (greatest-same u v k k p (omega arith) h, least-same u v k k p (omega arith) h)
+
+-- an amount as the code picks it
+module _ (a : List ℕ) (system s c n j e : ℕ) (p : e ≡ memberOf system j) where
+  pub instead-here : e ≡ c → n ≡ insteadOf a s c n (memberOf system j)
+  instead-here q = rw (eq-eqb (memberOf system j) c (sym p ∙ q))
+
+  pub instead-there : (e ≡ c → ⊥) → cellOf a s e ≡ insteadOf a s c n (memberOf system j)
+  instead-there q = rw (ne-eqb (memberOf system j) c (λ z. q (p ∙ z))) (ap (cellOf a s) p)
+
+-- and the number of three such amounts
+pub number-picked : (ch a : List ℕ) (s c n x y z : ℕ) (v : ℤ) → x ≡ insteadOf a s c n (memberOf (systemOf ch s) 0) → y ≡ insteadOf a s c n (memberOf (systemOf ch s) 1)
+    → z ≡ insteadOf a s c n (memberOf (systemOf ch s) 2) → v ≡ partialNumber (systemOf ch s) x y z → v ≡ numberWith ch a s c n
+unfolding numberWith
+number-picked ch a s c n x y z v p q r u = u ∙ rw (p, q, r)
+
+pub may-pick : (ch a : List ℕ) (s c n x y z : ℕ) → x ≡ insteadOf a s c n (memberOf (systemOf ch s) 0) → y ≡ insteadOf a s c n (memberOf (systemOf ch s) 1)
+    → z ≡ insteadOf a s c n (memberOf (systemOf ch s) 2) → Workable ch a s c n → Candidate (systemOf ch s) × (1 ≤ x + y + z) × (x + y + z ≤ 1000000)
+may-pick ch a s c n x y z p q r w = (w .known, omega (arith, w .some, p, q, r), omega (arith, w .few, p, q, r))
+
+-- two numbers are put
+module _ (v : List ℤ) (k f t : ℕ) (x y : ℤ) (long : length v ≡ SYSTEMS) (most : k ≤ SYSTEMS) (lf : f < k) (lt : t < k) (P : ℕ → ℤ → Type 0)
+    (rest : (s : ℕ) → s < k → (s ≡ f → ⊥) → (s ≡ t → ⊥) → P s (listed v s)) (px : P f x) (py : P t y) where
+  two-put : (s : ℕ) → s < k → P s (listed (set (set v f x) t y) s)
+  two-put s h = go (eqb s t) (eqb s f) refl refl
+    where
+      go : (p q : Bool) → eqb s t ≡ p → eqb s f ≡ q → P s (listed (set (set v f x) t y) s)
+      go true q e g =
+          let w : s ≡ t = eqb-true s t e in
+          rw (w, getD-set-same (set v f x) t y (pos 0) (rw length-set (omega (arith, long)))) py
+      go false true e g =
+          let w : s ≡ f = eqb-true s f g in
+          rw (getD-set-other (set v f x) t s y (pos 0) (eqb-false s t e), w, getD-set-same v f x (pos 0) (omega (arith, long))) px
+      go false false e g =
+          rw (getD-set-other (set v f x) t s y (pos 0) (eqb-false s t e), getD-set-other v f s x (pos 0) (eqb-false s f g)) (rest s h (eqb-false s f g) (eqb-false s t e))
+
+module _ (ch : List ℕ) (k : ℕ) (a : List ℕ) (d m : ℕ) (so : Sound ch k a) (fit : Fit ch k a d m) where
+  -- a row that a move changes can be worked out
+  workable : (s n : ℕ) → s < k → Changed a (movedOf a m d) s (componentOf m) n → Workable ch a s (componentOf m) n
+  unfolding partsOf
+  workable s n h w =
+      let t = three (systemOf ch s) (so .stock .chosen .known s h) in
+      let after = sound-moved ch k a d m so fit in
+      let p = instead-is a (movedOf a m d) s (componentOf m) n w (memberOf (systemOf ch s) 0) (t .low0) in
+      let q = instead-is a (movedOf a m d) s (componentOf m) n w (memberOf (systemOf ch s) 1) (t .low1) in
+      let r = instead-is a (movedOf a m d) s (componentOf m) n w (memberOf (systemOf ch s) 2) (t .low2) in
+      record {
+        row = omega (arith, so .stock .chosen .most);
+        known = so .stock .chosen .known s h;
+        some = rw (p, q, r) (after .some s h);
+        few = rw (p, q, r) (parts-few ch k (movedOf a m d) s (after .stock) h);
+      }
+
+  pub giver-workable : Workable ch a (giverOf m) (componentOf m) (cellOf a (giverOf m) (componentOf m) - d)
+  giver-workable = workable (giverOf m) (cellOf a (giverOf m) (componentOf m) - d) (bt ch k a d m so fit .from) (giver-changed ch k a d m so fit)
+
+  pub taker-workable : Workable ch a (takerOf m) (componentOf m) (cellOf a (takerOf m) (componentOf m) + d)
+  taker-workable = workable (takerOf m) (cellOf a (takerOf m) (componentOf m) + d) (bt ch k a d m so fit .to) (taker-changed ch k a d m so fit)
+
+  with-is : (s n : ℕ) → s < k → Changed a (movedOf a m d) s (componentOf m) n → numberWith ch a s (componentOf m) n ≡ numberAt ch (movedOf a m d) s
+  with-is s n h w = number-with a (movedOf a m d) s (componentOf m) n w ch (three (systemOf ch s) (so .stock .chosen .known s h))
+
+  pub renumber-ok : (v : List ℤ) (x y : ℤ) → Carried ch k a v → Small v k
+      → (x ≡ numberWith ch a (giverOf m) (componentOf m) (cellOf a (giverOf m) (componentOf m) - d)) × (natAbs x ≤ 2000000000000)
+      → (y ≡ numberWith ch a (takerOf m) (componentOf m) (cellOf a (takerOf m) (componentOf m) + d)) × (natAbs y ≤ 2000000000000)
+      → Carried ch k (movedOf a m d) (set (set v (giverOf m) (toZ w64 (ofZ w64 x))) (takerOf m) (toZ w64 (ofZ w64 y)))
+      × Small (set (set v (giverOf m) (toZ w64 (ofZ w64 x))) (takerOf m) (toZ w64 (ofZ w64 y))) k
+  renumber-ok v x y cv sm p q =
+      let b = bt ch k a d m so fit in
+      let e : toZ w64 (ofZ w64 x) ≡ x = back x (omega arith) in
+      let f : toZ w64 (ofZ w64 y) ≡ y = back y (omega arith) in
+      rw (e, f) (
+        record {
+          long = simp length-set (cv .long);
+          are = two-put v k (giverOf m) (takerOf m) x y (cv .long) (sm .most) (b .from) (b .to) (λ s z. z ≡ numberAt ch (movedOf a m d) s)
+              (λ s h u w. cv .are s h ∙ sym (rest-same ch k a d m so fit s h u w))
+              (p .0 ∙ with-is (giverOf m) (cellOf a (giverOf m) (componentOf m) - d) (b .from) (giver-changed ch k a d m so fit))
+              (q .0 ∙ with-is (takerOf m) (cellOf a (takerOf m) (componentOf m) + d) (b .to) (taker-changed ch k a d m so fit));
+        },
+        record {
+          most = sm .most;
+          each = two-put v k (giverOf m) (takerOf m) x y (cv .long) (sm .most) (b .from) (b .to) (λ s z. natAbs z ≤ 2000000000000) (λ s h u w. sm .each s h) (p .1) (q .1);
+        },
+      )
+
+  pub lowers-is : (w : List ℤ) (r was : ℕ) → Carried ch k (movedOf a m d) w → r ≡ imbalanceOf (listed w) k → was ≡ imbalanceOf (numberAt ch a) k → ltb r was ≡ lowersOf ch k a d m
+  unfolding lowersOf
+  lowers-is w r was cw p q = ap₂ ltb (p ∙ imbalance-same (listed w) (numberAt ch (movedOf a m d)) k (cw .are)) q
+
+pub was-is : (ch : List ℕ) (k : ℕ) (a : List ℕ) (v : List ℤ) (r : ℕ) → Carried ch k a v → r ≡ imbalanceOf (listed v) k → r ≡ imbalanceOf (numberAt ch a) k
+was-is ch k a v r cv e = e ∙ imbalance-same (listed v) (numberAt ch a) k (cv .are)

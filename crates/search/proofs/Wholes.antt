@@ -1,0 +1,110 @@
+-- The signed arithmetic of a rating: each result fits 64 bits, and what is read back from the bits is the number itself.
+use mathlib.Core.Path.{_≡_, refl, sym, ap, ap₂, _∙_, subst⁻¹}
+use Prim.Native.Nat.{ℕ, _+_, _*_, _-_, _^_, _≤_, _<_}
+use native.Mathlib.Nat as N
+use native.Mathlib.Omega.{arith}
+use lib.Dec.{lit<}
+use lib.IntN.{ℤ, pos, negsuc, natAbs, _+ℤ_, _-ℤ_, _*ℤ_}
+use lib.Signed.{quotZ, mag}
+use mir.Syntax.{w64}
+use mir.Val.{SFits, toZ, ofZ}
+use mir.ValLaws.{toZ-ofZ, toZ-pos}
+use Rattle.ternary.specs.Answer.{isIn, partialOf, partial-is}
+use Rattle.ternary.specs.declared.Partial.{Partial}
+use Rattle.ternary.specs.declared.Partial.the-variants.{Number, Refused}
+use Rattle.split.specs.Rating.{inertNumber}
+use Rattle.split.specs.Size.{inert-small}
+use Rattle.integer.specs.Ring.{mag-le, natAbs-*, natAbs-+, natAbs--, natAbs-quot}
+
+sfits-small : (z : ℤ) → natAbs z ≤ 9000000000000000000 → SFits w64 z
+sfits-small z h = record { sfits = N.lt-of-le-of-lt (N.le-trans (mag-le z) h) (lit< tt) }
+
+-- ---- one more partial number, times its parts
+
+module _ (s v : ℤ) (p : ℕ) (fs : SFits w64 s) (fv : SFits w64 v) (v≤ : natAbs v ≤ 2000000000000) (room : natAbs s + 2000000000000 * p ≤ 2000000000000 * 1000000) where
+  product-le : natAbs (v *ℤ pos p) ≤ 2000000000000 * p
+  product-le = rw (natAbs-* v (pos p)) (N.mul-le-mul-right p v≤)
+
+  product-fits : SFits w64 (v *ℤ pos p)
+  product-fits = sfits-small (v *ℤ pos p) (omega (arith, product-le))
+
+  sum-fits : SFits w64 (s +ℤ v *ℤ pos p)
+  sum-fits = sfits-small (s +ℤ v *ℤ pos p) (omega (arith, product-le, natAbs-+ s (v *ℤ pos p)))
+
+  few : p < 2 ^ 63
+  few = N.lt-of-le-of-lt small (lit< tt)
+    where
+      small : p ≤ 1000000
+      small = omega arith
+
+  product-is : toZ w64 (ofZ w64 v) *ℤ toZ w64 p ≡ v *ℤ pos p
+  product-is = ap₂ _*ℤ_ (toZ-ofZ w64 v fv) (toZ-pos w64 p few)
+
+  sum-is : toZ w64 (ofZ w64 s) +ℤ toZ w64 (ofZ w64 (toZ w64 (ofZ w64 v) *ℤ toZ w64 p)) ≡ s +ℤ v *ℤ pos p
+  sum-is = ap₂ _+ℤ_ (toZ-ofZ w64 s fs) (ap (λ (z : ℤ). toZ w64 (ofZ w64 z)) product-is ∙ toZ-ofZ w64 (v *ℤ pos p) product-fits)
+
+  pub weigh-mul : SFits w64 (toZ w64 (ofZ w64 v) *ℤ toZ w64 p)
+  weigh-mul = subst⁻¹ (SFits w64) product-is product-fits
+
+  pub weigh-add : SFits w64 (toZ w64 (ofZ w64 s) +ℤ toZ w64 (ofZ w64 (toZ w64 (ofZ w64 v) *ℤ toZ w64 p)))
+  weigh-add = subst⁻¹ (SFits w64) sum-is sum-fits
+
+  pub weigh-is : toZ w64 (ofZ w64 (toZ w64 (ofZ w64 s) +ℤ toZ w64 (ofZ w64 (toZ w64 (ofZ w64 v) *ℤ toZ w64 p)))) ≡ s +ℤ v *ℤ pos p
+  weigh-is = ap (λ (z : ℤ). toZ w64 (ofZ w64 z)) sum-is ∙ toZ-ofZ w64 (s +ℤ v *ℤ pos p) sum-fits
+
+-- ---- the rating
+
+module _ (s n : ℤ) (fs : SFits w64 s) (fn : SFits w64 n) (s≤ : natAbs s ≤ 2000000000000 * 1000000) (n≤ : natAbs n ≤ 2000000000000) where
+  mean-le : natAbs (quotZ s (pos 1000000)) ≤ 2000000000000000000
+  mean-le = rw (natAbs-quot s 1000000) (N.le-trans (N.div-le-self (natAbs s) 1000000) s≤)
+
+  mean-fits : SFits w64 (quotZ s (pos 1000000))
+  mean-fits = sfits-small (quotZ s (pos 1000000)) (omega (arith, mean-le))
+
+  with-le : natAbs (quotZ s (pos 1000000) +ℤ n) ≤ 2000002000000000000
+  with-le = omega (arith, mean-le, natAbs-+ (quotZ s (pos 1000000)) n)
+
+  with-fits : SFits w64 (quotZ s (pos 1000000) +ℤ n)
+  with-fits = sfits-small (quotZ s (pos 1000000) +ℤ n) (omega (arith, with-le))
+
+  rating-fits : SFits w64 (quotZ s (pos 1000000) +ℤ n -ℤ pos 1000003000)
+  rating-fits = sfits-small (quotZ s (pos 1000000) +ℤ n -ℤ pos 1000003000) (omega (arith, with-le, natAbs-- (quotZ s (pos 1000000) +ℤ n) (pos 1000003000)))
+
+  mean-is : quotZ (toZ w64 (ofZ w64 s)) (pos 1000000) ≡ quotZ s (pos 1000000)
+  mean-is = ap (λ (z : ℤ). quotZ z (pos 1000000)) (toZ-ofZ w64 s fs)
+
+  with-is : toZ w64 (ofZ w64 (quotZ (toZ w64 (ofZ w64 s)) (pos 1000000))) +ℤ toZ w64 (ofZ w64 n) ≡ quotZ s (pos 1000000) +ℤ n
+  with-is = ap₂ _+ℤ_ (ap (λ (z : ℤ). toZ w64 (ofZ w64 z)) mean-is ∙ toZ-ofZ w64 (quotZ s (pos 1000000)) mean-fits) (toZ-ofZ w64 n fn)
+
+  rated-is : toZ w64 (ofZ w64 (toZ w64 (ofZ w64 (quotZ (toZ w64 (ofZ w64 s)) (pos 1000000))) +ℤ toZ w64 (ofZ w64 n))) -ℤ pos 1000003000 ≡ quotZ s (pos 1000000) +ℤ n -ℤ pos 1000003000
+  rated-is = ap (λ (z : ℤ). z -ℤ pos 1000003000) (ap (λ (z : ℤ). toZ w64 (ofZ w64 z)) with-is ∙ toZ-ofZ w64 (quotZ s (pos 1000000) +ℤ n) with-fits)
+
+  pub rating-div : SFits w64 (quotZ (toZ w64 (ofZ w64 s)) (pos 1000000))
+  rating-div = subst⁻¹ (SFits w64) mean-is mean-fits
+
+  pub rating-add : SFits w64 (toZ w64 (ofZ w64 (quotZ (toZ w64 (ofZ w64 s)) (pos 1000000))) +ℤ toZ w64 (ofZ w64 n))
+  rating-add = subst⁻¹ (SFits w64) with-is with-fits
+
+  pub rating-sub : SFits w64 (toZ w64 (ofZ w64 (toZ w64 (ofZ w64 (quotZ (toZ w64 (ofZ w64 s)) (pos 1000000))) +ℤ toZ w64 (ofZ w64 n))) -ℤ pos 1000003000)
+  rating-sub = subst⁻¹ (SFits w64) rated-is rating-fits
+
+  pub rating-is : toZ w64 (ofZ w64 (toZ w64 (ofZ w64 (toZ w64 (ofZ w64 (quotZ (toZ w64 (ofZ w64 s)) (pos 1000000))) +ℤ toZ w64 (ofZ w64 n))) -ℤ pos 1000003000)) ≡ quotZ s (pos 1000000) +ℤ n +ℤ negsuc 1000002999
+  rating-is = ap (λ (z : ℤ). toZ w64 (ofZ w64 z)) rated-is ∙ toZ-ofZ w64 (quotZ s (pos 1000000) +ℤ n -ℤ pos 1000003000) rating-fits
+
+-- ---- the inert number is answered, and is small
+
+module _ (n1 : ℕ) (p : Partial) (q : p ≡ partialOf 20 n1 (1000000 - n1) 0) (most : n1 ≤ 1000000) where
+  answer-is : p ≡ Number (inertNumber n1)
+  unfolding inertNumber isIn
+  answer-is = q ∙ partial-is 20 n1 (1000000 - n1) 0 refl (omega arith) (omega arith)
+
+  pub inert-ok : (x : ℤ) → p ≡ Number x → (toZ w64 (ofZ w64 x) ≡ inertNumber n1) × (natAbs (toZ w64 (ofZ w64 x)) ≤ 2000000000000)
+  inert-ok x u =
+      let t : p ≡ Number (inertNumber n1) = answer-is in
+      let v : x ≡ inertNumber n1 = cc in
+      rw (v, toZ-ofZ w64 (inertNumber n1) (sfits-small (inertNumber n1) (omega (arith, inert-small n1)))) (refl, inert-small n1)
+
+  pub inert-never : (n : ℕ) → p ≡ Refused n → (pos 0 ≡ inertNumber n1) × (0 ≤ 2000000000000)
+  inert-never n u =
+      let t : p ≡ Number (inertNumber n1) = answer-is in
+      absurd (let z : _≡_ {A = ℕ} 0 1 = cc in omega arith)

@@ -1,0 +1,28 @@
+-- `search::rating::inert_number` meets its contract. Assumes nothing.
+use Rattle.search.proofs.Wholes.{inert-ok, inert-never}
+use borrow.Author.Needs.{needs}
+use Rattle.search.proofs.rating.inert_number.Statement.{statement}
+use Rattle.search.proofs.rating.inert_number.Tie as tie
+
+sub-partial-number : tie.Need-sub-partial-number
+sub-partial-number c = search needs
+
+partial-number-requires : tie.Need-partial-number-requires
+partial-number-requires c κs = search needs
+
+enum-known-p : tie.Need-enum-known-p
+enum-known-p c = search needs
+
+enum-told : tie.Need-enum-told
+enum-told c = search needs
+
+returns : tie.Need-returns
+returns c = inert-ok _ _ (c .before .before .before .partial-number .ensures) (c .before .before .before .before .pre) _ (c .before .p .given .1)
+
+returns-2 : tie.Need-returns-2
+returns-2 c = inert-never _ _ (c .before .before .partial-number .ensures) (c .before .before .before .pre) _ (c .enum-told .given .1)
+
+pub inert-number-spec : {M : Type 1} → statement M
+inert-number-spec =
+    tie.close
+    (tie.spec sub-partial-number partial-number-requires enum-known-p enum-told returns returns-2)

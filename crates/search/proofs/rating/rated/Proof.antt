@@ -1,0 +1,39 @@
+-- `search::rating::rated` meets its contract. Assumes nothing.
+use mathlib.Core.Path.{_∙_}
+use Rattle.search.proofs.Weights.{read-back, wide-answer, rated-answer}
+use borrow.Author.Needs.{needs}
+use Rattle.search.proofs.rating.rated.Statement.{statement}
+use Rattle.search.proofs.rating.rated.Tie as tie
+
+numbers-requires : tie.Need-numbers-requires
+numbers-requires c κs = search needs
+
+spread-requires : tie.Need-spread-requires
+spread-requires c κs = search needs
+
+returns : tie.Need-returns
+returns c = wide-answer _ _ _ _ _ _ (c .before .before .before .numbers .ensures) _ (c .before .spread .ensures) (c .if1 .taken)
+
+weighted-requires : tie.Need-weighted-requires
+weighted-requires c κs = search needs
+
+inert-number-requires : tie.Need-inert-number-requires
+inert-number-requires c κs = search needs
+
+rating-of-requires : tie.Need-rating-of-requires
+rating-of-requires c κs = search needs
+
+returns-2 : tie.Need-returns-2
+returns-2 c = rated-answer _ _ _ _ _ _ (c .before .before .before .before .before .before .before .numbers .ensures) _ (c .before .before .before .before .before .spread .ensures) (c .before .before .before .before .if1 .left) _ _ _ (read-back (c .before .before .weighted .result) (c .before .before .weighted .ok) ∙ c .before .before .weighted .ensures .0) (read-back (c .before .inert-number .result) (c .before .inert-number .ok) ∙ c .before .inert-number .ensures .0) (read-back (c .rating-of .result) (c .rating-of .ok) ∙ c .rating-of .ensures)
+
+pub rated-spec : {M : Type 1} → statement M
+rated-spec =
+    tie.close
+    (tie.spec
+    numbers-requires
+    spread-requires
+    returns
+    weighted-requires
+    inert-number-requires
+    rating-of-requires
+    returns-2)

@@ -1,0 +1,20 @@
+-- `search::rating::weigh` meets its contract. Assumes nothing.
+use Rattle.search.proofs.Wholes.{weigh-mul, weigh-add, weigh-is}
+use borrow.Author.Needs.{needs}
+use Rattle.search.proofs.rating.weigh.Statement.{statement}
+use Rattle.search.proofs.rating.weigh.Tie as tie
+
+cast-result : tie.Need-cast-result
+cast-result c = search needs
+
+mul-result : tie.Need-mul-result
+mul-result c = weigh-mul (c .args .sum) (c .args .v) (c .args .p) (c .fits .sum) (c .fits .v) (c .pre .0) (c .pre .1)
+
+add-result : tie.Need-add-result
+add-result c = weigh-add (c .args .sum) (c .args .v) (c .args .p) (c .fits .sum) (c .fits .v) (c .pre .0) (c .pre .1)
+
+returns : tie.Need-returns
+returns c = weigh-is (c .args .sum) (c .args .v) (c .args .p) (c .fits .sum) (c .fits .v) (c .pre .0) (c .pre .1)
+
+pub weigh-spec : {M : Type 1} → statement M
+weigh-spec = tie.close (tie.spec cast-result mul-result add-result returns)

@@ -1,0 +1,113 @@
+// The rounds of the search.
+ghost use mathlib.Core.Path.{_≡_};
+ghost use Prim.Native.Nat.{_<_, _≤_, _^_};
+ghost use Rattle.split.specs.Split.{Sound};
+ghost use Rattle.split.specs.Search.{LEVEL, goOn, turnOf, searchOf};
+ghost use Rattle.search.specs.Carried.{Held};
+use super::moves::first_move;
+use super::moves::moved;
+use super::moves::renumbered;
+use super::state::numbers;
+use super::state::spread;
+use split::Found;
+use split::Search;
+use split::Turn;
+
+const COMPONENTS: usize = 4;
+
+const SYSTEMS: usize = 8;
+
+const CELLS: usize = COMPONENTS * SYSTEMS;
+
+const MOVES: usize = COMPONENTS * SYSTEMS * SYSTEMS;
+
+// The stride of a level.
+fn stride(level: usize) -> u32
+    requires { ⌜ level ≤ LEVEL ⌝ }
+    ensures { λ r. ⌜ r ≡ 2 ^ level ⌝ }
+{
+    1 << level
+}
+
+// What is done where the first move that lowers the imbalance is m, MOVES where there is none.
+fn go_on(level: usize, m: usize) -> Turn
+    ensures { λ r. ⌜ r ≡ goOn level m ⌝ }
+{
+    if m < MOVES {
+        return Turn::Move(m);
+    }
+    if level == 0 {
+        return Turn::Refuse;
+    }
+    Turn::Halve
+}
+
+// What is done next, for a split with its partial numbers.
+fn next_turn(
+    ch: &[u8; SYSTEMS],
+    k: usize,
+    limit: u64,
+    allowance: u32,
+    a: &[u32; CELLS],
+    v: &[i64; SYSTEMS],
+    level: usize,
+    rounds: u32,
+) -> Turn
+    requires { ⌜ Held (now ch) k (now a) (now v) × (level ≤ LEVEL) ⌝ }
+    ensures { λ r. ⌜ r ≡ turnOf (now (ch .entry)) k limit allowance (now (a .entry)) level rounds ⌝ }
+{
+    let s = spread(v, k);
+    if s <= limit {
+        return Turn::Rate(s);
+    }
+    if rounds == allowance {
+        return Turn::Refuse;
+    }
+    let d = stride(level);
+    let m = first_move(ch, k, a, v, d);
+    go_on(level, m)
+}
+
+// The search from a split: a move counts a round, halving the stride does not.
+pub(crate) fn search(
+    ch: &[u8; SYSTEMS],
+    k: usize,
+    limit: u64,
+    first: usize,
+    allowance: u32,
+    start: [u32; CELLS],
+) -> Found
+    requires { ⌜ Sound (now ch) k start × (first ≤ LEVEL) ⌝ }
+    ensures { λ r. ⌜ r ≡ searchOf (now (ch .entry)) k limit first allowance start ⌝ }
+{
+    let mut a = start;
+    let mut v = numbers(ch, k, &a);
+    let mut level = first;
+    let mut rounds: u32 = 0;
+    loop {
+        let t = next_turn(ch, k, limit, allowance, &a, &v, level, rounds);
+        match t {
+            Turn::Rate(s) => {
+                return Found {
+                    cells: a,
+                    search: Search::Balanced { spread: s, rounds },
+                };
+            }
+            Turn::Refuse => {
+                return Found {
+                    cells: a,
+                    search: Search::Unbalanced,
+                };
+            }
+            Turn::Move(m) => {
+                let d = stride(level);
+                v = renumbered(ch, k, &a, &v, d, m);
+                a = moved(a, m, d);
+                rounds += 1;
+            }
+            Turn::Halve => {
+                level -= 1;
+            }
+        }
+    }
+}
