@@ -4,6 +4,7 @@ limits of 19 and 40 units, found splits put back, and sums.
 selfcheck.py [SEED [GASES]]     default 1 and 300
 """
 
+import os
 import sys
 from fractions import Fraction
 
@@ -131,6 +132,18 @@ def refusals():
     assert ref.write(thin, None, bytearray()) == Refusal(5, frozenset([2]))
     light = (0, 900000, *A1[2:])
     assert ref.write(light, None, bytearray()) == Refusal(6)
+
+
+def spread_limit():
+    """Sheets with a spread at the limit and one unit beside it."""
+    path = os.path.join(os.path.dirname(os.path.abspath(__file__)),
+                        "..", "data", "spread-limit.txt")
+    with open(path) as f:
+        for line in f:
+            if line.startswith("#"):
+                continue
+            sheet, display = line.split(" ", 1)
+            assert ref.display(ref.rate(bytes.fromhex(sheet))) == display
 
 
 # A second reading of the working rule and of the search, in the plainest form.
@@ -318,6 +331,7 @@ def main(arguments):
     marked_figures()
     compared_figures()
     refusals()
+    spread_limit()
     print("figures and refusals of document 01: as written")
     worst = partial_limits(seed, 10 * count)
     print("partial numbers: %d cases, farthest from exact %.3f units"
