@@ -192,19 +192,19 @@ def moved(draw, records, most):
 def emptied(draw, records):
     """All of one system carried to the others; re-sums."""
     held = held_of(records)
-    victim = draw.pick(sorted(held))
-    for c in list(held[victim]):
+    drained = draw.pick(sorted(held))
+    for c in list(held[drained]):
         taker = draw.pick([s for s in sorted(held)
-                           if s != victim and c in held[s]])
-        held[taker][c] += held[victim][c]
-        held[victim][c] = 0
+                           if s != drained and c in held[s]])
+        held[taker][c] += held[drained][c]
+        held[drained][c] = 0
     if draw.one_in(4):      # one part left: no longer empty
-        for c in held[victim]:
-            giver = next((s for s in sorted(held) if s != victim
+        for c in held[drained]:
+            giver = next((s for s in sorted(held) if s != drained
                           and held[s].get(c, 0) > 0), None)
             if giver is not None:
                 held[giver][c] -= 1
-                held[victim][c] += 1
+                held[drained][c] += 1
                 break
     return records_of(held)
 
