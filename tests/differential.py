@@ -4,13 +4,15 @@
   python3 tests/differential.py DRIVER                  100000 sheets and what belongs to them
   python3 tests/differential.py DRIVER --long N SEED    N sheets of another seed
   ... --brief                                           the last line only
+  ... --jobs N                                          processes at once; as many as processors if not said
 
-Seeded and repeatable. Every answer and every buffer byte is compared, guards around the buffers included; a found
+Seeded and repeatable, whatever the number of processes. Every answer and every buffer byte is compared, guards around the buffers included; a found
 split is put back as a proposed one; the distance of ratings from the exact fraction stays below 40 units.
 Ends with 1 at the first difference and prints that case.
 """
 import argparse
 import itertools
+import multiprocessing
 import os
 import struct
 import subprocess
@@ -24,11 +26,17 @@ import gases  # noqa: E402
 import saugrinte as ref  # noqa: E402
 
 DEFAULT_SHEETS, DEFAULT_SEED = 100000, 1
-BATCH = 10000               # sheets in one run of the driver
-EXACT = 3000                # ratings of proposed splits compared with the exact fraction
+PART = 5000                 # sheets of one part: a seed and a run of the driver of its own
+SEARCH_ONE_IN = 24          # good sheets that ask for a search
+EXACT = 150                 # ratings of proposed splits compared with the exact fraction, in a part
+SECONDS = 600               # the longest that the driver may take for a part
 DISTANCE = 40               # units; every rating is nearer than this to the exact one
 WORD = struct.calcsize('P')
 U32, U64, I64 = 1 << 32, 1 << 64, 1 << 63
+
+
+class Difference(Exception):
+    """Says what differs."""
 
 
 # ------------------------------------------------------------ what the driver prints
@@ -223,8 +231,8 @@ class Exact:
         distance = abs(ref.exact_rating(analysis, records) - rating)
         self.farthest = max(self.farthest, distance)
         if distance >= DISTANCE:
-            sys.exit('differential: the rating %d of %s is %.1f units from the exact one'
-                     % (rating, ref.layout(analysis, records).hex(), distance))
+            raise Difference('the rating %d of %s is %.1f units from the exact one'
+                             % (rating, ref.layout(analysis, records).hex(), distance))
 
 
 def sheet_cases(cases, exact, kind, sheet):
@@ -241,7 +249,7 @@ def sheet_cases(cases, exact, kind, sheet):
     if split is None:
         back = ref.rate_split(analysis, result.split)
         if isinstance(back, ref.Refusal) or back[:3] != result[:3]:
-            sys.exit('differential: the reference does not rate the split found for %s' % sheet.hex())
+            raise Difference('the reference does not rate the split found for %s' % sheet.hex())
         cases.search('found', analysis, ref.MOST_ROUNDS, result)
         cases.split('found, put back', analysis, 9, result.split, back)
         cases.rate('found, put back as a sheet', ref.layout(analysis, result.split), back)
@@ -292,7 +300,7 @@ def limit_cases(cases):
                 sheet = bytes.fromhex(line.split()[0])
                 got, result = read(sheet)
                 if ref.display(result).strip() != line.split(' ', 1)[1].strip():
-                    sys.exit('differential: spread-limit.txt says otherwise: ' + line)
+                    raise Difference('spread-limit.txt says otherwise: ' + line)
                 cases.rate('spread at the limit', sheet, result)
 
 
@@ -302,7 +310,10 @@ def run(driver, lines, *options):
     with tempfile.TemporaryFile() as given:
         given.write(''.join(line + '\n' for line in lines).encode())
         given.seek(0)
-        got = subprocess.run([driver, *options], stdin=given, stdout=subprocess.PIPE, text=True)
+        try:
+            got = subprocess.run([driver, *options], stdin=given, stdout=subprocess.PIPE, text=True, timeout=SECONDS)
+        except subprocess.TimeoutExpired:
+            raise Difference('the driver has not ended after %d seconds' % SECONDS) from None
     return got.returncode, got.stdout.split('\n')[:-1]
 
 
@@ -316,24 +327,36 @@ def compare(driver, cases, tally):
     for kind, line, expected in cases.items:
         for one in expected:
             if at >= len(printed):
-                sys.exit('differential: the driver ended with status %s at this case (%s):\n  %s' % (status, kind, line))
+                raise Difference('the driver ended with status %s at this case (%s):\n  %s' % (status, kind, line))
             if not one.agrees(printed[at]):
-                sys.exit('differential: %s differs\n  case      %s\n  reference %s\n  driver    %s'
-                         % (kind, line, one, printed[at]))
+                raise Difference('%s differs\n  case      %s\n  reference %s\n  driver    %s'
+                                 % (kind, line, one, printed[at]))
             tally[kind, one.number] = tally.get((kind, one.number), 0) + 1
             at += 1
     if at != len(printed) or status != 0:
-        sys.exit('differential: the driver printed %d lines for %d, status %s' % (len(printed), at, status))
+        raise Difference('the driver printed %d lines for %d, status %s' % (len(printed), at, status))
 
 
-def summary(tally, exact, sheets, seed, seconds, brief):
-    if not brief:
-        for kind in sorted({k for k, _ in tally}):
-            print('%-28s %7d  ' % (kind, sum(n for (k, _), n in tally.items() if k == kind))
-                  + ' '.join('%d:%d' % (number, n) for (k, number), n in sorted(tally.items()) if k == kind))
-        print('(after the colon the count, before it the refusal\'s number, 0 for an answer)')
-    print('differential: %d sheets of seed %d and %d calls in all, no difference; %d ratings at most %.2f units from exact; %.0f s'
-          % (sheets, seed, sum(tally.values()), exact.count, exact.farthest, seconds))
+def part(job):
+    """One part: (difference or None, tally, exact ratings compared, farthest)."""
+    driver, seed, sheets = job
+    tally, exact, cases = {}, Exact(seed), Cases()
+    try:
+        limit_cases(cases)
+        call_cases(cases, seed, sheets)
+        for kind, sheet in itertools.islice(gases.sheets(seed, SEARCH_ONE_IN), sheets):
+            sheet_cases(cases, exact, kind, sheet)
+        compare(driver, cases, tally)
+    except Difference as difference:
+        return '%s\n  (seed %d of this part)' % (difference, seed), tally, 0, 0
+    return None, tally, exact.count, float(exact.farthest)
+
+
+def show(tally):
+    for kind in sorted({k for k, _ in tally}):
+        print('%-28s %7d  ' % (kind, sum(n for (k, _), n in tally.items() if k == kind))
+              + ' '.join('%d:%d' % (number, n) for (k, number), n in sorted(tally.items()) if k == kind))
+    print("(after the colon the count, before it the refusal's number, 0 for an answer)")
 
 
 def main():
@@ -341,21 +364,22 @@ def main():
     parser.add_argument('driver')
     parser.add_argument('--long', nargs=2, type=int, metavar=('N', 'SEED'))
     parser.add_argument('--brief', action='store_true')
+    parser.add_argument('--jobs', type=int, default=os.cpu_count() or 1)
     options = parser.parse_args()
     sheets, seed = options.long or (DEFAULT_SHEETS, DEFAULT_SEED)
-    begin, tally, exact = time.time(), {}, Exact(seed)
-    made, left = gases.sheets(seed), sheets
-    cases = Cases()
-    limit_cases(cases)
-    call_cases(cases, seed, sheets)
-    compare(options.driver, cases, tally)
-    while left:
-        cases = Cases()
-        for kind, sheet in itertools.islice(made, min(left, BATCH)):
-            sheet_cases(cases, exact, kind, sheet)
-            left -= 1
-        compare(options.driver, cases, tally)
-    summary(tally, exact, sheets, seed, time.time() - begin, options.brief)
+    jobs = [(options.driver, seed * 100000 + i, min(PART, sheets - i * PART)) for i in range(-(-sheets // PART))]
+    begin, tally, compared, farthest = time.time(), {}, 0, 0
+    with multiprocessing.Pool(options.jobs) as pool:
+        for difference, counts, exact, far in pool.imap(part, jobs):
+            if difference:
+                sys.exit('differential: ' + difference)
+            for key, n in counts.items():
+                tally[key] = tally.get(key, 0) + n
+            compared, farthest = compared + exact, max(farthest, far)
+    if not options.brief:
+        show(tally)
+    print('differential: %d sheets of seed %d, %d calls in all, no difference; %d ratings at most %.2f units from exact; '
+          '%.0f s' % (sheets, seed, sum(tally.values()), compared, farthest, time.time() - begin))
 
 
 if __name__ == '__main__':

@@ -113,7 +113,10 @@ def main():
         if published != '-' and not isinstance(result, ref.Refusal):
             largest = max(largest, abs(result.rating / ref.UNITS - float(published)))
     tally = {}
-    d.compare(driver, cases, tally)
+    try:
+        d.compare(driver, cases, tally)
+    except d.Difference as difference:
+        sys.exit('published: %s' % difference)
     if not brief:
         print('%-17s %9s %9s %10s %5s %8s %6s   %s' % (
             'gas', 'published', 'ours', 'difference', 'whole', 'spread', 'rounds', 'systems'))

@@ -33,6 +33,7 @@ WRONG = (
     ('an exponent', 'methane 1e2\n', "line 1: '1e2' is not an amount"),
     ('a point and no decimals', 'methane 97.\n', "line 1: '97.' is not an amount"),
     ('no whole', 'methane .5\n', "line 1: '.5' is not an amount"),
+    ('digits of another script', 'methane \u0669\n', "line 1: '\u0669' is not an amount"),
     ('five decimals', 'methane 97.07971\n', "line 1: '97.07971' has more than four decimals"),
     ('too large', 'methane 429496.7296\n', "line 1: '429496.7296' does not fit the sheet's four bytes"),
     ('twice', 'methane 97\n\nmethane 1\n', 'line 3: methane is listed twice'),
