@@ -255,6 +255,57 @@ def sheet_cases(cases, exact, kind, sheet):
         cases.rate('found, put back as a sheet', ref.layout(analysis, result.split), back)
 
 
+# ------------------------------------------------------------ cases that chance seldom finds
+
+def half_gas(draw):
+    """The inert mixture's n1 falls on a half: T is an odd number of 128ths of T and carbon dioxide."""
+    while True:
+        a = list(gases.even_gas(draw))
+        a[6] = a[7] = a[8] = a[10] = 0
+        unit = draw.between(6641, 7812)
+        a[11] = unit * draw.pick((1, 3, 5, 7, 9, 11, 13))
+        a[1] = 128 * unit - sum(a[2:6]) - a[11]
+        a[12] = draw.between(999900, 1000100) - sum(a[:12])
+        if min(a) >= 0 and not ref.check(a):
+            total = sum(ref.tenths(a))
+            quotient, rest = divmod(2 * ref.PARTS * total, total + 10 * a[11])
+            if rest == 0 and quotient % 2 == 1:
+                return tuple(a)
+
+
+def fitness_tie_gas(draw):
+    """Systems 2 and 4 equally fit: 100 times butane is 48 times methane."""
+    while True:
+        a = list(gases.rich_gas(draw))
+        a[1] = 0
+        near = 100 * ref.tenths(a)[3] // 480
+        for methane in range(near - 30, near + 31):
+            a[1] = methane
+            a[12] = 0
+            a[12] = max(draw.between(999900, 1000100) - sum(a), 0)
+            if not ref.check(a):
+                amounts = ref.simplify(a)
+                if 100 * amounts[3] == 48 * amounts[0]:
+                    return tuple(a)
+
+
+def long_sheet(draw):
+    """A count above 11 with as many records, codes rising as long as they can."""
+    count = draw.pick((12, 12, 13, 14, 50, 51, 100, 255))
+    listed = [(min(i + 1, 255), draw.below(U32)) for i in range(count)]
+    return gases.sheet_of(listed, gases.random_records(draw) if draw.one_in(2) else None)
+
+
+def seldom_cases(cases, exact, seed):
+    draw = gases.Draw(seed + 3)
+    for _ in range(20):
+        sheet_cases(cases, exact, 'inert at a half', ref.layout(half_gas(draw), None))
+    for _ in range(5):
+        sheet_cases(cases, exact, 'fitness tie', ref.layout(fitness_tie_gas(draw), None))
+    for _ in range(20):
+        sheet_cases(cases, exact, 'count above 11', long_sheet(draw))
+
+
 def at_no_code(draw, analysis):
     a = list(analysis)
     a[draw.pick((0, 9, 13))] = draw.pick((1, 100, U32 - 1))
@@ -343,6 +394,7 @@ def part(job):
     tally, exact, cases = {}, Exact(seed), Cases()
     try:
         limit_cases(cases)
+        seldom_cases(cases, exact, seed)
         call_cases(cases, seed, sheets)
         for kind, sheet in itertools.islice(gases.sheets(seed, SEARCH_ONE_IN), sheets):
             sheet_cases(cases, exact, kind, sheet)
