@@ -343,16 +343,32 @@ def call_cases(cases, seed, sheets):
         cases.controller(draw.below(1200000000), draw.below(500001))
 
 
-def limit_cases(cases):
-    """Spreads at the limit and one unit on either side."""
-    with open(os.path.join(HERE, 'data', 'spread-limit.txt')) as lines:
-        for line in lines:
-            if not line.startswith('#'):
-                sheet = bytes.fromhex(line.split()[0])
-                got, result = read(sheet)
-                if ref.display(result).strip() != line.split(' ', 1)[1].strip():
-                    raise Difference('spread-limit.txt says otherwise: ' + line)
-                cases.rate('spread at the limit', sheet, result)
+def data_lines(name):
+    with open(os.path.join(HERE, 'data', name)) as lines:
+        return [line.strip() for line in lines if not line.startswith('#')]
+
+
+def known(cases, exact, kind, sheet, shown):
+    """A sheet whose display line is kept beside it."""
+    result = read(bytes.fromhex(sheet))[1]
+    if ref.display(result).strip() != shown:
+        raise Difference('the reference no longer prints %s for %s' % (shown, sheet))
+    sheet_cases(cases, exact, kind, bytes.fromhex(sheet))
+    return result
+
+
+def kept_cases(cases, exact):
+    """The sheets kept in tests/data: spreads at the limit and one unit on either side, and searches that end at the
+    limit, that need stride 1 or more than 4000 rounds, or where a move would empty a system."""
+    for line in data_lines('spread-limit.txt'):
+        known(cases, exact, 'spread at the limit', *line.split(' ', 1))
+    for line in data_lines('search-limit.txt'):
+        what, sheet, shown = line.split(' ', 2)
+        result = known(cases, exact, 'kept: ' + what, sheet, shown)
+        analysis = ref.read(bytes.fromhex(sheet))[0]
+        near = 4000 if isinstance(result, ref.Refusal) else result.rounds
+        for allowance in (max(near, 1) - 1, near, near + 1, 4000, 4001, 5000, U32 - 1):
+            cases.search('kept: ' + what, analysis, allowance, search(analysis, allowance))
 
 
 # ------------------------------------------------------------ the driver
@@ -390,10 +406,11 @@ def compare(driver, cases, tally):
 
 def part(job):
     """One part: (difference or None, tally, exact ratings compared, farthest)."""
-    driver, seed, sheets = job
+    driver, seed, sheets, first = job
     tally, exact, cases = {}, Exact(seed), Cases()
     try:
-        limit_cases(cases)
+        if first:
+            kept_cases(cases, exact)
         seldom_cases(cases, exact, seed)
         call_cases(cases, seed, sheets)
         for kind, sheet in itertools.islice(gases.sheets(seed, SEARCH_ONE_IN), sheets):
@@ -419,7 +436,8 @@ def main():
     parser.add_argument('--jobs', type=int, default=os.cpu_count() or 1)
     options = parser.parse_args()
     sheets, seed = options.long or (DEFAULT_SHEETS, DEFAULT_SEED)
-    jobs = [(options.driver, seed * 100000 + i, min(PART, sheets - i * PART)) for i in range(-(-sheets // PART))]
+    jobs = [(options.driver, seed * 100000 + i, min(PART, sheets - i * PART), i == 0)
+            for i in range(-(-sheets // PART))]
     begin, tally, compared, farthest = time.time(), {}, 0, 0
     with multiprocessing.Pool(options.jobs) as pool:
         for difference, counts, exact, far in pool.imap(part, jobs):
