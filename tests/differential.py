@@ -27,7 +27,7 @@ import saugrinte as ref  # noqa: E402
 
 DEFAULT_SHEETS, DEFAULT_SEED = 100000, 1
 PART = 5000                 # sheets of one part: a seed and a run of the driver of its own
-SEARCH_ONE_IN = 24          # good sheets that ask for a search
+SEARCH_ONE_IN = 32          # good sheets that ask for a search
 EXACT = 150                 # ratings of proposed splits compared with the exact fraction, in a part
 SECONDS = 600               # the longest that the driver may take for a part
 DISTANCE = 40               # units; every rating is nearer than this to the exact one
@@ -315,7 +315,7 @@ def at_no_code(draw, analysis):
 def call_cases(cases, seed, sheets):
     """The single calls; so many for so many sheets."""
     draw = gases.Draw(seed + 1)
-    for analysis, allowance in itertools.islice(gases.search_cases(seed), sheets // 100):
+    for analysis, allowance in itertools.islice(gases.search_cases(seed), sheets // 200):
         if draw.one_in(32):
             analysis = at_no_code(draw, analysis)
         cases.search('search', analysis, allowance, search(analysis, allowance))
