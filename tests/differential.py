@@ -6,9 +6,9 @@
   ... --brief                                           the last line only
   ... --jobs N                                          processes at once; as many as processors if not said
 
-Seeded and repeatable, whatever the number of processes. Every answer and every buffer byte is compared, guards around the buffers included; a found
-split is put back as a proposed one; the distance of ratings from the exact fraction stays below 40 units.
-Ends with 1 at the first difference and prints that case.
+Seeded and repeatable, whatever the number of processes. Every answer and every buffer byte is compared, guards around
+the buffers included; a found split is put back as a proposed one; the distance of ratings from the exact fraction
+stays below 40 units. Ends with 1 at the first difference and prints that case.
 """
 import argparse
 import itertools

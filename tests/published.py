@@ -121,8 +121,8 @@ def main():
         print('%-17s %9s %9s %10s %5s %8s %6s   %s' % (
             'gas', 'published', 'ours', 'difference', 'whole', 'spread', 'rounds', 'systems'))
         print('\n'.join(table))
-    print('published: %d gases and %d fixed figures, %d calls, driver and reference alike; at most %.2f from a published number'
-          % (len(table), count, sum(tally.values()) + count, largest))
+    print('published: %d gases and %d fixed figures, %d calls, driver and reference alike; at most %.2f from a '
+          'published number' % (len(table), count, sum(tally.values()) + count, largest))
 
 
 if __name__ == '__main__':

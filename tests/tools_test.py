@@ -19,6 +19,8 @@ FOUND = ref.search(TABLE_A1).split
 NAMES = {1: 'methane', 2: 'ethane', 3: 'propane', 14: 'butane'}
 SPLIT = ''.join('split %d %s %d.%04d\n' % (s, NAMES[c], a // 10000, a % 10000) for s, c, a in FOUND)
 EXAMPLE = os.path.join(ROOT, 'examples', 'table-a1.txt')
+with open(EXAMPLE, encoding='utf-8') as example:
+    LINES = example.read()
 
 # (what it is, text, status, a part of the message)
 WRONG = (
@@ -42,15 +44,17 @@ WRONG = (
     ('a short split line', 'split 4 methane\n', 'line 1: a split line is: split SYSTEM COMPONENT AMOUNT'),
     ('a system in words', 'split four methane 1\n', "line 1: 'four' is not a system's number"),
     ('a system above a byte', 'split 256 methane 1\n', "line 1: '256' is not a system's number"),
-    ('a component that splits have not', 'split 4 n-butane 1\n', "line 1: 'n-butane' is none of methane, ethane, propane, butane"),
+    ('a component that splits have not', 'split 4 n-butane 1\n',
+     "line 1: 'n-butane' is none of methane, ethane, propane, butane"),
     ('a split amount', 'split 4 methane x\n', "line 1: 'x' is not an amount"),
 )
 
 RIGHT = (
-    ('the gas of 001 Table A.1', open(EXAMPLE, encoding='utf-8').read(), ref.layout(TABLE_A1, None)),
-    ('with its found split', open(EXAMPLE, encoding='utf-8').read() + SPLIT, ref.layout(TABLE_A1, FOUND)),
-    ('lines in another order', '\n'.join(reversed(open(EXAMPLE, encoding='utf-8').read().split('\n'))), ref.layout(TABLE_A1, None)),
-    ('comments and blank lines', '# gas\n\n  methane 40 # percent\n\tethane\t0.01\n', bytes.fromhex('020100061a80020000006400')),
+    ('the gas of 001 Table A.1', LINES, ref.layout(TABLE_A1, None)),
+    ('with its found split', LINES + SPLIT, ref.layout(TABLE_A1, FOUND)),
+    ('lines in another order', '\n'.join(reversed(LINES.split('\n'))), ref.layout(TABLE_A1, None)),
+    ('comments and blank lines', '# gas\n\n  methane 40 # percent\n\tethane\t0.01\n',
+     bytes.fromhex('020100061a80020000006400')),
     ('no line at all', '', bytes(2)),
     ('the largest amount', 'methane 429496.7295\n', bytes.fromhex('0101ffffffff00')),
     ('an amount of 0', 'nitrogen 0\n', bytes.fromhex('010c0000000000')),
@@ -71,6 +75,10 @@ def expect(what, good, shown):
         print('tools: %s: %s' % (what, shown))
 
 
+def turned_away(status, out, said):
+    return status == 1 and out == b'' and said.startswith('sheet: ') and 'Traceback' not in said
+
+
 def main():
     for what, text, sheet in RIGHT:
         got = run(text)
@@ -83,13 +91,11 @@ def main():
                (status, out, said))
     with tempfile.TemporaryDirectory() as place:
         status, out, said = run('', os.path.join(place, 'none'))
-        expect('a file that is not there', status == 1 and out == b'' and said.startswith('sheet: ') and 'Traceback' not in said,
-               (status, out, said))
+        expect('a file that is not there', turned_away(status, out, said), (status, out, said))
         with open(os.path.join(place, 'bytes'), 'wb') as f:
             f.write(b'methane 97\xff\n')
         status, out, said = run('', f.name)
-        expect('bytes that are no text', status == 1 and out == b'' and said.startswith('sheet: ') and 'Traceback' not in said,
-               (status, out, said))
+        expect('bytes that are no text', turned_away(status, out, said), (status, out, said))
     status, out, said = run('', 'a', 'b')
     expect('two files', status == 1 and out == b'' and 'python3 tools/sheet.py' in said, (status, out, said))
     if failures:

@@ -1,5 +1,5 @@
-/* The same rules in plain C, written from the paper and not from the library: what the tests compare with while
-   they are tested themselves, and the yardstick of the benchmark. Compiled with gcc -O3. */
+/* The same rules in plain C, written from the paper and not from the library, behind the same header. The benchmark
+   compares the library's time with it, and the tests can be tried on it. Compiled with gcc -O3. */
 #include <string.h>
 
 #include "saugrinte.h"
