@@ -1,0 +1,32 @@
+-- `controller::record` meets its contract. Assumes nothing.
+use borrow.Author.Needs.{needs}
+use mathlib.Core.Path.{ap, _∙_}
+use mir.Syntax.{w64}
+use mir.ValLaws.{toZ-ofZ}
+use Rattle.controller.specs.Record.{methaneNumber, recordOf}
+use Rattle.controller.proofs.record.Statement.{statement}
+use Rattle.controller.proofs.record.Tie as tie
+use Rattle.controller.proofs.record.Reads as reads
+use Rattle.controller.proofs.record.Lts as lts
+use Rattle.controller.proofs.signed.Reads as signed-reads
+use Rattle.controller.proofs.unsigned.Reads as unsigned-reads
+
+-- src/lib.rt:20:17
+signed-requires : tie.Need-signed-requires
+signed-requires c κs = search needs
+
+-- src/lib.rt:21:17
+unsigned-requires : tie.Need-unsigned-requires
+unsigned-requires c κs = search needs
+
+-- src/lib.rt:16:1
+returns : tie.Need-returns
+unfolding recordOf
+returns c =
+    let s = c .before .before in
+    let x = c .before .signed .ensures ∙ ap methaneNumber (toZ-ofZ w64 (s .args .rating) (s .fits .rating)) in
+    let y = c .unsigned .ensures in
+    λ i. record { rating = x i; spread = y i }
+
+pub record-spec : {M : Type 1} → statement M
+record-spec = tie.close (tie.spec signed-requires unsigned-requires returns)

@@ -1,0 +1,26 @@
+-- `controller::signed` meets its contract. Assumes nothing.
+use borrow.Author.Needs.{needs}
+use mathlib.Core.Path.{ap, _∙_}
+use lib.Ieee.{Float, binary64, div, ofInt, ofBits}
+use mir.Syntax.{w64}
+use mir.ValLaws.{toZ-ofZ}
+use Rattle.controller.specs.Record.{methaneNumber}
+use Rattle.controller.proofs.signed.Statement.{statement}
+use Rattle.controller.proofs.signed.Tie as tie
+use Rattle.controller.proofs.signed.Reads as reads
+use Rattle.controller.proofs.signed.Lts as lts
+use Rattle.std.proofs.num.nearest_i64_to_f64.Reads as nearest-i64-to-f64-reads
+
+-- src/lib.rt:28:5
+nearest-i64-to-f64-requires : tie.Need-nearest-i64-to-f64-requires
+nearest-i64-to-f64-requires c κs = search needs
+
+-- src/lib.rt:25:1
+returns : tie.Need-returns
+unfolding methaneNumber
+returns c =
+    ap (λ (x : Float). div binary64 x (ofBits binary64 0x4163_12d0_0000_0000))
+    (c .nearest-i64-to-f64 .ensures ∙ ap (ofInt binary64) (toZ-ofZ w64 (c .before .args .units) (c .before .fits .units)))
+
+pub signed-spec : {M : Type 1} → statement M
+signed-spec = tie.close (tie.spec nearest-i64-to-f64-requires returns)

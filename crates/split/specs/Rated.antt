@@ -1,0 +1,79 @@
+-- A proposed split is rated exactly when it re-sums, no chosen system is empty and every two partial numbers lie at most
+-- the limit apart, and then with its rating and its spread (document 01, "The split and the rating"). Assumes nothing.
+use mathlib.Core.Path.{_≡_, refl, sym, ap, ap₂, _∙_, subst}
+use mathlib.Core.Bool.{Bool, true, false}
+use mathlib.Core.Logic.{_↔_}
+use mathlib.Core.List.{List}
+use Prim.Native.Nat.{ℕ}
+use lib.Dec.{ltb}
+use lib.IntN.{ℤ}
+use borrow.Author.Tests.{ltb-false, le-ltb}
+use Rattle.split.specs.Split.{numberAt}
+use Rattle.split.specs.Rating.{spreadOf, ratingOf, resums, someEmpty, verdict, proposedOf}
+use Rattle.split.specs.Spread.{spread-near, near-spread}
+use Rattle.split.specs.Fits.{Fit, resums-yes, yes-resums, empty-no, no-empty}
+use Rattle.split.specs.declared.Answer.{Answer}
+use Rattle.split.specs.declared.Answer.the-variants.{Rated, Refused}
+
+-- the answer is a rating, and no refusal
+abbrev pub IsRated : Answer → Type 0
+IsRated (Rated w s n) = Unit {0}
+IsRated (Refused n p) = ⊥
+
+-- the number of a refusal; 0 of a rating
+abbrev pub refusalOf : Answer → ℕ
+refusalOf (Rated w s n) = 0
+refusalOf (Refused n p) = n
+
+-- ---- the answer by cases
+
+module _ (limit : ℕ) (ch : List ℕ) (k : ℕ) (mix a : List ℕ) (n1 : ℕ) where
+  abbrev spread : ℕ
+  spread = spreadOf (numberAt ch a) k
+
+  abbrev rated : Answer
+  rated = Rated (ratingOf ch k a n1) spread 0
+
+  pub proposed-unsummed : resums mix k a ≡ false → proposedOf limit ch k mix a n1 ≡ Refused 8 0
+  unfolding proposedOf
+  proposed-unsummed h = ap (λ (b : Bool). verdict b (someEmpty ch k a) (ltb limit spread) rated) h
+
+  pub proposed-empty : resums mix k a ≡ true → someEmpty ch k a ≡ true → proposedOf limit ch k mix a n1 ≡ Refused 9 0
+  unfolding proposedOf
+  proposed-empty h e = ap₂ (λ (b c : Bool). verdict b c (ltb limit spread) rated) h e
+
+  pub proposed-wide : resums mix k a ≡ true → someEmpty ch k a ≡ false → ltb limit spread ≡ true → proposedOf limit ch k mix a n1 ≡ Refused 10 0
+  unfolding proposedOf
+  proposed-wide h e w = ap₂ (λ (b c : Bool). verdict b c (ltb limit spread) rated) h e ∙ ap (λ (b : Bool). verdict true false b rated) w
+
+  pub proposed-rated : resums mix k a ≡ true → someEmpty ch k a ≡ false → ltb limit spread ≡ false → proposedOf limit ch k mix a n1 ≡ Rated (ratingOf ch k a n1) (spreadOf (numberAt ch a) k) 0
+  unfolding proposedOf
+  proposed-rated h e w = ap₂ (λ (b c : Bool). verdict b c (ltb limit spread) rated) h e ∙ ap (λ (b : Bool). verdict true false b rated) w
+
+  -- ---- rated exactly when
+
+  -- rated, with the rating and the spread, when the split is fit
+  pub fit-rated : Fit limit ch k mix a → proposedOf limit ch k mix a n1 ≡ Rated (ratingOf ch k a n1) (spreadOf (numberAt ch a) k) 0
+  fit-rated f = proposed-rated (yes-resums mix k a (f .sums)) (no-empty ch k a (f .some)) (le-ltb limit spread (near-spread limit (numberAt ch a) k (f .near)))
+
+  passed : (b e w : Bool) (r : Answer) → IsRated (verdict b e w r) → (b ≡ true) × (e ≡ false) × (w ≡ false)
+  passed false e w r t = absurd t
+  passed true true w r t = absurd t
+  passed true false true r t = absurd t
+  passed true false false r t = (refl, refl, refl)
+
+  -- and only then
+  pub rated-fit : IsRated (proposedOf limit ch k mix a n1) → Fit limit ch k mix a
+  unfolding proposedOf
+  rated-fit t =
+      let (b, e, w) = passed (resums mix k a) (someEmpty ch k a) (ltb limit spread) rated t in
+      record { sums = resums-yes mix k a b; some = empty-no ch k a e; near = spread-near limit (numberAt ch a) k (ltb-false limit spread w) }
+
+  pub rated-exactly-when : IsRated (proposedOf limit ch k mix a n1) ↔ Fit limit ch k mix a
+  rated-exactly-when = (rated-fit, λ f. subst IsRated (sym (fit-rated f)) tt)
+
+  -- and then with this rating and this spread
+  pub rated-is : (w : ℤ) (s n : ℕ) → proposedOf limit ch k mix a n1 ≡ Rated w s n → (w ≡ ratingOf ch k a n1) × (s ≡ spreadOf (numberAt ch a) k) × (n ≡ 0)
+  rated-is w s n is =
+      let same : Rated w s n ≡ Rated (ratingOf ch k a n1) spread 0 = sym is ∙ fit-rated (rated-fit (subst IsRated (sym is) tt)) in
+      (cc, cc, cc)

@@ -1,0 +1,54 @@
+-- Spread, mean and rating of a split, and the answer to a proposed one (document 01, "The split and the rating"). Assumes nothing.
+use Prim.Native.Nat.{ℕ, _+_, _*_, _-_}
+use mathlib.Core.List.{List}
+use mathlib.Core.Bool.{Bool, true, false}
+use lib.Dec.{ltb, eqb}
+use lib.ListN.{getD}
+use lib.IntN.{ℤ, pos, negsuc, natAbs, _+ℤ_, _-ℤ_, _*ℤ_}
+use lib.Signed.{quotZ}
+use Rattle.ternary.specs.Partial.{partialNumber}
+use Rattle.systems.specs.Systems.{COMPONENTS}
+use Rattle.split.specs.Fold.{sumTo, sumToZ, greatestTo, leastTo, allTo, someTo}
+use Rattle.split.specs.Split.{partsOf, columnOf, numberAt}
+use Rattle.split.specs.declared.Answer.{Answer}
+use Rattle.split.specs.declared.Answer.the-variants.{Rated, Refused}
+
+-- the spread of k numbers: the greatest less the smallest
+unfoldable pub spreadOf : (ℕ → ℤ) → ℕ → ℕ
+spreadOf v k = natAbs (greatestTo v k -ℤ leastTo v k)
+
+-- each partial number times its system's parts, added; the mean is that divided once
+unfoldable pub weightedOf : List ℕ → ℕ → List ℕ → ℤ
+weightedOf ch k a = sumToZ (λ s. numberAt ch a s *ℤ pos (partsOf ch a s)) k
+
+unfoldable pub meanOf : List ℕ → ℕ → List ℕ → ℤ
+meanOf ch k a = quotZ (weightedOf ch k a) (pos 1000000)
+
+-- the inert number: system 20 at n1 and the rest
+unfoldable pub inertNumber : ℕ → ℤ
+inertNumber n1 = partialNumber 20 n1 (1000000 - n1) 0
+
+-- the mean and the inert number less 100.0003
+unfoldable pub ratingOf : List ℕ → ℕ → List ℕ → ℕ → ℤ
+ratingOf ch k a n1 = meanOf ch k a +ℤ inertNumber n1 +ℤ negsuc 1000002999
+
+-- each component's amounts add up to the mixture's
+unfoldable pub resums : List ℕ → ℕ → List ℕ → Bool
+resums mix k a = allTo (λ c. eqb (columnOf k a c) (getD mix c 0)) COMPONENTS
+
+-- a chosen system has no parts
+unfoldable pub someEmpty : List ℕ → ℕ → List ℕ → Bool
+someEmpty ch k a = someTo (λ s. eqb (partsOf ch a s) 0) k
+
+-- whether it re-sums, whether a system is empty, whether the spread is above the limit: refusals 8, 9, 10 in their order
+abbrev pub verdict : Bool → Bool → Bool → Answer → Answer
+verdict false empty wide rated = Refused 8 0
+verdict true true wide rated = Refused 9 0
+verdict true false true rated = Refused 10 0
+verdict true false false rated = rated
+
+-- the answer to the cells a, proposed as a split of the mixture, under a spread limit
+unfoldable pub proposedOf : ℕ → List ℕ → ℕ → List ℕ → List ℕ → ℕ → Answer
+proposedOf limit ch k mix a n1 =
+    verdict (resums mix k a) (someEmpty ch k a) (ltb limit (spreadOf (numberAt ch a) k))
+    (Rated (ratingOf ch k a n1) (spreadOf (numberAt ch a) k) 0)

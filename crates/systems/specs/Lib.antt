@@ -1,0 +1,3 @@
+pub mod Systems
+pub mod Table
+pub mod Members

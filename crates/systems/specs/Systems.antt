@@ -1,0 +1,36 @@
+-- The candidate systems and their components (document 01, "Choice of systems"; 000 A.3.2). Assumes nothing.
+use Prim.Native.Nat.{ℕ, zero, suc}
+use mathlib.Core.List.{List, [], _∷_}
+use mathlib.Core.Bool.{Bool, true, false}
+use mathlib.Core.Path.{_≡_}
+use lib.Dec.{eqb}
+use lib.ListN.{getD}
+
+-- components are positions: methane 0, ethane 1, propane 2, butane 3
+abbrev pub COMPONENTS : ℕ
+COMPONENTS = 4
+
+-- the systems that can be chosen, by number
+abbrev pub candidates : List ℕ
+candidates = 2 ∷ 4 ∷ 7 ∷ 8 ∷ []
+
+-- each system's three components, by its number, the formula's two variables first; a number that is no candidate has none
+abbrev pub members : List (List ℕ)
+members = [] ∷ [] ∷ (2 ∷ 1 ∷ 3 ∷ []) ∷ [] ∷ (0 ∷ 1 ∷ 2 ∷ []) ∷ [] ∷ [] ∷ (0 ∷ 2 ∷ 3 ∷ []) ∷ (0 ∷ 1 ∷ 3 ∷ []) ∷ []
+
+unfoldable pub memberOf : ℕ → ℕ → ℕ
+memberOf system j = getD (getD members system []) j COMPONENTS
+
+-- whether the system contains component c
+unfoldable pub hasOf : ℕ → ℕ → Bool
+hasOf system c =
+    elim (eqb c (memberOf system 0)) [ true ↦ true | false ↦ elim (eqb c (memberOf system 1)) [ true ↦ true | false ↦ eqb c (memberOf system 2) ] ]
+
+-- whether a number is in a list
+unfoldable pub elem : ℕ → List ℕ → Bool
+elem n [] = false
+elem n (m ∷ ms) = elim (eqb n m) [ true ↦ true | false ↦ elem n ms ]
+
+-- the system is a candidate
+pub record Candidate (system : ℕ) : Type 0 where
+  pub listed : elem system candidates ≡ true

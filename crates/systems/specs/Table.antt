@@ -1,0 +1,60 @@
+-- A rule of every number of a list, or of every number below a bound, proved by one test that antt computes. Assumes nothing.
+use Prim.Native.Nat.{ℕ, zero, suc, _<_}
+use mathlib.Core.Path.{_≡_, refl, ap}
+use mathlib.Core.Bool.{Bool, true, false, _&&_}
+use mathlib.Core.List.{List, [], _∷_}
+use native.Mathlib.Omega.{arith}
+use lib.Dec.{T, eqb}
+use borrow.Author.Tests.{eqb-true, eqb-false}
+use Rattle.systems.specs.Systems.{elem, candidates, Candidate}
+
+pub of-true : (b : Bool) → b ≡ true → T b
+of-true true e = tt
+of-true false e = absurd (let z : _≡_ {A = ℕ} 0 1 = cc in omega arith)
+
+pub to-true : (b : Bool) → T b → b ≡ true
+to-true true t = refl
+to-true false t = absurd t
+
+pub and-left : (a b : Bool) → T (a && b) → T a
+and-left true b t = tt
+and-left false b t = t
+
+pub and-right : (a b : Bool) → T (a && b) → T b
+and-right true b t = t
+and-right false b t = absurd t
+
+-- the test passes at each number of the list
+abbrev pub every : (ℕ → Bool) → List ℕ → Bool
+every f [] = true
+every f (x ∷ xs) = f x && every f xs
+
+pub each : (f : ℕ → Bool) (xs : List ℕ) → T (every f xs) → (n : ℕ) → elem n xs ≡ true → T (f n)
+unfolding elem
+each f [] t n h = absurd (of-true false h)
+each f (x ∷ xs) t n h =
+    go (eqb n x) refl (λ e. rw (eqb-true n x e) (and-left (f x) (every f xs) t))
+    (λ e. each f xs (and-right (f x) (every f xs) t) n (rw (e, elem) at h))
+  where
+    go : (b : Bool) → eqb n x ≡ b → (eqb n x ≡ true → T (f n)) → (eqb n x ≡ false → T (f n)) → T (f n)
+    go true e p q = p e
+    go false e p q = q e
+
+-- a test that passes at each candidate
+pub each-candidate : (f : ℕ → Bool) → T (every f candidates) → (system : ℕ) → Candidate system → T (f system)
+each-candidate f t system k = each f candidates t system (k .listed)
+
+-- the test passes at each number below n
+abbrev pub everyTo : (ℕ → Bool) → ℕ → Bool
+everyTo f zero = true
+everyTo f (suc n) = f n && everyTo f n
+
+pub eachTo : (f : ℕ → Bool) (n : ℕ) → T (everyTo f n) → (i : ℕ) → i < n → T (f i)
+eachTo f zero t i h = absurd (omega arith)
+eachTo f (suc n) t i h =
+    go (eqb i n) refl (λ e. rw (eqb-true i n e) (and-left (f n) (everyTo f n) t))
+    (λ e. let d : i ≡ n → ⊥ = eqb-false i n e in eachTo f n (and-right (f n) (everyTo f n) t) i (omega arith))
+  where
+    go : (b : Bool) → eqb i n ≡ b → (eqb i n ≡ true → T (f i)) → (eqb i n ≡ false → T (f i)) → T (f i)
+    go true e p q = p e
+    go false e p q = q e

@@ -1,0 +1,631 @@
+"""Seeded, repeatable sheets for comparing a program with the reference.
+
+sheets(seed)        yields (kind, bytes) without end
+answer(sheet)       the reference's answer to one sheet
+search_cases(seed)  yields (analysis, allowance); answers by saugrinte.search
+split_cases(seed)   yields (kind, analysis, records); by saugrinte.rate_split
+partial_cases(seed) yields (system, n1, n2, n3); by saugrinte.partial_number
+writer_cases(seed)  yields (analysis, split or None, buffer size)
+
+Command line:
+  gases.py SEED COUNT           one line a sheet: kind, bytes in base sixteen,
+                                display line
+  gases.py --time SEED COUNT    seconds and answers by kind
+  gases.py --rounds SEED COUNT  rounds, refusal 11 and seconds of searches
+"""
+
+import sys
+import time
+from functools import lru_cache
+from typing import NamedTuple
+
+import saugrinte as ref
+
+U32 = 1 << 32
+CODES = sorted(ref.RANGE)
+OPTIONAL = [c for c in CODES if c not in ref.REQUIRED]
+
+
+class Draw:
+    """xorshift, 64 bits: left 13, right 7, left 17."""
+
+    def __init__(self, seed):
+        self.x = (seed * 0x9E3779B97F4A7C15 + 0x1234567) % (1 << 64) or 1
+        for _ in range(8):
+            self.step()
+
+    def step(self):
+        x = self.x
+        x ^= x << 13 & 0xFFFFFFFFFFFFFFFF
+        x ^= x >> 7
+        x ^= x << 17 & 0xFFFFFFFFFFFFFFFF
+        self.x = x
+        return x
+
+    def below(self, n):
+        return (self.step() >> 16) % n
+
+    def between(self, least, greatest):
+        return least + self.below(greatest - least + 1)
+
+    def one_in(self, n):
+        return self.below(n) == 0
+
+    def pick(self, items):
+        return items[self.below(len(items))]
+
+
+# ----------------------------------------------------------- analyses
+
+def amount_even(draw, code):
+    return draw.between(*ref.RANGE[code])
+
+
+def amount_small(draw, code):
+    """Even over the number of binary digits, so that traces are common."""
+    least, greatest = ref.RANGE[code]
+    room = greatest - least
+    top = 1 << draw.below(room.bit_length() + 1)
+    return least + draw.below(min(top, room + 1))
+
+
+def amount_limit(draw, code):
+    least, greatest = ref.RANGE[code]
+    return draw.pick((least, least + 1, greatest - 1, greatest))
+
+
+def amount_rich(draw, code):
+    """Much butane and inert gas, so that system 2 can be chosen."""
+    least, greatest = ref.RANGE[code]
+    if code in (2, 3):
+        return draw.between(least, greatest)
+    return draw.between(greatest - greatest // 8, greatest)
+
+
+def gas(draw, amount, absent_one_in=4):
+    """An analysis in range; methane takes the rest of the total."""
+    while True:
+        a = [0] * 14
+        for code in CODES[1:]:
+            if code in OPTIONAL and draw.one_in(absent_one_in):
+                continue
+            a[code] = amount(draw, code)
+        total = draw.pick((1000000, 999900, 1000100,
+                           draw.between(999900, 1000100)))
+        a[1] = total - sum(a)
+        if not ref.check(a):
+            return tuple(a)
+
+
+def even_gas(draw):
+    return gas(draw, amount_even)
+
+
+def small_gas(draw):
+    return gas(draw, amount_small)
+
+
+def limit_gas(draw):
+    return gas(draw, lambda d, c: d.pick(
+        (amount_limit, amount_limit, amount_even))(d, c))
+
+
+def rich_gas(draw):
+    return gas(draw, amount_rich, 64)
+
+
+def tie_gas(draw):
+    """Ethane equal to propane, or to butane, or all three: equal remainders."""
+    while True:
+        a = list(small_gas(draw))
+        for code in (6, 7, 8, 10):
+            a[code] = 0
+        x = draw.between(100, 60000)
+        first = draw.between(10, x - 10)
+        which = draw.below(4)
+        if which != 0:
+            a[2] = x
+        if which != 1:
+            a[3] = x
+        if which != 2:
+            a[4], a[5] = first, x - first
+        a[1] = 0
+        a[1] = draw.between(999900, 1000100) - sum(a)
+        if not ref.check(a):
+            return tuple(a)
+
+
+GASES = (even_gas, even_gas, small_gas, small_gas, small_gas, limit_gas,
+         rich_gas, tie_gas)
+
+
+def any_gas(draw):
+    return draw.pick(GASES)(draw)
+
+
+# -------------------------------------------------------------- splits
+
+def held_of(records):
+    held = {}
+    for s, code, amount in records:
+        held.setdefault(s, {})[ref.SPLIT_CODE.index(code)] = amount
+    return held
+
+
+def records_of(held):
+    systems = sorted(held)
+    return tuple((s, ref.SPLIT_CODE[c], held[s][c])
+                 for s, c in ref.expected(systems))
+
+
+def start_split(analysis):
+    amounts = ref.simplify(analysis)
+    return records_of(ref.start(amounts, ref.choose(amounts)))
+
+
+def random_split(draw, analysis):
+    """Re-sums; most are wide."""
+    amounts = ref.simplify(analysis)
+    systems = ref.choose(amounts)
+    held = {s: {} for s in systems}
+    for c in range(4):
+        sharing = [s for s in systems if c in ref.FORMULA_ORDER[s]]
+        rest = amounts[c]
+        for s in sharing[:-1]:
+            held[s][c] = draw.between(0, rest)
+            rest -= held[s][c]
+        held[sharing[-1]][c] = rest
+    return records_of(held)
+
+
+def moved(draw, records, most):
+    """A few parts carried between systems; still re-sums."""
+    held = held_of(records)
+    for _ in range(draw.between(1, 4)):
+        c, giver, taker = draw.pick(ref.moves(sorted(held)))
+        parts = min(held[giver][c], draw.between(0, most))
+        held[giver][c] -= parts
+        held[taker][c] += parts
+    return records_of(held)
+
+
+def emptied(draw, records):
+    """All of one system carried to the others; re-sums."""
+    held = held_of(records)
+    victim = draw.pick(sorted(held))
+    for c in list(held[victim]):
+        taker = draw.pick([s for s in sorted(held)
+                           if s != victim and c in held[s]])
+        held[taker][c] += held[victim][c]
+        held[victim][c] = 0
+    if draw.one_in(4):      # one part left: no longer empty
+        for c in held[victim]:
+            giver = next((s for s in sorted(held) if s != victim
+                          and held[s].get(c, 0) > 0), None)
+            if giver is not None:
+                held[giver][c] -= 1
+                held[victim][c] += 1
+                break
+    return records_of(held)
+
+
+def off_by(draw, records, step):
+    """One record changed by `step` parts, modulo 2^32."""
+    out = [list(r) for r in records]
+    out[draw.below(9)][2] += step
+    return tuple((s, c, a % U32) for s, c, a in out)
+
+
+def wrapped(draw, records):
+    """Adds up modulo 2^32 only."""
+    out = [list(r) for r in records]
+    code = draw.pick(ref.SPLIT_CODE)
+    same = [i for i in range(9) if out[i][1] == code]
+    i = draw.pick(same)
+    j = draw.pick([x for x in same if x != i])
+    carried = draw.pick((out[i][2] + 1, draw.below(U32),
+                         U32 // 2, U32 - 1 - out[j][2]))
+    out[i][2] = (out[i][2] - carried) % U32
+    out[j][2] = (out[j][2] + carried) % U32
+    return tuple(map(tuple, out))
+
+
+def misfit(draw, records):
+    """A wrong system, a wrong code, or records in another order."""
+    out = [list(r) for r in records]
+    which = draw.below(4)
+    i = draw.below(9)
+    if which == 0:
+        out[i][0] = draw.pick((0, 1, 2, 4, 5, 7, 8, 20, 255))
+    elif which == 1:
+        out[i][1] = draw.pick((0, 1, 2, 3, 4, 5, 9, 13, 14, 15, 255))
+    elif which == 2:
+        j = draw.below(9)
+        out[i], out[j] = out[j], out[i]
+    else:                   # all records of another choice
+        systems = draw.pick(((2, 4, 7), (2, 4, 8), (2, 7, 8), (4, 7, 8)))
+        for record, (s, c) in zip(out, ref.expected(systems)):
+            record[0], record[1] = s, ref.SPLIT_CODE[c]
+    return tuple(map(tuple, out))
+
+
+@lru_cache(maxsize=512)
+def searched(analysis):
+    return ref.search(analysis)
+
+
+class Pool:
+    """Gases with found splits; a new one now and then."""
+
+    def __init__(self, draw, size=64, renew_one_in=64):
+        self.draw, self.size, self.renew = draw, size, renew_one_in
+        self.found = []
+
+    def pick(self):
+        if len(self.found) < 4 or self.draw.one_in(self.renew):
+            while True:
+                analysis = any_gas(self.draw)
+                got = searched(analysis)
+                if isinstance(got, ref.Rating):
+                    break
+            self.found.append((analysis, got.split))
+            del self.found[:-self.size]
+        return self.draw.pick(self.found)
+
+
+def any_split(draw, pool, kind):
+    """(analysis, records) of one kind; see SPLIT_KINDS."""
+    if kind == "wide":
+        analysis = any_gas(draw)
+        return analysis, random_split(draw, analysis)
+    if kind == "start":
+        analysis = any_gas(draw)
+        return analysis, start_split(analysis)
+    analysis, found = pool.pick()
+    if kind == "put-back":
+        return analysis, found
+    if kind == "near":
+        return analysis, moved(draw, found, draw.pick((3, 30, 300, 3000)))
+    if draw.one_in(2):      # the rest also from splits not found
+        analysis = any_gas(draw)
+        found = random_split(draw, analysis)
+    if kind == "miss-by-one":
+        return analysis, off_by(draw, found, draw.pick((1, -1)))
+    if kind == "miss":
+        return analysis, off_by(draw, found, draw.below(U32))
+    if kind == "wrap":
+        return analysis, wrapped(draw, found)
+    if kind == "empty":
+        return analysis, emptied(draw, found)
+    if kind == "all-zero":
+        return analysis, tuple((s, c, 0) for s, c, _ in found)
+    if kind == "misfit":
+        return analysis, misfit(draw, found)
+    if kind == "other-gas":
+        return any_gas(draw), found
+    raise ValueError(kind)
+
+
+SPLIT_KINDS = ("put-back", "put-back", "near", "near", "near", "wide", "start",
+               "miss-by-one", "miss", "wrap", "wrap", "empty", "empty",
+               "all-zero", "misfit", "misfit", "other-gas")
+
+
+# -------------------------------------------------------------- sheets
+
+def sheet_of(listed, records, count=None, split_count=None):
+    """A sheet of any records at all, legal or not."""
+    out = bytearray([len(listed) if count is None else count])
+    for code, amount in listed:
+        out += bytes([code]) + (amount % U32).to_bytes(4, "big")
+    records = records or ()
+    out.append(len(records) if split_count is None else split_count)
+    for s, code, amount in records:
+        out += bytes([s, code]) + amount.to_bytes(4, "big")
+    return bytes(out)
+
+
+def listed_of(analysis):
+    return [(c, a) for c, a in enumerate(analysis) if a]
+
+
+def random_records(draw):
+    return tuple((draw.below(256), draw.below(256), draw.below(U32))
+                 for _ in range(9))
+
+
+def range_sheet(draw, records):
+    """One or two amounts at or over a limit.  Half of the time methane makes
+    up the total, so that only the limit decides."""
+    a = list(any_gas(draw))
+    changed = set()
+    for _ in range(draw.pick((1, 1, 1, 2))):
+        code = draw.pick(CODES)
+        least, greatest = ref.RANGE[code]
+        a[code] = draw.pick((least - 1, least, greatest, greatest + 1,
+                             0, 1, U32 - 1, draw.below(U32)))
+        changed.add(code)
+    zero = [(c, 0) for c in changed if a[c] == 0 and not draw.one_in(3)]
+    if 1 not in changed and draw.one_in(2):
+        a[1] = (draw.between(999900, 1000100) - sum(a) + a[1]) % U32
+    return sheet_of(sorted(listed_of(a) + zero), records)
+
+
+def total_sheet(draw, records):
+    a = list(any_gas(draw))
+    total = draw.pick((999899, 999900, 1000000, 1000100, 1000101,
+                       draw.between(900000, 1100000),
+                       1000000 + U32))   # wraps to a good total
+    a[1] += total - sum(a)
+    return sheet_of(listed_of([x % U32 for x in a]), records)
+
+
+def codes_sheet(draw, records):
+    """Codes out of order, unknown, retired, twice or absent."""
+    listed = listed_of(any_gas(draw))
+    for _ in range(draw.pick((1, 1, 2, 3))):
+        i = draw.below(len(listed))
+        which = draw.below(6)
+        if which == 0:
+            code = draw.pick((0, 9, 13, 14, 15, 255, draw.below(256)))
+            listed[i] = (code, listed[i][1])
+        elif which == 1:
+            j = draw.below(len(listed))
+            listed[i], listed[j] = listed[j], listed[i]
+        elif which == 2 and len(listed) > 1:
+            del listed[i]
+        elif which == 3 and len(listed) < 11:
+            listed.insert(i, listed[i])
+        elif which == 4 and len(listed) < 11:
+            listed.insert(i, (draw.pick((9, 13)), draw.below(1000)))
+        elif len(listed) < 11:
+            listed.insert(i, (draw.below(16), draw.below(20000)))
+    return sheet_of(listed, records)
+
+
+def torn_sheet(draw, good):
+    """Cut short, made longer, or a count changed."""
+    which = draw.below(5)
+    if which == 0:
+        return good[:draw.below(len(good))]
+    if which == 1:
+        extra = draw.pick((1, 1, 5, 6, 54, draw.below(300)))
+        return good + bytes(draw.pick((0, draw.below(256)))
+                            for _ in range(extra))
+    out = bytearray(good)
+    second = 1 + 5 * out[0]
+    if which == 2:
+        out[0] = draw.pick((0, out[0] - 1, out[0] + 1, 11, 12,
+                            draw.below(256)))
+    elif which == 3:
+        out[second] = draw.pick((0, 1, 3, 6, 8, 9, 10, 255,
+                                 draw.below(256)))
+    else:                   # both the count and the bytes
+        n = draw.below(16)
+        out[second:] = bytes([n]) + bytes(
+            draw.below(256) for _ in range(6 * n))
+    return bytes(out)
+
+
+def flipped_sheet(draw, good):
+    out = bytearray(good)
+    for _ in range(draw.pick((1, 1, 1, 2, 3, 8))):
+        bit = draw.below(8 * len(out))
+        out[bit // 8] ^= 1 << bit % 8
+    return bytes(out)
+
+
+def wild_sheet(draw):
+    """Random bytes; half with fitting counts and lengths."""
+    if draw.one_in(2):
+        return bytes(draw.below(256) for _ in range(draw.below(130)))
+    listed = [(draw.below(17), draw.below(1 << draw.between(1, 32)))
+              for _ in range(draw.below(12))]
+    if draw.one_in(2):
+        listed.sort()
+    return sheet_of(listed, random_records(draw) if draw.one_in(2) else ())
+
+
+def sheets(seed, search_one_in=32):
+    """(kind, bytes) without end.  One sheet in `search_one_in` is a good one
+    that asks for a search; a few of the damaged ones do as well."""
+    draw = Draw(seed)
+    pool = Pool(draw)
+    while True:
+        if draw.one_in(search_one_in):
+            make = draw.pick(GASES)
+            yield ("search " + make.__name__,
+                   ref.layout(make(draw), None))
+            continue
+        which = draw.below(16)
+        if which < 6:
+            kind = draw.pick(SPLIT_KINDS)
+            yield "split " + kind, ref.layout(*any_split(draw, pool, kind))
+            continue
+        if which < 8:       # a split that is never reached, nearly always
+            records = random_records(draw)
+        else:
+            records = pool.pick()[1]
+        if draw.one_in(8):
+            records = None
+        if which in (6, 8):
+            yield "range", range_sheet(draw, records)
+        elif which == 9:
+            yield "total", total_sheet(draw, records)
+        elif which in (7, 10, 11):
+            yield "codes", codes_sheet(draw, records)
+        elif which == 12:
+            yield "wild", wild_sheet(draw)
+        else:
+            analysis, found = pool.pick()
+            good = ref.layout(analysis, None if records is None else found)
+            if which == 13:
+                yield "flipped", flipped_sheet(draw, good)
+            else:
+                yield "torn", torn_sheet(draw, good)
+
+
+class Answer(NamedTuple):
+    number: int         # 0 when rated
+    at: object          # place for 2 to 4, set of codes for 5, else None
+    rating: object
+    whole: object
+    spread: object
+    rounds: object
+    split: object       # the found split; the given one for a proposed split
+    analysis: object    # None when 1 to 6
+
+
+def answer(sheet):
+    got = ref.read(sheet)
+    if isinstance(got, ref.Refusal):
+        return Answer(got.number, got.at, *[None] * 6)
+    analysis, split = got
+    result = (searched(analysis) if split is None
+              else ref.rate_split(analysis, split))
+    if isinstance(result, ref.Refusal):
+        return Answer(result.number, result.at, *[None] * 5, analysis)
+    return Answer(0, None, *result, analysis)
+
+
+# ----------------------------------------------------- cases for the calls
+
+def unfit(draw, analysis):
+    """The analysis with an amount or the total put out of range."""
+    a = list(analysis)
+    code = draw.pick(CODES)
+    least, greatest = ref.RANGE[code]
+    a[code] = draw.pick((0, least - 1, greatest + 1, U32 - 1,
+                         a[code] + 300, max(a[code] - 300, 0)))
+    return tuple(a)
+
+
+def search_cases(seed):
+    """Allowances are often below the rounds that the gas needs, at them, or
+    above 4000.  One analysis in 16 is out of range."""
+    draw = Draw(seed)
+    while True:
+        analysis = any_gas(draw)
+        if draw.one_in(16):
+            analysis = unfit(draw, analysis)
+        got = searched(analysis)
+        near = got.rounds if isinstance(got, ref.Rating) else 4000
+        yield analysis, draw.pick((
+            0, 1, draw.below(12), max(near - 1, 0), near, near + 1,
+            4000, 4001, U32 - 1))
+
+
+def split_cases(seed):
+    draw = Draw(seed)
+    pool = Pool(draw)
+    while True:
+        kind = draw.pick(SPLIT_KINDS)
+        analysis, records = any_split(draw, pool, kind)
+        if draw.one_in(16):
+            analysis = unfit(draw, analysis)
+        yield kind, analysis, records
+
+
+def partial_cases(seed):
+    """Legal ones in the main; other systems, d of 0, above 1000000, and sums
+    that wrap 2^32."""
+    draw = Draw(seed)
+    while True:
+        system = draw.pick((2, 4, 7, 8, 20)) if not draw.one_in(8) \
+            else draw.pick((0, 1, 3, 5, 6, 9, 19, 21, 255, draw.below(256)))
+        which = draw.below(16)
+        if which == 0:
+            n = (0, 0, 0)
+        elif which == 1:
+            n = tuple(draw.below(U32) for _ in range(3))
+        elif which == 2:    # wraps to a legal sum
+            n1, n2 = draw.below(U32), draw.below(U32)
+            n = (n1, n2, (draw.between(1, 1000000) - n1 - n2) % U32)
+        else:
+            d = draw.pick((1, 2, 3, 999999, 1000000, 1000001,
+                           draw.between(1, 1000000), 1000000,
+                           draw.between(1, 1000)))
+            n1 = draw.pick((0, d, draw.between(0, d)))
+            n2 = draw.pick((0, d - n1, draw.between(0, d - n1)))
+            n = (n1, n2, d - n1 - n2)
+        yield (system, *n)
+
+
+def writer_cases(seed):
+    draw = Draw(seed)
+    pool = Pool(draw)
+    while True:
+        analysis, records = any_split(draw, pool, draw.pick(SPLIT_KINDS))
+        if draw.one_in(4):
+            records = None
+        elif draw.one_in(4):
+            records = random_records(draw)
+        if draw.one_in(8):
+            analysis = unfit(draw, analysis)
+        need = 2 + 5 * len(listed_of(analysis)) + (54 if records else 0)
+        yield analysis, records, draw.pick(
+            (need, need - 1, need + 1, 0, 1, 111, draw.below(140)))
+
+
+# -------------------------------------------------------- command line
+
+def timed(seed, count):
+    tally, numbers, most = {}, {}, (0.0, None)
+    made = sheets(seed)
+    begin = time.time()
+    for _ in range(count):
+        t = time.time()
+        kind, sheet = next(made)
+        got = answer(sheet)
+        took = time.time() - t
+        most = max(most, (took, kind))
+        n, s = tally.get(kind, (0, 0.0))
+        tally[kind] = n + 1, s + took
+        numbers[kind, got.number] = numbers.get((kind, got.number), 0) + 1
+    print("%d sheets in %.1f s; longest %.2f s (%s)"
+          % (count, time.time() - begin, *most))
+    for kind in sorted(tally):
+        print("%-18s %6d %7.1f s " % (kind, *tally[kind]), " ".join(
+            "%d:%d" % (n, c) for (k, n), c in sorted(numbers.items())
+            if k == kind))
+
+
+def rounds_table(seed, count):
+    for make in (even_gas, small_gas, limit_gas, rich_gas, tie_gas):
+        draw = Draw(seed)
+        rounds, seconds, refused, chosen = [], [], 0, {}
+        for _ in range(count):
+            analysis = make(draw)
+            systems = ref.choose(ref.simplify(analysis))
+            chosen[systems] = chosen.get(systems, 0) + 1
+            t = time.time()
+            got = ref.search(analysis)
+            seconds.append(time.time() - t)
+            if isinstance(got, ref.Refusal):
+                refused += 1
+            else:
+                rounds.append(got.rounds)
+        rounds.sort()
+        at = [rounds[len(rounds) * p // 100] for p in (10, 50, 90, 99)]
+        print("%-10s rated %d, refused 11: %d; rounds mean %.1f, "
+              "10/50/90/99 %% %s, most %d; seconds mean %.4f, most %.3f; %s"
+              % (make.__name__, len(rounds), refused,
+                 sum(rounds) / len(rounds), "/".join(map(str, at)),
+                 rounds[-1], sum(seconds) / count, max(seconds), chosen))
+
+
+def main(arguments):
+    if arguments[0] == "--time":
+        timed(int(arguments[1]), int(arguments[2]))
+    elif arguments[0] == "--rounds":
+        rounds_table(int(arguments[1]), int(arguments[2]))
+    else:
+        made = sheets(int(arguments[0]))
+        for _ in range(int(arguments[1])):
+            kind, sheet = next(made)
+            print(kind.replace(" ", "-"), sheet.hex().upper() or "-",
+                  ref.display(ref.rate(sheet)), end="")
+
+
+if __name__ == "__main__":
+    main(sys.argv[1:])

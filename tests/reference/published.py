@@ -1,0 +1,282 @@
+"""The published examples through the reference.
+
+published.py          prints the tables; compares tests/data/published.txt and
+                      published-answers.txt with what is made here
+published.py --write  writes the two data files
+
+A difference from a published number is shown, and is no failure: 000 and 001
+solve for equal partial numbers, document 01 stops at 0.05.  Differences of 1
+or more, a changed refusal or a wrong choice fail.
+"""
+
+import os
+import sys
+from decimal import Decimal
+from fractions import Fraction
+
+import saugrinte as ref
+
+DATA = os.path.join(os.path.dirname(os.path.abspath(__file__)), "..", "data")
+GASES_FILE = os.path.join(DATA, "published.txt")
+ANSWERS_FILE = os.path.join(DATA, "published-answers.txt")
+
+# 001 Table 2, by code.
+FACTOR = {1: "0.9981", 2: "0.9920", 3: "0.9829", 4: "0.9720", 5: "0.9681",
+          6: "0.9608", 7: "0.9521", 8: "0.9473", 10: "0.9155", 11: "0.9947",
+          12: "0.9998"}
+
+# 001 Table A.1, mole and volume shares in percent, by code.
+A1_MOLES = {11: "0.0530", 12: "0.8700", 1: "97.0640", 2: "1.6758",
+            3: "0.2453", 4: "0.0356", 5: "0.0253", 6: "0.0011", 7: "0.0076",
+            8: "0.0132", 10: "0.0091"}
+A1_VOLUMES = {11: "0.0528", 12: "0.8715", 1: "97.0797", 2: "1.6658",
+              3: "0.2417", 4: "0.0346", 5: "0.0245", 6: "0.0011",
+              7: "0.0073", 8: "0.0125", 10: "0.0084"}
+
+# 001 Table A.6, mole shares in percent; rows by code, then the numbers.
+A6 = """
+11  0.4198  0.2723  0.7021  1.5283  0.0198
+12  0.2749  0.6019  3.4563  0.1867  7.2891
+ 1 96.2448 94.5105 91.3566 91.7207 85.5956
+ 2  2.9453  3.1143  3.4227  3.9815  4.7466
+ 3  0.0451  1.1094  0.7786  1.6767  1.4845
+ 4  0.0356  0.1676  0.1028  0.3145  0.1889
+ 5  0.0067  0.1618  0.1275  0.3928  0.3811
+ 6  0.0028  0.0019  0.0005  0.0035  0.0018
+ 7  0.0019  0.0276  0.0213  0.0867  0.0805
+ 8  0.0029  0.0205  0.0186  0.0652  0.0930
+10  0.0202  0.0122  0.0130  0.0434  0.1191
+"""
+A6_NUMBERS = ("88.9742", "82.2934", "83.4987", "76.3498", "72.2264")
+
+# 000 Tables A.1 and A.6, volume shares in percent.
+EXAMPLE_1 = {1: "90.0900", 2: "5.5400", 3: "1.3200", 4: "0.2100", 5: "0.1900",
+             7: "0.0400", 8: "0.0500", 10: "0.0600", 12: "1.0400",
+             11: "1.4600"}
+EXAMPLE_2 = {1: "86.6475", 2: "0.1169", 3: "9.4500", 5: "0.1461",
+             8: "0.0292", 11: "3.6103"}
+
+# 000 Table A.10, Mixes 1 to 7: carbon dioxide, nitrogen, methane, ethane,
+# propane, butane, pentane, hexanes+, methane number.
+A10 = """
+1 0    13.00 83.53 3.47 0    0    0    0    90.02
+2 1.00 13.00 82.43 3.00 0.20 0.27 0.10 0    85.03
+3 0.20 0.20  94.68 3.20 1.05 0.47 0.20 0    80.00
+4 2.30 0.80  86.30 3.70 1.60 0.30 0    0    75.03
+5 2.00 0.74  87.34 7.00 2.20 0.41 0.11 0.20 70.02
+6 0    3.70  84.62 8.00 1.70 1.47 0.51 0    65.00
+7 3.90 0.40  85.58 5.70 2.10 0.90 0.82 0.60 59.97
+"""
+
+
+def parts(percent):
+    """Percent as printed to parts of 0.0001 %."""
+    value = Fraction(Decimal(percent)) * 10000
+    assert value.denominator == 1
+    return value.numerator
+
+
+def analysis_of(shares):
+    return tuple(parts(shares[c]) if c in shares else 0 for c in range(14))
+
+
+def volumes_of(moles):
+    """001's formula 1, to whole parts, halves up."""
+    weight = {c: parts(x) * Fraction(Decimal(FACTOR[c]))
+              for c, x in moles.items()}
+    total = sum(weight.values())
+    return tuple((2000000 * weight[c] / total + 1) // 2 if c in weight else 0
+                 for c in range(14))
+
+
+def mix(line):
+    name, carbon, nitrogen, m, e, p, b, pentane, hexane, number = line.split()
+    butane = parts(b)
+    a = [0] * 14
+    a[1], a[2], a[3] = parts(m), parts(e), parts(p)
+    a[4], a[5] = butane // 2, butane - butane // 2
+    a[8], a[10], a[11], a[12] = (parts(x) for x in
+                                 (pentane, hexane, carbon, nitrogen))
+    return ("A10-mix-" + name, tuple(a), number,
+            "000 Table A.10; butane to codes 4 and 5, pentane to code 8")
+
+
+def gases():
+    """(name, analysis, published number or '-', source)."""
+    out = [("A1-volume", analysis_of(A1_VOLUMES), "91.0576",
+            "001 Table A.1, volumes as printed"),
+           ("A1-moles", volumes_of(A1_MOLES), "91.0576",
+            "001 Table A.1, moles by formula 1")]
+    rows = [line.split() for line in A6.split("\n") if line]
+    for n in range(5):
+        out.append(("A6-%d" % (n + 1),
+                    volumes_of({int(r[0]): r[n + 1] for r in rows}),
+                    A6_NUMBERS[n], "001 Table A.6, moles by formula 1"))
+    out.append(("example-1", analysis_of(EXAMPLE_1), "76.3217",
+                "000 Table A.1; number of Table A.5"))
+    out.append(("example-2", analysis_of(EXAMPLE_2), "69.0336",
+                "000 Table A.6; out of range here"))
+    out += [mix(line) for line in A10.split("\n") if line]
+    # Mix 4 as printed sums to 95; with ethane 8.70 for 3.70 to 100.
+    out.append(("A10-mix-4-ethane", mix(
+        "4 2.30 0.80 86.30 8.70 1.60 0.30 0 0 75.03")[1], "75.03",
+        "000 Table A.10, mix 4 with ethane 8.70 for 3.70 to make the total"))
+
+    made = "made for this test"
+    out += [(name, (0, *codes, 0), "-", made + "; " + why)
+            for name, codes, why in (
+        ("rich-2", (494500, 60000, 60000, 40000, 40000, 500, 20000, 20000, 0,
+                    15000, 100000, 150000), "system 2 is chosen"),
+        ("fitness-tie", (524697, 30000, 60000, 40000, 40000, 500, 20000,
+                         20000, 0, 14850, 100000, 149953),
+         "systems 2 and 4 equally fit"),
+    )]
+    # T is 8000000: an amount's remainder is a quarter of (amount mod 4).
+    for name, (m, e, p, b), why in (
+        ("tie-me", (2, 2, 0, 0), "methane before ethane"),
+        ("tie-ep", (0, 2, 2, 0), "ethane before propane"),
+        ("tie-eb", (0, 2, 0, 2), "ethane before butane"),
+        ("tie-pb", (0, 0, 2, 2), "propane before butane"),
+        ("tie-mb", (2, 0, 0, 2), "methane before butane"),
+        ("tie-one", (1, 1, 1, 1), "four equal, one part missing"),
+        ("tie-two", (2, 2, 2, 2), "four equal, two parts missing"),
+        ("tie-three", (3, 3, 3, 3), "four equal, three parts missing"),
+    ):
+        methane = 800000 - 60000 - e - 20000 - p - 4000 - b
+        assert methane % 4 == m
+        out.append((name, (0, methane, 60000 + e, 20000 + p, 2000, 2000 + b,
+                           0, 0, 0, 0, 0, 50000, 150000, 0), "-",
+                    made + "; largest remainders equal, " + why))
+    return out
+
+
+# What document 01 fixes of these, besides ratings.
+REFUSED = {"A6-3": 5, "example-2": 5, "A10-mix-1": 5, "A10-mix-4": 6}
+CHOICE = {"rich-2": (2, 7, 8), "fitness-tie": (2, 7, 8)}
+TIED = {"tie-me": (1, 0, 0, 0), "tie-ep": (0, 1, 0, 0), "tie-eb": (0, 1, 0, 0),
+        "tie-pb": (0, 0, 1, 0), "tie-mb": (1, 0, 0, 0),
+        "tie-one": (1, 0, 0, 0), "tie-two": (1, 1, 0, 0),
+        "tie-three": (1, 1, 1, 0)}
+
+
+def show_gases():
+    print("%-16s %11s %9s %8s %5s %8s %6s  %s"
+          % ("gas", "published", "ours", "diff", "whole", "spread", "rounds",
+             "systems"))
+    for name, analysis, number, _ in gases():
+        got = ref.rate(ref.layout(analysis, None))
+        systems = ref.choose(ref.simplify(analysis))
+        assert systems == CHOICE.get(name, (4, 7, 8)), name
+        systems = ",".join(map(str, systems))
+        if isinstance(got, ref.Refusal):
+            assert REFUSED.get(name) == got.number, name
+            at = "" if got.at is None else " code " + \
+                ",".join(map(str, sorted(got.at)))
+            print("%-16s %11s   REFUSED %d%s; choice %s"
+                  % (name, number, got.number, at, systems))
+            continue
+        assert name not in REFUSED, name
+        if name in TIED:
+            raw = ref.tenths(analysis)
+            total = sum(raw)
+            down = [ref.PARTS * x // total for x in raw]
+            assert tuple(x - y for x, y in zip(ref.simplify(analysis), down)) \
+                == TIED[name], name
+        ours = Decimal(got.rating) / ref.UNITS
+        difference = "-"
+        if number != "-":
+            difference = "%+.4f" % (ours - Decimal(number))
+            assert abs(ours - Decimal(number)) < 1, name
+        print("%-16s %11s %9.4f %8s %5d %8.4f %6d  %s"
+              % (name, number, ours, difference, got.whole,
+                 Decimal(got.spread) / ref.UNITS, got.rounds, systems))
+
+
+def show_steps():
+    """Published intermediate figures beside ours."""
+    print("\n%-44s %10s %10s" % ("step", "published", "ours"))
+
+    def line(what, published, ours, within):
+        assert abs(Decimal(published) - ours) <= Decimal(within), what
+        print("%-44s %10s %10.4f" % (what, published, ours))
+
+    def units(x):
+        return Decimal(x) / ref.UNITS
+
+    for name, shares, begin, simple, fit, inert in (
+        ("001 Table A.1", A1_VOLUMES, ("91.4176", "93.3436", "88.3857"),
+         ("97.9231", "1.6803", "0.2438", "0.1528"),
+         ("0.335016", "10.09549", "9.864777", "10.08669"), "100.0492"),
+        ("000 example 1", EXAMPLE_1, ("76.2489", "77.3777", "71.9706"),
+         ("92.0460", "5.6603", "1.3487", "0.9451"),
+         ("1.3061", "10.3138", "9.6263", "10.2859"), "101.4201"),
+        ("000 example 2", EXAMPLE_2, None,
+         ("89.8575", "0.1212", "9.8001", "0.2212"),
+         ("1.6984", "10.6380", "10.6652", "9.0508"), "103.7290"),
+    ):
+        analysis = analysis_of(shares)
+        amounts = ref.simplify(analysis)
+        for component, published, ours in zip(
+                ("methane", "ethane", "propane", "butane"), simple, amounts):
+            line("%s, simplified %s" % (name, component), published,
+                 Decimal(ours) / 10000, "0.0003")
+        for system, published in zip(ref.CANDIDATES, fit):
+            line("%s, fitness of %d" % (name, system), published,
+                 Decimal(ref.fitness(amounts)[system]) / 480 / 10000, "0.0001")
+        systems = ref.choose(amounts)
+        held = ref.start(amounts, systems)
+        for system, published in zip(systems, begin or ()):
+            line("%s, system %d at the start" % (name, system), published,
+                 units(ref.number_of(system, held[system])), "0.002")
+        n1, n2 = ref.inert(analysis)
+        line("%s, inert number" % name, inert,
+             units(ref.partial_number(20, n1, n2, 0)), "0.0002")
+
+    # Splits as published, in parts, with the partial numbers printed there.
+    for name, system, n, published in (
+        ("001 Table A.4", 4, (309366, 8648, 1078), "91.0088"),
+        ("001 Table A.4", 7, (222007, 1360, 844), "91.0086"),
+        ("001 Table A.4", 8, (447857, 8155, 684), "91.0086"),
+        ("000 Table A.5", 4, (279390, 29012, 6542), "74.9017"),
+        ("000 Table A.5", 7, (273417, 6944, 4982), "74.9019"),
+        ("000 Table A.5", 8, (367653, 27590, 4469), "74.9019"),
+        ("000 Table A.6", 4, (411188, 585, 51182), "65.3039"),
+        ("000 Table A.6", 7, (463797, 46819, 954), "65.3059"),
+        ("000 Table A.6", 8, (23590, 628, 1258), "65.3039"),
+    ):
+        line("%s, system %d at the published split" % (name, system),
+             published, units(ref.partial_number(system, *n)), "0.01")
+
+
+def gases_text():
+    lines = ["# name, amounts in parts for codes 1 to 13, published methane "
+             "number or -, source"]
+    for name, analysis, number, source in gases():
+        lines.append(" ".join([name, *map(str, analysis[1:]), number, source]))
+    return "\n".join(lines) + "\n"
+
+
+def answers_text():
+    lines = ["# name, display line of the sheet without a split"]
+    for name, analysis, _, _ in gases():
+        lines.append(name + " " + ref.display(
+            ref.rate(ref.layout(analysis, None))).strip())
+    return "\n".join(lines) + "\n"
+
+
+def main(arguments):
+    files = ((GASES_FILE, gases_text()), (ANSWERS_FILE, answers_text()))
+    if arguments == ["--write"]:
+        for path, text in files:
+            with open(path, "w") as f:
+                f.write(text)
+        return
+    show_gases()
+    show_steps()
+    for path, text in files:
+        with open(path) as f:
+            assert f.read() == text, "data file differs: " + path
+
+
+if __name__ == "__main__":
+    main(sys.argv[1:])
