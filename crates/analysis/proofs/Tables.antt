@@ -6,7 +6,7 @@ use Prim.Native.Nat.{ℕ, _<_, _≤_}
 use lib.Dec.{eqb, leb, eqb→eq}
 use lib.ListN.{getD}
 use borrow.Author.Tests.{eq-eqb, ne-eqb, le-leb, lt-leb}
-use Rattle.analysis.specs.Register.{statusOf}
+use Rattle.analysis.specs.Register.{CODES, statusOf}
 use Rattle.analysis.specs.Table.{at, same, same-eq}
 use Rattle.analysis.specs.Check.{leastOf, greatestOf, requiredOf, inRange}
 
@@ -20,21 +20,21 @@ greatest = 0 ∷ 999700 ∷ 150000 ∷ 60000 ∷ 40000 ∷ 40000 ∷ 500 ∷ 200
 abbrev pub required : List ℕ
 required = 0 ∷ 1 ∷ 1 ∷ 1 ∷ 1 ∷ 1 ∷ 0 ∷ 0 ∷ 0 ∷ 0 ∷ 0 ∷ 0 ∷ 0 ∷ 0 ∷ []
 
-least-at : (k : ℕ) → k < 14 → getD least k 0 ≡ leastOf k
+least-at : (k : ℕ) → k < CODES → getD least k 0 ≡ leastOf k
 unfolding statusOf
 least-at k h = eqb→eq (getD least k 0) (leastOf k) (at (λ i x. eqb x (leastOf i)) least tt k h)
 
-greatest-at : (k : ℕ) → k < 14 → getD greatest k 0 ≡ greatestOf k
+greatest-at : (k : ℕ) → k < CODES → getD greatest k 0 ≡ greatestOf k
 unfolding statusOf
 greatest-at k h = eqb→eq (getD greatest k 0) (greatestOf k) (at (λ i x. eqb x (greatestOf i)) greatest tt k h)
 
-required-at : (k : ℕ) → k < 14 → eqb (getD required k 0) 0 ≡ not (requiredOf k)
+required-at : (k : ℕ) → k < CODES → eqb (getD required k 0) 0 ≡ not (requiredOf k)
 unfolding statusOf
 required-at k h =
     same-eq (eqb (getD required k 0) 0) (not (requiredOf k)) (at (λ i x. same (eqb x 0) (not (requiredOf i))) required tt k h)
 
 -- the range test by the tables
-module _ (k x : ℕ) (h : k < 14) where
+module _ (k x : ℕ) (h : k < CODES) where
   pub absent : x ≡ 0 → eqb (getD required k 0) 0 ≡ inRange k x
   unfolding inRange
   absent e = simp (eq-eqb _ _ e) (required-at k h)

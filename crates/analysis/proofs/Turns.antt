@@ -9,6 +9,7 @@ use lib.ListN.{length, getD, drop, drop-of-length-le}
 use lib.Seq.{drop-cons}
 use lib.Dec.{eqb, leb}
 use borrow.Author.Tests.{le-leb, lt-leb, eqb-false}
+use Rattle.analysis.specs.Register.{CODES}
 use Rattle.analysis.specs.declared.Checked.{Checked}
 use Rattle.analysis.specs.declared.Checked.the-variants.{InRange, Refused}
 use Rattle.analysis.specs.Check.{inRange, allInRange, totalOf, totalFits, refusalBy, refusalOf, AtFault, answerOf, Checking, Fault}
@@ -43,7 +44,7 @@ six true true n m = absurd (n refl)
 six true false n m = refl
 
 -- the number that the code finds is that of the analysis, and the answers with it
-module _ (a : List ℕ) (code : ℕ) (f : Fault a code) (fits : Bool) (e : fits ≡ totalFits (totalOf a)) (n : ℕ) (r : n ≡ refusalBy (eqb code 14) fits) where
+module _ (a : List ℕ) (code : ℕ) (f : Fault a code) (fits : Bool) (e : fits ≡ totalFits (totalOf a)) (n : ℕ) (r : n ≡ refusalBy (eqb code CODES) fits) where
   number : n ≡ refusalOf a
   unfolding refusalOf
   number = r ∙ rw (f .ranges, e)
@@ -54,11 +55,11 @@ module _ (a : List ℕ) (code : ℕ) (f : Fault a code) (fits : Bool) (e : fits 
   pub answer-range : n ≡ 5 → Checking a (Refused n code)
   answer-range z =
       let d : refusalOf a ≡ 5 = sym number ∙ z in
-      let g : code < 14 = let x = eqb-false code 14 (five (eqb code 14) fits (sym r ∙ z)) in let y = f .within in omega (arith, x) in
+      let g : code < CODES = let x = eqb-false code CODES (five (eqb code CODES) fits (sym r ∙ z)) in let y = f .within in omega (arith, x) in
       record { answer = rw (z, d); code = λ _. f .fault g }
 
   pub answer-total : (n ≡ 0 → ⊥) → (n ≡ 5 → ⊥) → Checking a (Refused n 0)
   answer-total z w =
-      let s : n ≡ 6 = r ∙ six (eqb code 14) fits (λ y. z (r ∙ y)) (λ y. w (r ∙ y)) in
+      let s : n ≡ 6 = r ∙ six (eqb code CODES) fits (λ y. z (r ∙ y)) (λ y. w (r ∙ y)) in
       let d : refusalOf a ≡ 6 = sym number ∙ s in
       record { answer = rw (s, d); code = λ h. absurd (omega arith) }

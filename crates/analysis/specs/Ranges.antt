@@ -9,7 +9,7 @@ use lib.Dec.{eqb, leb}
 use lib.ListN.{length, getD, drop, drop-of-length-le}
 use lib.Seq.{drop-cons}
 use borrow.Author.Tests.{eqb-true, eqb-false, leb-true, leb-false}
-use Rattle.analysis.specs.Register.{ifElse, statusOf}
+use Rattle.analysis.specs.Register.{CODES, ifElse, statusOf}
 use Rattle.analysis.specs.Check.{leastOf, greatestOf, requiredOf, inRange, allInRange, totalOf, totalFits, refusalBy, refusalOf}
 
 -- the sum of the amounts from code k on
@@ -119,7 +119,7 @@ pub record WithinRanges (a : List ℕ) : Type 0 where
   pub total-least : 999900 ≤ totalOf a
   pub total-greatest : totalOf a ≤ 1000100
 
-module _ (a : List ℕ) (l : length a ≡ 14) where
+module _ (a : List ℕ) (l : length a ≡ CODES) where
   -- the total is the sum over the codes
   pub total-sum : totalOf a
       ≡ getD a 0 0 + getD a 1 0 + getD a 2 0 + getD a 3 0 + getD a 4 0 + getD a 5 0 + getD a 6 0 + getD a 7 0 + getD a 8 0
@@ -128,10 +128,10 @@ module _ (a : List ℕ) (l : length a ≡ 14) where
       omega (arith, total-go 0 a (omega arith), total-go 1 a (omega arith), total-go 2 a (omega arith), total-go 3 a (omega arith), total-go 4 a (omega arith), total-go 5 a (omega arith), total-go 6 a (omega arith), total-go 7 a (omega arith), total-go 8 a (omega arith), total-go 9 a (omega arith), total-go 10 a (omega arith), total-go 11 a (omega arith), total-go 12 a (omega arith), total-go 13 a (omega arith), total-end 14 a (omega arith))
 
   module _ (h : refusalOf a ≡ 0) where
-    at-most : (k : ℕ) → k < 14 → getD a k 0 ≤ greatestOf k
+    at-most : (k : ℕ) → k < CODES → getD a k 0 ≤ greatestOf k
     at-most k s = range-greatest k (getD a k 0) (all-at a k (passed-ranges a h) (omega arith))
 
-    at-least : (k : ℕ) → k < 14 → requiredOf k ≡ true → leastOf k ≤ getD a k 0
+    at-least : (k : ℕ) → k < CODES → requiredOf k ≡ true → leastOf k ≤ getD a k 0
     at-least k s r = range-required k (getD a k 0) (all-at a k (passed-ranges a h) (omega arith)) r
 
     -- not refused: every range holds

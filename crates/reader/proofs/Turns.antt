@@ -9,27 +9,27 @@ use lib.ListN.{length, getD, set, drop, replicate, length-replicate, replicate-a
 use lib.Seq.{sets, sets-eq, drop-at}
 use lib.Dec.{eqb, eqb→eq}
 use borrow.Author.Tests.{eq-eqb, ne-eqb}
-use Rattle.analysis.specs.Register.{statusOf}
+use Rattle.analysis.specs.Register.{CODES, statusOf}
 use Rattle.analysis.specs.Table.{at}
 use Rattle.sheet.specs.declared.Reading.the-variants.{Read, Refused}
 use Rattle.sheet.specs.Bytes.{numberAt}
 use Rattle.sheet.specs.Components.{refusalBy, codeRefusal, codesReading, amountsFrom, zeroListed}
-use Rattle.sheet.specs.Split.{byteColumn, amountColumn, padded}
+use Rattle.sheet.specs.Split.{RECORDS, byteColumn, amountColumn, padded}
 use Rattle.sheet.specs.Cases.{status-above, code-status, code-order, code-fine}
 
 -- the code's table is the register's
 abbrev refusals : List ℕ
 refusals = 2 ∷ 0 ∷ 0 ∷ 0 ∷ 0 ∷ 0 ∷ 0 ∷ 0 ∷ 0 ∷ 3 ∷ 0 ∷ 0 ∷ 0 ∷ 3 ∷ []
 
-refusal-at : (c : ℕ) → c < 14 → getD refusals c 0 ≡ refusalBy (statusOf c)
+refusal-at : (c : ℕ) → c < CODES → getD refusals c 0 ≡ refusalBy (statusOf c)
 unfolding statusOf
 refusal-at c h = eqb→eq (getD refusals c 0) (refusalBy (statusOf c)) (at (λ k x. eqb x (refusalBy (statusOf k))) refusals tt c h)
 
 module _ (c p : ℕ) where
-  pub beyond : 14 ≤ c → codeRefusal c p ≡ 2
+  pub beyond : CODES ≤ c → codeRefusal c p ≡ 2
   beyond h = let e = status-above c h in code-status c p (λ z. omega arith) ∙ e
 
-  module _ (h : c < 14) where
+  module _ (h : c < CODES) where
     pub by-status : (getD refusals c 0 ≡ 0 → ⊥) → codeRefusal c p ≡ getD refusals c 0
     by-status n = code-status c p (λ z. n (refusal-at c h ∙ z)) ∙ sym (refusal-at c h)
 
@@ -110,12 +110,12 @@ drop-same : (k z x : ℕ) → drop k (replicate (k + z) x) ≡ replicate z x
 drop-same k z x =
     ap (λ (l : List ℕ). drop k l) (sym (replicate-append-replicate k z x)) ∙ drop-at (replicate k x) (replicate z x) k (length-replicate k x)
 
-pub sets-padded : (vs : List ℕ) → length vs ≤ 9 → sets (replicate 9 0) 0 vs ≡ padded vs
+pub sets-padded : (vs : List ℕ) → length vs ≤ RECORDS → sets (replicate RECORDS 0) 0 vs ≡ padded vs
 sets-padded vs h =
-    let k : 0 + length vs ≤ 9 = omega arith in
-    let e : 9 ≡ length vs + (9 - length vs) = omega arith in
+    let k : 0 + length vs ≤ RECORDS = omega arith in
+    let e : RECORDS ≡ length vs + (RECORDS - length vs) = omega arith in
     let z : 0 + length vs ≡ length vs = omega arith in
-    sets-eq vs (replicate 9 0) 0 k
-    ∙ ap (λ (j : ℕ). vs ++ drop j (replicate 9 0)) z
+    sets-eq vs (replicate RECORDS 0) 0 k
+    ∙ ap (λ (j : ℕ). vs ++ drop j (replicate RECORDS 0)) z
     ∙ ap (λ (j : ℕ). vs ++ drop (length vs) (replicate j 0)) e
-    ∙ ap (λ (l : List ℕ). vs ++ l) (drop-same (length vs) (9 - length vs) 0)
+    ∙ ap (λ (l : List ℕ). vs ++ l) (drop-same (length vs) (RECORDS - length vs) 0)

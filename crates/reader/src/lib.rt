@@ -6,14 +6,14 @@ ghost use Rattle.analysis.specs.Register.{CODES};
 ghost use Rattle.sheet.specs.Bytes.{number, numberAt};
 ghost use Rattle.sheet.specs.Components.{codeRefusal, codesReading, amountsFrom};
 ghost use Rattle.sheet.specs.Split.{RECORDS, splitAt};
-ghost use Rattle.sheet.specs.Sheet.{sectionsOf};
+ghost use Rattle.sheet.specs.Sheet.{LISTED, sectionsOf};
 ghost use Rattle.sheet.specs.Read.{refusedSheet, ReadAs};
 ghost use Rattle.reader.specs.Find.{ZeroRecord, AmountsRefused};
 use analysis::Analysis;
 use analysis::CODES;
 use analysis::Checked;
 use section::Section;
-use sheet::COMPONENT_RECORDS;
+use sheet::LISTED;
 use sheet::RECORDS;
 use sheet::Reading;
 use sheet::Sections;
@@ -48,7 +48,7 @@ fn sections(s: &[u8]) -> Sections
     else {
         return Sections::Torn;
     };
-    if COMPONENT_RECORDS < n {
+    if LISTED < n {
         return Sections::Torn;
     }
     let split = section::peek(s, end, 6);
@@ -97,10 +97,11 @@ fn code_refusal(c: u8, p: u8) -> u32
 
 // The first of `n` component records whose code is refused, with its place.
 fn codes(s: &[u8], n: usize) -> Reading
-    requires { ⌜ (n ≤ 11) × (1 + 5 * n ≤ length (now s)) ⌝ }
+    requires { ⌜ (n ≤ LISTED) × (1 + 5 * n ≤ length (now s)) ⌝ }
     ensures { λ r. ⌜ r ≡ codesReading n (now (s .entry)) 1 0 0 ⌝ }
 {
     let mut i: usize = 0;
+    let mut place: u32 = 0;
     let mut at: usize = 1;
     let mut p: u8 = 0;
     while i < n {
@@ -109,12 +110,13 @@ fn codes(s: &[u8], n: usize) -> Reading
         if refusal != 0 {
             return Reading::Refused {
                 number: refusal,
-                place: i as u32,
+                place,
                 code: 0,
             };
         }
         p = c;
         i += 1;
+        place += 1;
         at += 5;
     }
     Reading::Read
@@ -201,6 +203,17 @@ fn refused(answer: Reading) -> Sheet
     }
 }
 
+// The same of a refusal's number, place and code.
+fn refused_with(number: u32, place: u32, code: u32) -> Sheet
+    ensures { λ r. ⌜ r ≡ refusedSheet (Reading.Refused number place code) ⌝ }
+{
+    refused(Reading::Refused {
+        number,
+        place,
+        code,
+    })
+}
+
 // Is a component listed at 0, or the analysis out of range? Refused 5 or 6, or not.
 fn amounts_refused(s: &[u8], n: usize, a: Analysis) -> Checked
     requires { ⌜ (1 + 5 * n ≤ length (now s)) × (a .amounts ≡ amountsFrom n (now s) 1 (replicate CODES 0)) ⌝ }
@@ -228,11 +241,7 @@ pub fn read(s: &[u8]) -> Sheet
         first,
     } = parts
     else {
-        return refused(Reading::Refused {
-            number: 1,
-            place: 0,
-            code: 0,
-        });
+        return refused_with(1, 0, 0);
     };
     let answer = codes(s, n);
     let Reading::Read = answer else {
@@ -243,11 +252,7 @@ pub fn read(s: &[u8]) -> Sheet
     };
     let checked = amounts_refused(s, n, a);
     match checked {
-        Checked::Refused { number, code } => refused(Reading::Refused {
-            number,
-            place: 0,
-            code,
-        }),
+        Checked::Refused { number, code } => refused_with(number, 0, code),
         Checked::InRange => {
             let split = split_at(s, first, m);
             Sheet {

@@ -7,7 +7,7 @@ use native.Mathlib.Omega.{arith}
 use lib.ListN.{length, getD, drop, length-append}
 use lib.Dec.{eqb, leb, ltb}
 use borrow.Author.Tests.{eq-eqb, ne-eqb, le-leb, lt-leb, leb-true, leb-false, eqb-true, eqb-false}
-use Rattle.analysis.specs.Register.{Status, live, retired, splitsOnly, unknown, register, statusIn, statusOf, ifElse}
+use Rattle.analysis.specs.Register.{CODES, Status, live, retired, splitsOnly, unknown, register, statusIn, statusOf, ifElse}
 use Rattle.analysis.specs.Check.{refusalOf}
 use Rattle.section.specs.declared.Section.{Section}
 use Rattle.section.specs.declared.Section.the-variants as found
@@ -23,8 +23,8 @@ use Rattle.sheet.specs.declared.Written.{Written}
 use Rattle.sheet.specs.declared.Written.the-variants as w
 use Rattle.sheet.specs.Components.{refusalBy, codeRefusal, codesReading, countOf, componentBytes, zeroListed}
 use Rattle.sheet.specs.Bytes.{bytesOf}
-use Rattle.sheet.specs.Split.{allowedCount, recordBytes, splitBytes}
-use Rattle.sheet.specs.Sheet.{sheetOf, withSplit, withComponents, sectionsOf}
+use Rattle.sheet.specs.Split.{RECORDS, allowedCount, recordBytes, splitBytes}
+use Rattle.sheet.specs.Sheet.{LISTED, sheetOf, withSplit, withComponents, sectionsOf}
 use Rattle.sheet.specs.Read.{amountsOf, amountsRefusal, byAmounts, refusedSheet, contentOf, withAnswer, afterCodes, readBy, readOf}
 use Rattle.sheet.specs.Write.{writeRefusal, writtenOf, leftOf}
 
@@ -36,11 +36,11 @@ both-true true x h = (refl, h)
 both-true false x h = (h, cc)
 
 -- a count that is allowed is 0 or 9
-pub allowed-most : (m : ℕ) → allowedCount m ≡ true → m ≤ 9
+pub allowed-most : (m : ℕ) → allowedCount m ≡ true → m ≤ RECORDS
 unfolding allowedCount
 allowed-most m h = go (eqb m 0) refl h
   where
-    go : (t : Bool) → eqb m 0 ≡ t → ifElse t true (eqb m 9) ≡ true → m ≤ 9
+    go : (t : Bool) → eqb m 0 ≡ t → ifElse t true (eqb m 9) ≡ true → m ≤ RECORDS
     go true e h = let z = eqb-true m 0 e in omega arith
     go false e h = let z = eqb-true m 9 h in omega arith
 
@@ -49,7 +49,7 @@ allowed-most m h = go (eqb m 0) refl h
 -- what two sections say of a sheet
 pub record Sectioned (s : List ℕ) (n m first : ℕ) : Type 0 where
   pub components : n ≡ getD s 0 0
-  pub few : n ≤ 11
+  pub few : n ≤ LISTED
   pub begins : first ≡ 2 + 5 * n
   pub records : m ≡ getD s (1 + 5 * n) 0
   pub allowed : allowedCount m ≡ true
@@ -81,15 +81,15 @@ module _ (s : List ℕ) where
   first-back : (x : Section) → sectionAt s 0 5 ≡ x → {n m first : ℕ} → withComponents s x ≡ Both n m first → Sectioned s n m first
   unfolding endAt
   first-back found.Torn e h = let z : _≡_ {A = ℕ} 0 1 = cc in absurd (never z)
-  first-back (found.Records n' first' end) e {n} {m} {first} h = go (leb n' 11) refl h
+  first-back (found.Records n' first' end) e {n} {m} {first} h = go (leb n' LISTED) refl h
     where
-      go : (t : Bool) → leb n' 11 ≡ t → ifElse t (withSplit s n' (sectionAt s end 6)) Torn ≡ Both n m first → Sectioned s n m first
+      go : (t : Bool) → leb n' LISTED ≡ t → ifElse t (withSplit s n' (sectionAt s end 6)) Torn ≡ Both n m first → Sectioned s n m first
       go true a h =
           let f = section-found s 0 5 e in
           let g = second-back n' end (sectionAt s end 6) refl h in
           let c = f .counted in
           let o = f .ends in
-          let l = leb-true n' 11 a in
+          let l = leb-true n' LISTED a in
           let i : end ≡ 1 + 5 * n = omega (arith, g .0) in
           record {
             components = g .0 ∙ c;
@@ -106,7 +106,7 @@ module _ (s : List ℕ) where
   sectioned h = first-back (sectionAt s 0 5) refl h
 
   -- and the other way: bytes of that shape are two sections
-  pub sections-both : (n m : ℕ) → getD s 0 0 ≡ n → n ≤ 11 → getD s (1 + 5 * n) 0 ≡ m → allowedCount m ≡ true → length s ≡ 2 + 5 * n + 6 * m
+  pub sections-both : (n m : ℕ) → getD s 0 0 ≡ n → n ≤ LISTED → getD s (1 + 5 * n) 0 ≡ m → allowedCount m ≡ true → length s ≡ 2 + 5 * n + 6 * m
       → sectionsOf s ≡ Both n m (2 + 5 * n)
   unfolding sectionsOf endAt
   sections-both n m en few em allowed size =
@@ -116,7 +116,7 @@ module _ (s : List ℕ) where
       ap (λ (x : Section). withComponents s x) (section-records s 0 5 (omega arith))
       ∙ ap (λ (k : ℕ). withComponents s (found.Records (getD s 0 0) 1 k)) i
       ∙ ap (λ (k : ℕ). withComponents s (found.Records k 1 (1 + 5 * n))) en
-      ∙ ap (λ (t : Bool). ifElse t (withSplit s n (sectionAt s (1 + 5 * n) 6)) Torn) (le-leb n 11 few)
+      ∙ ap (λ (t : Bool). ifElse t (withSplit s n (sectionAt s (1 + 5 * n) 6)) Torn) (le-leb n LISTED few)
       ∙ ap (λ (x : Section). withSplit s n x) (section-records s (1 + 5 * n) 6 (omega arith))
       ∙ ap (λ (k : ℕ). withSplit s n (found.Records (getD s (1 + 5 * n) 0) (1 + 5 * n + 1) k)) o
       ∙ ap (λ (k : ℕ). withSplit s n (found.Records k (1 + 5 * n + 1) (length s))) em
@@ -191,7 +191,7 @@ module _ (n : ℕ) (s : List ℕ) where
 
 -- ---- codes
 
--- a code in components that is not refused is live, below 14 and above the one before
+-- a code beyond the register is unknown, and one from 14 on refused 2
 above : (c : ℕ) → 15 ≤ c → statusIn register c ≡ unknown
 above c h =
     rw (
@@ -211,7 +211,7 @@ above c h =
       ne-eqb c 14 (λ e. omega arith),
     )
 
-pub status-above : (c : ℕ) → 14 ≤ c → refusalBy (statusOf c) ≡ 2
+pub status-above : (c : ℕ) → CODES ≤ c → refusalBy (statusOf c) ≡ 2
 unfolding statusOf
 status-above c h = go (eqb c 14) refl
   where

@@ -8,3 +8,5 @@ pub mod Cases
 pub mod Back
 pub mod Forth
 pub mod RoundTrip
+pub mod Calls
+pub mod Examples

@@ -9,7 +9,7 @@ use lib.ListN.{length, getD, take, drop, replicate, length-append}
 use lib.Seq.{length-take-le, drop-length, getD-at, drop-at, take-at}
 use lib.Dec.{eqb}
 use borrow.Author.Tests.{eqb-true, eqb-false}
-use Rattle.analysis.specs.Register.{statusOf, ifElse}
+use Rattle.analysis.specs.Register.{CODES, statusOf, ifElse}
 use Rattle.analysis.specs.Check.{greatestOf, inRange, allInRange, refusalOf}
 use Rattle.analysis.specs.Ranges.{passed-ranges}
 use Rattle.sheet.specs.declared.Reading.{Reading}
@@ -20,12 +20,12 @@ use Rattle.sheet.specs.declared.Split.{Split}
 use Rattle.sheet.specs.declared.Written.the-variants as w
 use Rattle.sheet.specs.Components.{codesReading, amountsFrom, zeroListed, countOf, componentBytes}
 use Rattle.sheet.specs.Split.{RECORDS, allowedCount, recordBytes, splitBytes, byteColumn, amountColumn, padded, splitAt, noSplit, trimmed}
-use Rattle.sheet.specs.Sheet.{SHEET, sheetOf, sectionsOf}
+use Rattle.sheet.specs.Sheet.{LISTED, SHEET, sheetOf, sectionsOf}
 use Rattle.sheet.specs.Read.{amountsOf, amountsRefusal, contentOf, readOf}
 use Rattle.sheet.specs.Write.{writeRefusal, writtenOf, leftOf}
 use Rattle.sheet.specs.Cases.{both-true, allowed-most, Sectioned, sectioned, sections-both, read-good, Whole, read-whole, amounts-checked, amounts-back, length-components, length-sheet, number-none, number-back, written-length, written-back, left-sheet}
-use Rattle.sheet.specs.Back.{unlisted, codes-back, zero-back, fill-back, rest-here, cut, cut-take, split-back}
-use Rattle.sheet.specs.Forth.{Bytes, one, Filled, fill-forth, split-forth, column-forth, length-bytes, length-nums}
+use Rattle.sheet.specs.Back.{unlisted, codes-back, zero-back, amounts-filled, rest-here, cut, cut-take, split-back}
+use Rattle.sheet.specs.Forth.{Bytes, one, Filled, filled-forth, split-forth, column-forth, length-byte-column, length-amount-column}
 
 -- ---- how long a sheet is
 
@@ -49,13 +49,13 @@ count-room k (x ∷ xs) h =
     go g r false false e f = omega (arith, r)
 
 -- at most eleven codes are listed
-pub count-most : (a : List ℕ) → length a ≡ 14 → refusalOf a ≡ 0 → countOf a ≤ 11
+pub count-most : (a : List ℕ) → length a ≡ CODES → refusalOf a ≡ 0 → countOf a ≤ LISTED
 unfolding room statusOf
 count-most a l h =
-    let r : countOf a ≤ room 0 14 = subst (λ (n : ℕ). countOf a ≤ room 0 n) l (count-room 0 a (passed-ranges a h)) in r
+    let r : countOf a ≤ room 0 CODES = subst (λ (n : ℕ). countOf a ≤ room 0 n) l (count-room 0 a (passed-ranges a h)) in r
 
 -- a sheet that is written, or read, has at most 111 bytes
-pub longest-written : (a : List ℕ) (p : Split) (size : ℕ) → length a ≡ 14 → writeRefusal a p size ≡ 0 → length (sheetOf a p) ≤ SHEET
+pub longest-written : (a : List ℕ) (p : Split) (size : ℕ) → length a ≡ CODES → writeRefusal a p size ≡ 0 → length (sheetOf a p) ≤ SHEET
 longest-written a p size l h =
     let g = number-back a p size h in
     let n = count-most a l (g .1) in
@@ -74,10 +74,10 @@ longest-read s code h =
 
 -- an analysis and a split as they stand in arrays
 pub record Sized (a : List ℕ) (p : Split) : Type 0 where
-  pub amounts-of-codes : length a ≡ 14
-  pub systems : length (p .systems) ≡ 9
-  pub codes : length (p .codes) ≡ 9
-  pub amounts : length (p .amounts) ≡ 9
+  pub amounts-of-codes : length a ≡ CODES
+  pub systems : length (p .systems) ≡ RECORDS
+  pub codes : length (p .codes) ≡ RECORDS
+  pub amounts : length (p .amounts) ≡ RECORDS
 
 pad-same : (m z : ℕ) (xs : List ℕ) → m + z ≡ length xs → ((i : ℕ) → m ≤ i → getD xs i 0 ≡ 0) → take m xs ++ replicate z 0 ≡ xs
 pad-same zero zero [] e h = refl
@@ -89,12 +89,12 @@ pad-same zero (suc z) (x ∷ xs) e h =
 pad-same (suc m) z [] e h = absurd (omega arith)
 pad-same (suc m) z (x ∷ xs) e h = ap (λ (l : List ℕ). x ∷ l) (pad-same m z xs (omega arith) (λ i k. h (suc i) (omega arith)))
 
-module _ (m : ℕ) (xs : List ℕ) (h : m ≤ 9) (l : length xs ≡ 9) where
+module _ (m : ℕ) (xs : List ℕ) (h : m ≤ RECORDS) (l : length xs ≡ RECORDS) where
   taken : length (take m xs) ≡ m
   taken = length-take-le m xs (omega arith)
 
   column-same : ((i : ℕ) → m ≤ i → getD xs i 0 ≡ 0) → padded (take m xs) ≡ xs
-  column-same z = ap (λ (k : ℕ). take m xs ++ replicate (9 - k) 0) taken ∙ pad-same m (9 - m) xs (omega arith) z
+  column-same z = ap (λ (k : ℕ). take m xs ++ replicate (RECORDS - k) 0) taken ∙ pad-same m (RECORDS - m) xs (omega arith) z
 
   column-cut : cut m 0 xs ≡ take m xs
   column-cut = cut-take m 0 xs (omega arith)
@@ -106,7 +106,7 @@ pub record Unused (p : Split) : Type 0 where
   pub amounts : (i : ℕ) → p .count ≤ i → getD (p .amounts) i 0 ≡ 0
 
 -- trimming such a split changes nothing
-pub trimmed-same : (a : List ℕ) (p : Split) → Sized a p → p .count ≤ 9 → Unused p → trimmed p ≡ p
+pub trimmed-same : (a : List ℕ) (p : Split) → Sized a p → p .count ≤ RECORDS → Unused p → trimmed p ≡ p
 trimmed-same a p k h u =
     let x = column-same (p .count) (p .systems) h (k .systems) (u .systems) in
     let y = column-same (p .count) (p .codes) h (k .codes) (u .codes) in
@@ -116,13 +116,13 @@ trimmed-same a p k h u =
 -- nor does trimming a split that was read
 pub trimmed-read : (m : ℕ) (s : List ℕ) (at : ℕ) → trimmed (splitAt m s at) ≡ splitAt m s at
 trimmed-read m s at =
-    let x = column (byteColumn m s at) (length-bytes m s at) in
-    let y = column (byteColumn m s (at + 1)) (length-bytes m s (at + 1)) in
-    let z = column (amountColumn m s (at + 2)) (length-nums m s (at + 2)) in
+    let x = column (byteColumn m s at) (length-byte-column m s at) in
+    let y = column (byteColumn m s (at + 1)) (length-byte-column m s (at + 1)) in
+    let z = column (amountColumn m s (at + 2)) (length-amount-column m s (at + 2)) in
     λ i. record { count = m; systems = x i; codes = y i; amounts = z i }
   where
     column : (vs : List ℕ) → length vs ≡ m → padded (take m (padded vs)) ≡ padded vs
-    column vs l = ap padded (take-at vs (replicate (9 - length vs) 0) m l)
+    column vs l = ap padded (take-at vs (replicate (RECORDS - length vs) 0) m l)
 
 -- ---- reading what was written
 
@@ -178,8 +178,8 @@ module _ (xs : List ℕ) (p : Split) (k : Sized (0 ∷ xs) p) (allowed : allowed
   amounts : amountsOf n s ≡ 0 ∷ xs
   unfolding s r n
   amounts =
-      let l : length xs ≡ 13 = omega (arith, k .amounts-of-codes) in
-      ap (λ (j : ℕ). amountsFrom n s 1 (0 ∷ replicate j 0)) (sym l) ∙ fill-back xs 1 (0 ∷ []) s 1 r refl refl
+      let l : length xs ≡ CODES - 1 = omega (arith, k .amounts-of-codes) in
+      ap (λ (j : ℕ). amountsFrom n s 1 (0 ∷ replicate j 0)) (sym l) ∙ amounts-filled xs 1 (0 ∷ []) s 1 r refl refl
 
   split : splitAt (p .count) s (2 + 5 * n) ≡ trimmed p
   unfolding s n
@@ -242,8 +242,8 @@ module _ (s : List ℕ) (bytes : Bytes s) (x : Whole s) where
   passed : (zeroListed (x .n) s 1 ≡ false) × (refusalOf (amountsOf (x .n) s) ≡ 0)
   passed = amounts-back (x .n) s (x .amounts)
 
-  filled : Filled (x .n) s 1 0 (1 + 5 * x .n) (0 ∷ []) 13
-  filled = fill-forth (x .n) s bytes 1 0 0 (1 + 5 * x .n) (0 ∷ []) 13 (x .codes) (passed .0) refl refl refl (omega (arith, shape .size))
+  filled : Filled (x .n) s 1 0 (1 + 5 * x .n) (0 ∷ []) (CODES - 1)
+  filled = filled-forth (x .n) s bytes 1 0 0 (1 + 5 * x .n) (0 ∷ []) (CODES - 1) (x .codes) (passed .0) refl refl refl (omega (arith, shape .size))
 
   p : Split
   p = splitAt (x .m) s (x .first)
@@ -257,9 +257,9 @@ module _ (s : List ℕ) (bytes : Bytes s) (x : Whole s) where
       let k : length s ≤ length s = omega arith in
       let f = split-forth s bytes (p .systems) (p .codes) (p .amounts) (x .m) 0 (x .first) (length s)
       (omega (arith, shape .size, shape .begins)) k
-      (column (byteColumn (x .m) s (x .first)) (length-bytes (x .m) s (x .first)))
-      (column (byteColumn (x .m) s (x .first + 1)) (length-bytes (x .m) s (x .first + 1)))
-      (column (amountColumn (x .m) s (x .first + 2)) (length-nums (x .m) s (x .first + 2))) in
+      (column (byteColumn (x .m) s (x .first)) (length-byte-column (x .m) s (x .first)))
+      (column (byteColumn (x .m) s (x .first + 1)) (length-byte-column (x .m) s (x .first + 1)))
+      (column (amountColumn (x .m) s (x .first + 2)) (length-amount-column (x .m) s (x .first + 2))) in
       sym (append-nil _) ∙ ap (λ (l : List ℕ). splitBytes p ++ l) (sym (drop-length s)) ∙ f
 
   sheet-same : sheetOf (amountsOf (x .n) s) (splitAt (x .m) s (x .first)) ≡ s
@@ -270,7 +270,7 @@ module _ (s : List ℕ) (bytes : Bytes s) (x : Whole s) where
       ap (λ (a : List ℕ). (countOf a ∷ componentBytes 0 a) ++ q) (filled .filled)
       ∙ ap (λ (j : ℕ). (j ∷ componentBytes 1 (filled .ys)) ++ q) (filled .count)
       ∙ ap (λ (l : List ℕ). (x .n ∷ componentBytes 1 (filled .ys)) ++ l) e
-      ∙ ap (λ (l : List ℕ). x .n ∷ l) (filled .comps)
+      ∙ ap (λ (l : List ℕ). x .n ∷ l) (filled .bytes-filled)
       ∙ ap (λ (j : ℕ). j ∷ drop 1 s) (shape .components)
       ∙ sym (one s bytes 0 1 refl (omega (arith, shape .size)))
 

@@ -18,9 +18,9 @@ use Rattle.sheet.specs.Split.{allowedCount, splitBytes}
 abbrev pub sheetOf : List ℕ → Split → List ℕ
 sheetOf a p = (countOf a ∷ componentBytes 0 a) ++ (p .count ∷ splitBytes p)
 
--- the most components, and the bytes of the longest sheet
-abbrev pub COMPONENT_RECORDS : ℕ
-COMPONENT_RECORDS = 11
+-- the most components that a sheet lists, and the bytes of the longest sheet
+abbrev pub LISTED : ℕ
+LISTED = 11
 
 abbrev pub SHEET : ℕ
 SHEET = 111
@@ -35,7 +35,7 @@ withSplit s n (found.Records m first end) =
 abbrev pub withComponents : List ℕ → Section → Sections
 withComponents s found.Torn = Torn
 withComponents s (found.Records n first end) =
-    ifElse (leb n COMPONENT_RECORDS) (withSplit s n (sectionAt s end 6)) Torn
+    ifElse (leb n LISTED) (withSplit s n (sectionAt s end 6)) Torn
 
 unfoldable pub sectionsOf : List ℕ → Sections
 sectionsOf s = withComponents s (sectionAt s 0 5)

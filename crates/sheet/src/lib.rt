@@ -4,11 +4,13 @@ ghost use mathlib.Core.Path.{_≡_};
 ghost use Rattle.sheet.specs.Split.{allowedCount};
 use analysis::Analysis;
 
-// The most records of components, the most records of a split, and the bytes of the longest sheet.
-pub const COMPONENT_RECORDS: usize = 11;
+// The most components that a sheet lists.
+pub const LISTED: usize = 11;
 
+// The most records of a split.
 pub const RECORDS: usize = 9;
 
+// The bytes of the longest sheet.
 pub const SHEET: usize = 111;
 
 // A split as records, in a sheet's order; a count of 0 is no split. Places from the count on are not used.
@@ -48,12 +50,12 @@ pub enum Written {
     Refused { number: u32, code: u32 },
 }
 
-// May a split have so many records?
+// May a split have so many records? None, or nine.
 pub fn allowed_count(count: usize) -> bool
     ensures { λ r. ⌜ r ≡ allowedCount count ⌝ }
 {
     if count == 0 {
         return true;
     }
-    count == RECORDS
+    count == 9
 }

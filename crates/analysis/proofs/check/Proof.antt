@@ -1,3 +1,4 @@
+-- `analysis::check` meets its contract. Assumes nothing.
 use mathlib.Core.Path.{_≡_, sym, ap, _∙_, refl}
 use Prim.Native.Nat.{ℕ, suc, _+_, _-_, _*_, _≤_, _<_}
 use native.Mathlib.Omega.{arith}
@@ -5,12 +6,6 @@ use Rattle.analysis.proofs.Turns.{answer-none, answer-range, answer-tot
 use borrow.Author.Needs.{needs}
 use Rattle.analysis.proofs.check.Statement.{statement}
 use Rattle.analysis.proofs.check.Tie as tie
-use Rattle.analysis.proofs.check.Reads as reads
-use Rattle.analysis.proofs.check.Lts as lts
-use Rattle.analysis.proofs.first_fault.Reads as first-fault-reads
-use Rattle.analysis.proofs.refusal.Reads as refusal-reads
-use Rattle.analysis.proofs.total.Reads as total-reads
-use Rattle.analysis.proofs.total_fits.Reads as total-fits-reads
 
 first-fault-requires : tie.Need-first-fault-requires
 first-fault-requires c κs = search needs

@@ -1,6 +1,8 @@
+-- `analysis::first_fault` meets its contract. The loop's invariant: the amounts from this code on are in range where all are. Assumes nothing.
 use mathlib.Core.Path.{_≡_, sym, ap, _∙_, refl}
 use Prim.Native.Nat.{ℕ, suc, _+_, _-_, _*_, _≤_, _<_}
 use native.Mathlib.Omega.{arith}
+use Rattle.analysis.specs.Register.{CODES}
 use borrow.Author.Tests.{not-true, not-false, eq-eqb, ne-eqb}
 use lib.ListN.{length, getD, drop}
 use Rattle.analysis.specs.Check.{allInRange}
@@ -8,15 +10,12 @@ use Rattle.analysis.proofs.Turns.{all-go, all-stop, all-end}
 use borrow.Author.Needs.{needs}
 use Rattle.analysis.proofs.first_fault.Statement.{statement}
 use Rattle.analysis.proofs.first_fault.Tie as tie
-use Rattle.analysis.proofs.first_fault.Reads as reads
-use Rattle.analysis.proofs.first_fault.Lts as lts
-use Rattle.analysis.proofs.in_range.Reads as in-range-reads
 
 abbrev Inv-loop : tie.InvT-loop
-Inv-loop amounts code₀ code = (code ≤ 14) × (length amounts ≡ 14) × (allInRange code (drop code amounts) ≡ allInRange 0 amounts)
+Inv-loop amounts code₀ code = (code ≤ CODES) × (length amounts ≡ CODES) × (allInRange code (drop code amounts) ≡ allInRange 0 amounts)
 
 abbrev μ-loop : tie.MeasureT-loop
-μ-loop amounts code₀ code = 14 - code
+μ-loop amounts code₀ code = CODES - code
 
 loop-holds : tie.Need-loop-holds Inv-loop μ-loop
 loop-holds c = search needs
@@ -38,7 +37,7 @@ returns c =
     let f = sym (c .before .in-range .ensures) ∙ not-true _ (c .if1 .taken) in
     record {
       within = search needs;
-      ranges = ne-eqb (l .code) 14 (λ e. omega arith) ∙ sym (all-stop (l .code) (a .t1) h f) ∙ l .inv .2;
+      ranges = ne-eqb (l .code) CODES (λ e. omega arith) ∙ sym (all-stop (l .code) (a .t1) h f) ∙ l .inv .2;
       fault = λ _. f;
     }
 
@@ -63,7 +62,7 @@ returns-2 c =
     let h : length (a .t1) ≤ l .code = omega arith in
     record {
       within = search needs;
-      ranges = eq-eqb (l .code) 14 (omega arith) ∙ sym (all-end (l .code) (a .t1) h) ∙ l .inv .2;
+      ranges = eq-eqb (l .code) CODES (omega arith) ∙ sym (all-end (l .code) (a .t1) h) ∙ l .inv .2;
       fault = λ e. absurd (omega arith);
     }
 

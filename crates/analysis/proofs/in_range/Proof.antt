@@ -1,3 +1,4 @@
+-- `analysis::in_range` meets its contract. Assumes nothing.
 use mathlib.Core.Path.{_≡_, sym, ap, _∙_, refl}
 use Prim.Native.Nat.{ℕ, suc, _+_, _-_, _*_, _≤_, _<_}
 use native.Mathlib.Omega.{arith}
@@ -5,8 +6,6 @@ use Rattle.analysis.proofs.Tables.{absent, above, below}
 use borrow.Author.Needs.{needs}
 use Rattle.analysis.proofs.in_range.Statement.{statement}
 use Rattle.analysis.proofs.in_range.Tie as tie
-use Rattle.analysis.proofs.in_range.Reads as reads
-use Rattle.analysis.proofs.in_range.Lts as lts
 
 array-read-result : tie.Need-array-read-result
 array-read-result c = search needs

@@ -1,3 +1,4 @@
+-- `analysis::refusal` meets its contract. Assumes nothing.
 use mathlib.Core.Path.{_≡_, sym, ap, _∙_, refl}
 use Prim.Native.Nat.{ℕ, suc, _+_, _-_, _*_, _≤_, _<_}
 use native.Mathlib.Omega.{arith}
@@ -6,8 +7,6 @@ use borrow.Author.Tests.{not-true, not-false}
 use borrow.Author.Needs.{needs}
 use Rattle.analysis.proofs.refusal.Statement.{statement}
 use Rattle.analysis.proofs.refusal.Tie as tie
-use Rattle.analysis.proofs.refusal.Reads as reads
-use Rattle.analysis.proofs.refusal.Lts as lts
 
 returns : tie.Need-returns
 returns c = let e : c .before .args .ranges ≡ false = not-true _ (c .if1 .taken) in rw e

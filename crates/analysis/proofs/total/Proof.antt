@@ -1,21 +1,20 @@
+-- `analysis::total` meets its contract. The loop's invariant: the sum so far and the amounts from this code on make the total. Assumes nothing.
 use mathlib.Core.Path.{_≡_, sym, ap, _∙_, refl}
 use Prim.Native.Nat.{ℕ, suc, _+_, _-_, _*_, _≤_, _<_}
 use native.Mathlib.Omega.{arith}
+use Rattle.analysis.specs.Register.{CODES}
 use lib.ListN.{length, getD, drop}
 use Rattle.analysis.specs.Check.{totalOf}
 use Rattle.analysis.specs.Ranges.{total-go, total-end}
 use borrow.Author.Needs.{needs}
 use Rattle.analysis.proofs.total.Statement.{statement}
 use Rattle.analysis.proofs.total.Tie as tie
-use Rattle.analysis.proofs.total.Reads as reads
-use Rattle.analysis.proofs.total.Lts as lts
-use Rattle.analysis.proofs.plus.Reads as plus-reads
 
 abbrev Inv-loop : tie.InvT-loop
-Inv-loop amounts sum₀ code₀ sum code = (code ≤ 14) × (length amounts ≡ 14) × (sum ≤ code * 4294967295) × (sum + totalOf (drop code amounts) ≡ totalOf amounts)
+Inv-loop amounts sum₀ code₀ sum code = (code ≤ CODES) × (length amounts ≡ CODES) × (sum ≤ code * 4294967295) × (sum + totalOf (drop code amounts) ≡ totalOf amounts)
 
 abbrev μ-loop : tie.MeasureT-loop
-μ-loop amounts sum₀ code₀ sum code = 14 - code
+μ-loop amounts sum₀ code₀ sum code = CODES - code
 
 loop-holds : tie.Need-loop-holds Inv-loop μ-loop
 loop-holds c = search needs

@@ -1,3 +1,4 @@
+-- `analysis::total_fits` meets its contract. Assumes nothing.
 use mathlib.Core.Path.{_≡_, sym, ap, _∙_, refl}
 use Prim.Native.Nat.{ℕ, suc, _+_, _-_, _*_, _≤_, _<_}
 use native.Mathlib.Omega.{arith}
@@ -5,8 +6,6 @@ use Rattle.analysis.proofs.Turns.{fits-low, fits-high}
 use borrow.Author.Needs.{needs}
 use Rattle.analysis.proofs.total_fits.Statement.{statement}
 use Rattle.analysis.proofs.total_fits.Tie as tie
-use Rattle.analysis.proofs.total_fits.Reads as reads
-use Rattle.analysis.proofs.total_fits.Lts as lts
 
 returns : tie.Need-returns
 returns c = sym (fits-low _ (c .if1 .taken))

@@ -1,6 +1,8 @@
+-- `reader::amounts` meets its contract. The loop's invariant: the amounts so far and the records from place i on give those of all. Assumes nothing.
 use mathlib.Core.Path.{_≡_, sym, ap, _∙_, refl}
 use Prim.Native.Nat.{ℕ, suc, _+_, _-_, _*_, _≤_, _<_}
 use native.Mathlib.Omega.{arith}
+use Rattle.analysis.specs.Register.{CODES}
 use native.Mathlib.Nat.{sub-zero}
 use mathlib.Core.List.{List}
 use mathlib.Core.Logic.{⊎-elim}
@@ -12,12 +14,9 @@ use Rattle.reader.proofs.Turns.{amounts-go, amounts-end}
 use borrow.Author.Needs.{needs}
 use Rattle.reader.proofs.amounts.Statement.{statement}
 use Rattle.reader.proofs.amounts.Tie as tie
-use Rattle.reader.proofs.amounts.Reads as reads
-use Rattle.reader.proofs.amounts.Lts as lts
-use Rattle.reader.proofs.amount_at.Reads as amount-at-reads
 
 abbrev Inv-loop : tie.InvT-loop
-Inv-loop s n a₀ i₀ at₀ a i at = (i ≤ n) × (at ≡ 1 + 5 * i) × (length a ≡ 14) × (amountsFrom (n - i) s at a ≡ amountsFrom n s 1 (replicate 14 0))
+Inv-loop s n a₀ i₀ at₀ a i at = (i ≤ n) × (at ≡ 1 + 5 * i) × (length a ≡ CODES) × (amountsFrom (n - i) s at a ≡ amountsFrom n s 1 (replicate CODES 0))
 
 abbrev μ-loop : tie.MeasureT-loop
 μ-loop s n a₀ i₀ at₀ a i at = n - i

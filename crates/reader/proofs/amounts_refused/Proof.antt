@@ -1,3 +1,4 @@
+-- `reader::amounts_refused` meets its contract. Assumes nothing.
 use mathlib.Core.Path.{_≡_, sym, ap, _∙_, refl}
 use Prim.Native.Nat.{ℕ, suc, _+_, _-_, _*_, _≤_, _<_}
 use native.Mathlib.Omega.{arith}
@@ -5,9 +6,6 @@ use Rattle.reader.proofs.Answers.{zero-found, checked-found}
 use borrow.Author.Needs.{needs}
 use Rattle.reader.proofs.amounts_refused.Statement.{statement}
 use Rattle.reader.proofs.amounts_refused.Tie as tie
-use Rattle.reader.proofs.amounts_refused.Reads as reads
-use Rattle.reader.proofs.amounts_refused.Lts as lts
-use Rattle.reader.proofs.zero_record.Reads as zero-record-reads
 
 zero-record-requires : tie.Need-zero-record-requires
 zero-record-requires c κs = search needs

@@ -1,3 +1,4 @@
+-- `reader::code_refusal` meets its contract. Assumes nothing.
 use mathlib.Core.Path.{_≡_, sym, ap, _∙_, refl}
 use Prim.Native.Nat.{ℕ, suc, _+_, _-_, _*_, _≤_, _<_}
 use native.Mathlib.Omega.{arith}
@@ -5,8 +6,6 @@ use Rattle.reader.proofs.Turns.{beyond, by-status, by-order, fine}
 use borrow.Author.Needs.{needs}
 use Rattle.reader.proofs.code_refusal.Statement.{statement}
 use Rattle.reader.proofs.code_refusal.Tie as tie
-use Rattle.reader.proofs.code_refusal.Reads as reads
-use Rattle.reader.proofs.code_refusal.Lts as lts
 
 returns : tie.Need-returns
 returns c = sym (beyond _ _ (c .if1 .taken))

@@ -1,34 +1,30 @@
+-- `reader::codes` meets its contract. The loop's invariant: the records from place i on give the reading of all. Assumes nothing.
 use mathlib.Core.Path.{_≡_, sym, ap, _∙_, refl}
 use Prim.Native.Nat.{ℕ, suc, _+_, _-_, _*_, _≤_, _<_}
 use native.Mathlib.Omega.{arith}
 use native.Mathlib.Nat.{sub-zero}
+use lib.ListN.{getD}
 use Rattle.sheet.specs.declared.Reading.the-variants.{Refused}
 use Rattle.sheet.specs.Components.{codesReading, codeRefusal}
 use Rattle.reader.proofs.Turns.{codes-go, codes-stop, codes-end}
 use borrow.Author.Needs.{needs}
 use Rattle.reader.proofs.codes.Statement.{statement}
 use Rattle.reader.proofs.codes.Tie as tie
-use Rattle.reader.proofs.codes.Reads as reads
-use Rattle.reader.proofs.codes.Lts as lts
-use Rattle.reader.proofs.code_refusal.Reads as code-refusal-reads
 
 abbrev Inv-loop : tie.InvT-loop
-Inv-loop s n i₀ at₀ p₀ i at p = (i ≤ n) × (at ≡ 1 + 5 * i) × (codesReading (n - i) s at i p ≡ codesReading n s 1 0 0)
+Inv-loop s n i₀ place₀ at₀ p₀ i place at p = (i ≤ n) × (at ≡ 1 + 5 * i) × (place ≡ i) × (codesReading (n - i) s at i p ≡ codesReading n s 1 0 0)
 
 abbrev μ-loop : tie.MeasureT-loop
-μ-loop s n i₀ at₀ p₀ i at p = n - i
+μ-loop s n i₀ place₀ at₀ p₀ i place at p = n - i
 
 loop-holds : tie.Need-loop-holds Inv-loop μ-loop
-loop-holds c = (search needs, search needs, simp sub-zero)
+loop-holds c = (search needs, search needs, search needs, simp sub-zero)
 
 shared-slice-read-c : tie.Need-shared-slice-read-c Inv-loop μ-loop
 shared-slice-read-c c = search needs
 
 code-refusal-requires : tie.Need-code-refusal-requires Inv-loop μ-loop
 code-refusal-requires c κs = search needs
-
-cast-t11 : tie.Need-cast-t11 Inv-loop μ-loop
-cast-t11 c = search needs
 
 returns : tie.Need-returns Inv-loop μ-loop
 returns c =
@@ -37,10 +33,16 @@ returns c =
     let t = c .before .before .before .loop-test .taken in
     let f = c .before .code-refusal .ensures in
     let stop = codes-stop (a .n) (l .i) (a .s .now) (l .at) (l .p) t (λ z. c .if1 .taken (f ∙ z)) in
-    ap (λ (x : ℕ). Refused x (l .i) 0) f ∙ sym stop ∙ l .inv .2
+    ap (λ (x : ℕ). Refused x (l .place) 0) f
+    ∙ ap (λ (x : ℕ). Refused (codeRefusal (getD (a .s .now) (l .at) 0) (l .p)) x 0) (l .inv .2)
+    ∙ sym stop
+    ∙ l .inv .3
 
 add-i : tie.Need-add-i Inv-loop μ-loop
 add-i c = search needs
+
+add-place : tie.Need-add-place Inv-loop μ-loop
+add-place c = search needs
 
 add-at : tie.Need-add-at Inv-loop μ-loop
 add-at c = search needs
@@ -55,13 +57,13 @@ loop-again c =
     let t = c .before .before .before .loop-test .taken in
     let f = c .before .code-refusal .ensures in
     let go = codes-go (a .n) (l .i) (a .s .now) (l .at) (l .p) t (sym f ∙ c .if1 .left) in
-    (search needs, search needs, sym go ∙ l .inv .2)
+    (search needs, search needs, search needs, sym go ∙ l .inv .3)
 
 returns-2 : tie.Need-returns-2 Inv-loop μ-loop
 returns-2 c =
     let a = c .before .before .before .args in
     let l = c .before .loop in
-    sym (codes-end (a .n) (l .i) (a .s .now) (l .at) (l .p) (c .loop-test .left)) ∙ l .inv .2
+    sym (codes-end (a .n) (l .i) (a .s .now) (l .at) (l .p) (c .loop-test .left)) ∙ l .inv .3
 
 pub codes-spec : {M : Type 1} → statement M
 codes-spec =
@@ -72,9 +74,9 @@ codes-spec =
     loop-holds
     shared-slice-read-c
     code-refusal-requires
-    cast-t11
     returns
     add-i
+    add-place
     add-at
     loop-less
     loop-again

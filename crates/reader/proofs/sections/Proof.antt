@@ -1,3 +1,4 @@
+-- `reader::sections` meets its contract. Assumes nothing.
 use mathlib.Core.Path.{_≡_, sym, ap, _∙_, refl}
 use Prim.Native.Nat.{ℕ, suc, _+_, _-_, _*_, _≤_, _<_}
 use native.Mathlib.Omega.{arith}
@@ -6,8 +7,6 @@ use Rattle.reader.proofs.Answers.{first-torn, too-many, second-torn, no
 use borrow.Author.Needs.{needs}
 use Rattle.reader.proofs.sections.Statement.{statement}
 use Rattle.reader.proofs.sections.Tie as tie
-use Rattle.reader.proofs.sections.Reads as reads
-use Rattle.reader.proofs.sections.Lts as lts
 
 peek-requires : tie.Need-peek-requires
 peek-requires c κs = search needs

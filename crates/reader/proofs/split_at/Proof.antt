@@ -1,3 +1,4 @@
+-- `reader::split_at` meets its contract. The loop's invariant: the columns so far and the records from place i on give those of all. Assumes nothing.
 use mathlib.Core.Path.{_≡_, sym, ap, _∙_, refl}
 use Prim.Native.Nat.{ℕ, suc, _+_, _-_, _*_, _≤_, _<_}
 use native.Mathlib.Omega.{arith}
@@ -6,21 +7,18 @@ use lib.ListN.{length, getD, set, replicate}
 use lib.Seq.{sets}
 use Rattle.sheet.specs.declared.Split.{Split}
 use Rattle.sheet.specs.Bytes.{numberAt}
-use Rattle.sheet.specs.Split.{byteColumn, amountColumn}
-use Rattle.sheet.specs.Forth.{length-bytes, length-nums}
+use Rattle.sheet.specs.Split.{RECORDS, byteColumn, amountColumn}
+use Rattle.sheet.specs.Forth.{length-byte-column, length-amount-column}
 use Rattle.reader.proofs.Turns.{bytes-go, column-go, bytes-end, column-end, sets-padded}
 use borrow.Author.Needs.{needs}
 use Rattle.reader.proofs.split_at.Statement.{statement}
 use Rattle.reader.proofs.split_at.Tie as tie
-use Rattle.reader.proofs.split_at.Reads as reads
-use Rattle.reader.proofs.split_at.Lts as lts
-use Rattle.reader.proofs.amount_at.Reads as amount-at-reads
 
 abbrev Inv-loop : tie.InvT-loop
 Inv-loop s at m systems₀ codes₀ amounts₀ i₀ w₀ systems codes amounts i w = (i ≤ m) × (w ≡ at + 6 * i)
-    × (sets systems i (byteColumn (m - i) s w) ≡ sets (replicate 9 0) 0 (byteColumn m s at))
-    × (sets codes i (byteColumn (m - i) s (w + 1)) ≡ sets (replicate 9 0) 0 (byteColumn m s (at + 1)))
-    × (sets amounts i (amountColumn (m - i) s (w + 2)) ≡ sets (replicate 9 0) 0 (amountColumn m s (at + 2)))
+    × (sets systems i (byteColumn (m - i) s w) ≡ sets (replicate RECORDS 0) 0 (byteColumn m s at))
+    × (sets codes i (byteColumn (m - i) s (w + 1)) ≡ sets (replicate RECORDS 0) 0 (byteColumn m s (at + 1)))
+    × (sets amounts i (amountColumn (m - i) s (w + 2)) ≡ sets (replicate RECORDS 0) 0 (amountColumn m s (at + 2)))
 
 abbrev μ-loop : tie.MeasureT-loop
 μ-loop s at m systems₀ codes₀ amounts₀ i₀ w₀ systems codes amounts i w = m - i
@@ -83,9 +81,9 @@ returns c =
     let l = c .before .loop in
     let t = c .loop-test .left in
     let s = a .s .now in
-    let x = sym (bytes-end (a .m) (l .i) s (l .w) (l .systems) t) ∙ l .inv .2 ∙ sets-padded (byteColumn (a .m) s (a .at)) (omega (arith, length-bytes (a .m) s (a .at))) in
-    let y = sym (bytes-end (a .m) (l .i) s (l .w + 1) (l .codes) t) ∙ l .inv .3 ∙ sets-padded (byteColumn (a .m) s (a .at + 1)) (omega (arith, length-bytes (a .m) s (a .at + 1))) in
-    let z = sym (column-end (a .m) (l .i) s (l .w + 2) (l .amounts) t) ∙ l .inv .4 ∙ sets-padded (amountColumn (a .m) s (a .at + 2)) (omega (arith, length-nums (a .m) s (a .at + 2))) in
+    let x = sym (bytes-end (a .m) (l .i) s (l .w) (l .systems) t) ∙ l .inv .2 ∙ sets-padded (byteColumn (a .m) s (a .at)) (omega (arith, length-byte-column (a .m) s (a .at))) in
+    let y = sym (bytes-end (a .m) (l .i) s (l .w + 1) (l .codes) t) ∙ l .inv .3 ∙ sets-padded (byteColumn (a .m) s (a .at + 1)) (omega (arith, length-byte-column (a .m) s (a .at + 1))) in
+    let z = sym (column-end (a .m) (l .i) s (l .w + 2) (l .amounts) t) ∙ l .inv .4 ∙ sets-padded (amountColumn (a .m) s (a .at + 2)) (omega (arith, length-amount-column (a .m) s (a .at + 2))) in
     λ j. record { count = a .m; systems = x j; codes = y j; amounts = z j }
 
 pub split-at-spec : {M : Type 1} → statement M

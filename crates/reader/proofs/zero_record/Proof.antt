@@ -1,3 +1,4 @@
+-- `reader::zero_record` meets its contract. The loop's invariant: one of the records from place i on is at 0 where one of all is. Assumes nothing.
 use mathlib.Core.Path.{_≡_, sym, ap, _∙_, refl}
 use Prim.Native.Nat.{ℕ, suc, _+_, _-_, _*_, _≤_, _<_}
 use native.Mathlib.Omega.{arith}
@@ -9,9 +10,6 @@ use Rattle.reader.proofs.Turns.{zero-go, zero-stop, zero-end}
 use borrow.Author.Needs.{needs}
 use Rattle.reader.proofs.zero_record.Statement.{statement}
 use Rattle.reader.proofs.zero_record.Tie as tie
-use Rattle.reader.proofs.zero_record.Reads as reads
-use Rattle.reader.proofs.zero_record.Lts as lts
-use Rattle.reader.proofs.amount_at.Reads as amount-at-reads
 
 abbrev Inv-loop : tie.InvT-loop
 Inv-loop s n i₀ at₀ i at = (i ≤ n) × (at ≡ 1 + 5 * i) × (zeroListed (n - i) s at ≡ zeroListed n s 1)

@@ -1,3 +1,4 @@
+-- `sheet::allowed_count` meets its contract. Assumes nothing.
 use mathlib.Core.Path.{_≡_, sym, ap, _∙_, refl}
 use Prim.Native.Nat.{ℕ, suc, _+_, _-_, _*_, _≤_, _<_}
 use native.Mathlib.Omega.{arith}
@@ -6,8 +7,6 @@ use borrow.Author.Tests.{eq-eqb, ne-eqb}
 use borrow.Author.Needs.{needs}
 use Rattle.sheet.proofs.allowed_count.Statement.{statement}
 use Rattle.sheet.proofs.allowed_count.Tie as tie
-use Rattle.sheet.proofs.allowed_count.Reads as reads
-use Rattle.sheet.proofs.allowed_count.Lts as lts
 
 returns : tie.Need-returns
 unfolding allowedCount

@@ -1,3 +1,4 @@
+-- `writer::answer` meets its contract. Assumes nothing.
 use mathlib.Core.Path.{_≡_, sym, ap, _∙_, refl}
 use Prim.Native.Nat.{ℕ, suc, _+_, _-_, _*_, _≤_, _<_}
 use native.Mathlib.Omega.{arith}
@@ -7,9 +8,6 @@ use Rattle.writer.proofs.Answers.{answer-count, answer-check, answer-sh
 use borrow.Author.Needs.{needs}
 use Rattle.writer.proofs.answer.Statement.{statement}
 use Rattle.writer.proofs.answer.Tie as tie
-use Rattle.writer.proofs.answer.Reads as reads
-use Rattle.writer.proofs.answer.Lts as lts
-use Rattle.writer.proofs.listed.Reads as listed-reads
 
 allowed-count-requires : tie.Need-allowed-count-requires
 allowed-count-requires c κs = search needs

@@ -1,6 +1,8 @@
+-- `writer::listed` meets its contract. The loop's invariant: the count so far and that from this code on make the whole. Assumes nothing.
 use mathlib.Core.Path.{_≡_, sym, ap, _∙_, refl}
 use Prim.Native.Nat.{ℕ, suc, _+_, _-_, _*_, _≤_, _<_}
 use native.Mathlib.Omega.{arith}
+use Rattle.analysis.specs.Register.{CODES}
 use mathlib.Core.Logic.{⊎-elim}
 use lib.ListN.{length, getD, drop}
 use Rattle.sheet.specs.Components.{countOf}
@@ -8,14 +10,12 @@ use Rattle.writer.proofs.Turns.{count-none, count-one, count-end}
 use borrow.Author.Needs.{needs}
 use Rattle.writer.proofs.listed.Statement.{statement}
 use Rattle.writer.proofs.listed.Tie as tie
-use Rattle.writer.proofs.listed.Reads as reads
-use Rattle.writer.proofs.listed.Lts as lts
 
 abbrev Inv-loop : tie.InvT-loop
-Inv-loop a n₀ k₀ n k = (k ≤ 14) × (n ≤ k) × (length a ≡ 14) × (n + countOf (drop k a) ≡ countOf a)
+Inv-loop a n₀ k₀ n k = (k ≤ CODES) × (n ≤ k) × (length a ≡ CODES) × (n + countOf (drop k a) ≡ countOf a)
 
 abbrev μ-loop : tie.MeasureT-loop
-μ-loop a n₀ k₀ n k = 14 - k
+μ-loop a n₀ k₀ n k = CODES - k
 
 loop-holds : tie.Need-loop-holds Inv-loop μ-loop
 loop-holds c = (search needs, search needs, search needs, search needs)
@@ -36,7 +36,7 @@ loop-less : tie.Need-loop-less Inv-loop μ-loop
 loop-less c = search needs
 
 loop-again : tie.Need-loop-again Inv-loop μ-loop
-loop-again c = 
+loop-again c =
     let a = c .before .before .before .args in
     let l = c .before .before .loop in
     let h : l .k < length (a .t1) = omega arith in
@@ -46,7 +46,7 @@ loop-again c =
     (c .if1 .came)
 
 returns : tie.Need-returns Inv-loop μ-loop
-returns c = 
+returns c =
     let a = c .before .before .args in
     let l = c .before .loop in
     let h : length (a .t1) ≤ l .k = omega arith in

@@ -1,3 +1,4 @@
+-- `writer::put_amount` meets its contract. Assumes nothing.
 use mathlib.Core.Path.{_≡_, sym, ap, _∙_, refl}
 use Prim.Native.Nat.{ℕ, suc, _+_, _-_, _*_, _≤_, _<_}
 use native.Mathlib.Omega.{arith}
@@ -6,9 +7,6 @@ use Rattle.writer.proofs.Turns.{four-bytes}
 use borrow.Author.Needs.{needs}
 use Rattle.writer.proofs.put_amount.Statement.{statement}
 use Rattle.writer.proofs.put_amount.Tie as tie
-use Rattle.writer.proofs.put_amount.Reads as reads
-use Rattle.writer.proofs.put_amount.Lts as lts
-use Rattle.writer.proofs.put_byte.Reads as put-byte-reads
 
 cast-put-byte : tie.Need-cast-put-byte
 cast-put-byte c = search needs
@@ -47,7 +45,7 @@ same-length : tie.Need-same-length
 same-length c = search needs
 
 returns : tie.Need-returns
-returns c = 
+returns c =
     let a = c .before .before .before .before .before .before .before .before .before .before .before .before .before .before .before .before .before .args in
     four-bytes (a .b .now) _ _ _ _ (a .at) (a .x / 16777216) (a .x / 65536 % 256) (a .x / 256 % 256) (a .x % 256) (c .before .before .before .before .before .before .before .before .before .before .before .before .before .before .put-byte .ensures) (c .before .before .before .before .before .before .before .before .before .before .put-byte2 .ensures) (c .before .before .before .before .before .before .put-byte3 .ensures) (c .before .before .put-byte4 .ensures)
 

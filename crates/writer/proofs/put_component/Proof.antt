@@ -1,3 +1,4 @@
+-- `writer::put_component` meets its contract. Assumes nothing.
 use mathlib.Core.Path.{_≡_, sym, ap, _∙_, refl}
 use Prim.Native.Nat.{ℕ, suc, _+_, _-_, _*_, _≤_, _<_}
 use native.Mathlib.Omega.{arith}
@@ -6,10 +7,6 @@ use Rattle.writer.proofs.Turns.{byte-run}
 use borrow.Author.Needs.{needs}
 use Rattle.writer.proofs.put_component.Statement.{statement}
 use Rattle.writer.proofs.put_component.Tie as tie
-use Rattle.writer.proofs.put_component.Reads as reads
-use Rattle.writer.proofs.put_component.Lts as lts
-use Rattle.writer.proofs.put_amount.Reads as put-amount-reads
-use Rattle.writer.proofs.put_byte.Reads as put-byte-reads
 
 put-byte-requires : tie.Need-put-byte-requires
 put-byte-requires c κs = search needs
@@ -24,7 +21,7 @@ same-length : tie.Need-same-length
 same-length c = search needs
 
 returns : tie.Need-returns
-returns c = 
+returns c =
     let a = c .before .before .before .before .before .before .before .before .before .args in
     byte-run (a .b .now) _ _ (a .at) (a .code) (bytesOf (a .x)) (c .before .before .before .before .before .before .put-byte .ensures) (c .before .before .put-amount .ensures)
 

@@ -1,6 +1,8 @@
+-- `writer::put_components` meets its contract. The loop's invariant: the stores so far and those of the codes from k on make the whole run. Assumes nothing.
 use mathlib.Core.Path.{_≡_, sym, ap, _∙_, refl}
 use Prim.Native.Nat.{ℕ, suc, _+_, _-_, _*_, _≤_, _<_}
 use native.Mathlib.Omega.{arith}
+use Rattle.analysis.specs.Register.{CODES}
 use mathlib.Core.List.{List, _∷_, _++_}
 use mathlib.Core.Logic.{⊎-elim}
 use lib.ListN.{length, getD, drop}
@@ -11,15 +13,12 @@ use Rattle.writer.proofs.Turns.{sets-append, count-none, count-one, cou
 use borrow.Author.Needs.{needs}
 use Rattle.writer.proofs.put_components.Statement.{statement}
 use Rattle.writer.proofs.put_components.Tie as tie
-use Rattle.writer.proofs.put_components.Reads as reads
-use Rattle.writer.proofs.put_components.Lts as lts
-use Rattle.writer.proofs.put_component.Reads as put-component-reads
 
 abbrev Inv-loop : tie.InvT-loop
-Inv-loop b₀ a at₀ k₀ b at k = (k ≤ 14) × (length a ≡ 14) × (length b ≡ length b₀) × (at + 5 * countOf (drop k a) ≡ 1 + 5 * countOf a) × (sets b at (componentBytes k (drop k a)) ≡ sets b₀ 1 (componentBytes 0 a))
+Inv-loop b₀ a at₀ k₀ b at k = (k ≤ CODES) × (length a ≡ CODES) × (length b ≡ length b₀) × (at + 5 * countOf (drop k a) ≡ 1 + 5 * countOf a) × (sets b at (componentBytes k (drop k a)) ≡ sets b₀ 1 (componentBytes 0 a))
 
 abbrev μ-loop : tie.MeasureT-loop
-μ-loop b₀ a at₀ k₀ b at k = 14 - k
+μ-loop b₀ a at₀ k₀ b at k = CODES - k
 
 loop-holds : tie.Need-loop-holds Inv-loop μ-loop
 loop-holds c = search needs
@@ -34,7 +33,7 @@ cast-put-component : tie.Need-cast-put-component Inv-loop μ-loop
 cast-put-component c = search needs
 
 put-component-requires : tie.Need-put-component-requires Inv-loop μ-loop
-put-component-requires c κs = 
+put-component-requires c κs =
     let a = c .before .before .before .before .before .args in
     let l = c .before .before .before .loop in
     let h : l .k < length (a .t1) = omega arith in
@@ -51,7 +50,7 @@ loop-less : tie.Need-loop-less Inv-loop μ-loop
 loop-less c = search needs
 
 loop-again : tie.Need-loop-again Inv-loop μ-loop
-loop-again c = 
+loop-again c =
     let a = c .before .before .before .before .args in
     let l = c .before .before .loop in
     let h : l .k < length (a .t1) = omega arith in
@@ -86,7 +85,7 @@ same-length : tie.Need-same-length Inv-loop μ-loop
 same-length c = search needs
 
 returns : tie.Need-returns Inv-loop μ-loop
-returns c = 
+returns c =
     let a = c .before .before .before .args in
     let l = c .before .loop in
     let h : length (a .t1) ≤ l .k = omega arith in

@@ -1,3 +1,4 @@
+-- `writer::put_sheet` meets its contract. Assumes nothing.
 use mathlib.Core.Path.{_≡_, sym, ap, _∙_, refl}
 use Prim.Native.Nat.{ℕ, suc, _+_, _-_, _*_, _≤_, _<_}
 use native.Mathlib.Omega.{arith}
@@ -9,12 +10,6 @@ use Rattle.writer.proofs.Turns.{sheet-put, length-byte, length-run}
 use borrow.Author.Needs.{needs}
 use Rattle.writer.proofs.put_sheet.Statement.{statement}
 use Rattle.writer.proofs.put_sheet.Tie as tie
-use Rattle.writer.proofs.put_sheet.Reads as reads
-use Rattle.writer.proofs.put_sheet.Lts as lts
-use Rattle.writer.proofs.listed.Reads as listed-reads
-use Rattle.writer.proofs.put_byte.Reads as put-byte-reads
-use Rattle.writer.proofs.put_components.Reads as put-components-reads
-use Rattle.writer.proofs.put_split.Reads as put-split-reads
 
 listed-requires : tie.Need-listed-requires
 listed-requires c κs = search needs
@@ -26,7 +21,7 @@ put-byte-requires : tie.Need-put-byte-requires
 put-byte-requires c κs = search needs
 
 put-components-requires : tie.Need-put-components-requires
-put-components-requires c κs = 
+put-components-requires c κs =
     let a = c .before .before .before .before .before .before .before .args in
     let k = length-byte (a .b .now) _ 0 (c .before .before .before .before .before .listed .result) (c .before .before .before .put-byte .ensures) in
     omega (arith, k, length-sheet (a .a) (a .p))
@@ -35,7 +30,7 @@ cast-put-byte-2 : tie.Need-cast-put-byte-2
 cast-put-byte-2 c = search needs
 
 put-byte-requires-2 : tie.Need-put-byte-requires-2
-put-byte-requires-2 c κs = 
+put-byte-requires-2 c κs =
     let a = c .before .before .before .before .before .before .before .before .before .before .before .args in
     let r = c .before .before .before .put-components in
     let k = length-byte (a .b .now) _ 0 (c .before .before .before .before .before .before .before .before .before .listed .result) (c .before .before .before .before .before .before .before .put-byte .ensures) in
@@ -46,7 +41,7 @@ add-put-split : tie.Need-add-put-split
 add-put-split c = search needs
 
 put-split-requires : tie.Need-put-split-requires
-put-split-requires c κs = 
+put-split-requires c κs =
     let a = c .before .before .before .before .before .before .before .before .before .before .before .before .before .before .before .args in
     let r = c .before .before .before .before .before .before .before .put-components in
     let k = length-byte (a .b .now) _ 0 (c .before .before .before .before .before .before .before .before .before .before .before .before .before .listed .result) (c .before .before .before .before .before .before .before .before .before .before .before .put-byte .ensures) in
@@ -58,7 +53,7 @@ same-length : tie.Need-same-length
 same-length c = search needs
 
 returns : tie.Need-returns
-returns c = 
+returns c =
     let a = c .before .before .before .before .before .before .before .before .before .before .before .before .before .before .before .before .before .before .args in
     let r = c .before .before .before .before .before .before .before .before .before .before .put-components in
     sheet-put (a .a) (a .p) (a .b .now) (c .before .before .before .before .before .before .before .before .before .before .before .before .before .before .put-byte .last .0) (r .last .1 .0) (c .before .before .before .before .before .before .put-byte2 .last .0) _ _ (r .result)

@@ -1,3 +1,4 @@
+-- `writer::put_split` meets its contract. The loop's invariant: the stores so far and those of the records from place i on make the whole run. Assumes nothing.
 use mathlib.Core.Path.{_≡_, sym, ap, _∙_, refl}
 use Prim.Native.Nat.{ℕ, suc, _+_, _-_, _*_, _≤_, _<_}
 use native.Mathlib.Omega.{arith}
@@ -11,9 +12,6 @@ use Rattle.writer.proofs.Turns.{sets-append, record-go, record-end}
 use borrow.Author.Needs.{needs}
 use Rattle.writer.proofs.put_split.Statement.{statement}
 use Rattle.writer.proofs.put_split.Tie as tie
-use Rattle.writer.proofs.put_split.Reads as reads
-use Rattle.writer.proofs.put_split.Lts as lts
-use Rattle.writer.proofs.put_record.Reads as put-record-reads
 
 abbrev Inv-loop : tie.InvT-loop
 Inv-loop b₀ at m systems codes amounts i₀ w₀ b i w = (i ≤ m) × (w ≡ at + 6 * i) × (length b ≡ length b₀)
@@ -50,7 +48,7 @@ loop-less : tie.Need-loop-less Inv-loop μ-loop
 loop-less c = search needs
 
 loop-again : tie.Need-loop-again Inv-loop μ-loop
-loop-again c = 
+loop-again c =
     let l = c .before .before .before .before .before .loop in
     let a = c .before .before .before .before .before .before .before .before .before .before .args in
     let t = c .before .before .before .before .loop-test .taken in
@@ -68,7 +66,7 @@ same-length : tie.Need-same-length Inv-loop μ-loop
 same-length c = search needs
 
 returns : tie.Need-returns Inv-loop μ-loop
-returns c = 
+returns c =
     let l = c .before .loop in
     let a = c .before .before .before .before .before .before .args in
     let e = record-end (a .p .count) (l .i) (a .p .systems) (a .p .codes) (a .p .amounts) (c .loop-test .left) in

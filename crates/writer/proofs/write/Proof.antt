@@ -1,3 +1,4 @@
+-- `writer::write` meets its contract. Assumes nothing.
 use mathlib.Core.Path.{_≡_, sym, ap, _∙_, refl}
 use Prim.Native.Nat.{ℕ, suc, _+_, _-_, _*_, _≤_, _<_}
 use native.Mathlib.Omega.{arith}
@@ -6,10 +7,6 @@ use Rattle.writer.proofs.Answers.{room, wrote, left-alone}
 use borrow.Author.Needs.{needs}
 use Rattle.writer.proofs.write.Statement.{statement}
 use Rattle.writer.proofs.write.Tie as tie
-use Rattle.writer.proofs.write.Reads as reads
-use Rattle.writer.proofs.write.Lts as lts
-use Rattle.writer.proofs.answer.Reads as answer-reads
-use Rattle.writer.proofs.put_sheet.Reads as put-sheet-reads
 
 answer-requires : tie.Need-answer-requires
 answer-requires c κs = search needs
@@ -24,7 +21,7 @@ returns : tie.Need-returns
 returns c = left-alone _ _ _ _ (c .before .before .answer .ensures) _ _ (c .enum-told2 .given .1)
 
 put-sheet-requires : tie.Need-put-sheet-requires
-put-sheet-requires c κs = 
+put-sheet-requires c κs =
     let g = room _ _ (c .before .before .before .before .before .before .args .b .now) _ (c .before .before .before .before .answer .ensures) _ (c .before .before .enum-told .given .1) in
     (allowed-most _ (g .0), g .1)
 

@@ -1,0 +1,40 @@
+-- Worked examples (document 01, "Writer, display, controller", "Gases and their figures"). Assumes nothing.
+use mathlib.Core.Path.{_≡_, refl}
+use mathlib.Core.List.{List, [], _∷_}
+use Prim.Native.Nat.{ℕ}
+use lib.ListN.{length}
+use Rattle.analysis.specs.Register.{statusOf}
+use Rattle.analysis.specs.Check.{inRange, totalFits, refusalOf}
+use Rattle.section.specs.Section.{endAt, tornOr, sectionAt}
+use Rattle.sheet.specs.declared.Reading.the-variants.{Read, Refused}
+use Rattle.sheet.specs.Split.{allowedCount, noSplit}
+use Rattle.sheet.specs.Components.{codeRefusal}
+use Rattle.sheet.specs.Sheet.{sheetOf, sectionsOf}
+use Rattle.sheet.specs.Read.{amountsRefusal, refusedSheet, readBy, readOf}
+
+-- the bytes 01 09 00 00 00 64 00 are refused 3, at place 0
+retired-code : readOf (1 ∷ 9 ∷ 0 ∷ 0 ∷ 0 ∷ 100 ∷ 0 ∷ []) 0 ≡ refusedSheet (Refused 3 0 0)
+unfolding readOf readBy sectionsOf sectionAt endAt tornOr allowedCount codeRefusal statusOf
+retired-code = refl
+
+-- a sheet of two counts of 0 has no methane
+empty-sheet : readOf (0 ∷ 0 ∷ []) 1 ≡ refusedSheet (Refused 5 0 1)
+unfolding readOf readBy sectionsOf sectionAt endAt tornOr allowedCount amountsRefusal refusalOf inRange statusOf
+empty-sheet = refl
+
+-- a byte left over
+byte-over : readOf (0 ∷ 0 ∷ 0 ∷ []) 0 ≡ refusedSheet (Refused 1 0 0)
+unfolding readOf readBy sectionsOf sectionAt endAt tornOr allowedCount
+byte-over = refl
+
+-- the gas of 001 Table A.1, by code
+abbrev pub tableA1 : List ℕ
+tableA1 = 0 ∷ 970797 ∷ 16658 ∷ 2417 ∷ 346 ∷ 245 ∷ 11 ∷ 73 ∷ 125 ∷ 0 ∷ 84 ∷ 528 ∷ 8715 ∷ 0 ∷ []
+
+-- it is in range, and its sheet has 57 bytes
+table-a1-passes : refusalOf tableA1 ≡ 0
+unfolding refusalOf inRange totalFits statusOf
+table-a1-passes = refl
+
+table-a1-length : length (sheetOf tableA1 noSplit) ≡ 57
+table-a1-length = refl
