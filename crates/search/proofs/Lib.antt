@@ -4,8 +4,8 @@ pub mod Numbers
 pub mod Trials
 pub mod Fit
 pub mod Loop
-pub mod Scanned
 pub mod Checks
 pub mod Wholes
 pub mod Weights
 pub mod Answers
+pub mod Scanned

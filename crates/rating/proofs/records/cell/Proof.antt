@@ -1,0 +1,28 @@
+-- `rating::records::cell` meets its contract. Assumes nothing.
+use native.Mathlib.Omega.{arith}
+use mathlib.Core.Path.{_≡_, sym}
+use lib.ListN.{length, List·getD-eq-default}
+use borrow.Author.Needs.{needs}
+use Rattle.rating.proofs.records.cell.Statement.{statement}
+use Rattle.rating.proofs.records.cell.Tie as tie
+use Rattle.rating.proofs.records.cell.Reads as reads
+use Rattle.rating.proofs.records.cell.Lts as lts
+
+-- src/records.rt:87:20
+mul-result : tie.Need-mul-result
+mul-result c = search needs
+
+-- src/records.rt:87:20
+array-read-result : tie.Need-array-read-result
+array-read-result c = search needs
+
+-- src/records.rt:84:1
+returns : tie.Need-returns
+returns c = search needs
+
+-- src/records.rt:84:1
+returns-2 : tie.Need-returns-2
+returns-2 c = let l : length (c .before .args .t1) ≡ 32 = search needs in sym (List·getD-eq-default (c .before .args .t1) 0 {n = c .before .args .i} (omega arith))
+
+pub cell-spec : {M : Type 1} → statement M
+cell-spec = tie.close (tie.spec mul-result array-read-result returns returns-2)

@@ -1,0 +1,120 @@
+-- The answers by cases, for the third demand. Assumes nothing.
+use mathlib.Core.Path.{_≡_, refl, sym, ap, ap₂, _∙_, subst}
+use mathlib.Core.Bool.{Bool, true, false}
+use mathlib.Core.List.{List}
+use Prim.Native.Nat.{ℕ, _+_, _*_, _≤_, _<_, min}
+use native.Mathlib.Omega.{arith}
+use lib.Dec.{eqb}
+use lib.IntN.{ℤ}
+use lib.ListN.{getD, length}
+use borrow.Author.Tests.{eq-eqb, eqb-true}
+use Rattle.analysis.specs.Register.{ifElse}
+use Rattle.analysis.specs.Check.{refusalOf}
+use Rattle.sheet.specs.Split.{noSplit}
+use Rattle.sheet.specs.declared.Split.{Split}
+use Rattle.mixture.specs.Inert.{inertFirst}
+use Rattle.split.specs.Fold.{allTo, table}
+use Rattle.split.specs.Folds.{all-of}
+use Rattle.split.specs.Tables.{getD-table}
+use Rattle.split.specs.Split.{RECORDS, CELLS, cellsOf, amountsOf, numberAt}
+use Rattle.split.specs.Rating.{spreadOf, ratingOf, proposedOf}
+use Rattle.split.specs.Spread.{spread-near}
+use Rattle.split.specs.Fits.{Fit}
+use Rattle.split.specs.Rated.{IsRated, fit-rated}
+use Rattle.split.specs.Records.{cells-back}
+use Rattle.split.specs.Start.{startOf}
+use Rattle.split.specs.Search.{LEVEL, searchOf}
+use Rattle.split.specs.Finds.{Balance, input-fits, find-search, find-balanced}
+use Rattle.split.specs.declared.Answer.{Answer}
+use Rattle.split.specs.declared.Answer.the-variants.{Rated, Refused}
+use Rattle.split.specs.declared.Search.{Search}
+use Rattle.split.specs.declared.Search.the-variants.{Balanced, Unbalanced}
+use Rattle.split.specs.declared.Found.{Found}
+use Rattle.rating.specs.Records.{systemAt, codeAt, systemsOf, codesOf, matchesAt, fitsOf}
+use Rattle.rating.specs.Rate.{LIMIT, ROUNDS, mixOf, systemsFor, countFor, checkedBy, splitBy, splitAnswer, recordsOf, outcome, foundBy, foundOutcome, searched, searchOutcome, numberOf}
+use Rattle.rating.specs.Ready.{chosen, room, shared, input}
+use Rattle.rating.specs.declared.Outcome.{Outcome}
+
+-- the records expected of the chosen systems fit
+pub expected-fit : (ch : List ℕ) (k : ℕ) → 3 * k ≤ RECORDS → fitsOf ch k (3 * k) (systemsOf ch k) (codesOf ch k) ≡ true
+unfolding fitsOf matchesAt systemsOf codesOf
+expected-fit ch k h = rw (eq-eqb (3 * k) (3 * k) refl) (all-of (matchesAt ch k (systemsOf ch k) (codesOf ch k)) (3 * k) each)
+  where
+    each : (r : ℕ) → r < 3 * k → matchesAt ch k (systemsOf ch k) (codesOf ch k) r ≡ true
+    each r l =
+        let q : 0 + r ≡ r = omega arith in
+        rw (
+          eq-eqb (getD (table (systemAt ch k) RECORDS 0) r 0) (systemAt ch k r) (getD-table (systemAt ch k) RECORDS 0 r (omega arith) ∙ ap (systemAt ch k) q),
+          eq-eqb (getD (table (codeAt ch k) RECORDS 0) r 0) (codeAt ch k r) (getD-table (codeAt ch k) RECORDS 0 r (omega arith) ∙ ap (codeAt ch k) q),
+        )
+
+-- ---- a proposed split
+
+-- with the expected records, of an analysis in range, the answer is that to its cells
+pub split-fits : (a : List ℕ) (p : Split) (code : ℕ) → refusalOf a ≡ 0 → p .count ≡ 3 * countFor a → p .systems ≡ systemsOf (systemsFor a) (countFor a) → p .codes ≡ codesOf (systemsFor a) (countFor a)
+    → splitAnswer a p code ≡ proposedOf LIMIT (systemsFor a) (countFor a) (mixOf a) (cellsOf (systemsFor a) (countFor a) (p .amounts)) (inertFirst a)
+unfolding splitAnswer splitBy
+split-fits a p code passed c s d =
+    ap (λ (n : ℕ). checkedBy n code (splitBy (systemsFor a) (countFor a) (mixOf a) (inertFirst a) p)) passed
+    ∙ rw (c, s, d, expected-fit (systemsFor a) (countFor a) (room a))
+
+-- a rating says that the analysis is in range, and is that of the cells
+pub split-rated : (a : List ℕ) (p : Split) (code : ℕ) (w : ℤ) (s r : ℕ) → splitAnswer a p code ≡ Rated w s r
+    → (refusalOf a ≡ 0) × (proposedOf LIMIT (systemsFor a) (countFor a) (mixOf a) (cellsOf (systemsFor a) (countFor a) (p .amounts)) (inertFirst a) ≡ Rated w s r)
+unfolding splitAnswer splitBy
+split-rated a p code w s r is =
+    go (eqb (refusalOf a) 0) (fitsOf (systemsFor a) (countFor a) (p .count) (p .systems) (p .codes)) refl is
+  where
+    rated : Answer
+    rated = proposedOf LIMIT (systemsFor a) (countFor a) (mixOf a) (cellsOf (systemsFor a) (countFor a) (p .amounts)) (inertFirst a)
+
+    go : (b f : Bool) → eqb (refusalOf a) 0 ≡ b → ifElse b (ifElse f rated (Refused 7 0)) (Refused (refusalOf a) (ifElse (eqb (refusalOf a) 5) code 0)) ≡ Rated w s r
+        → (refusalOf a ≡ 0) × (rated ≡ Rated w s r)
+    go true true e h = (eqb-true (refusalOf a) 0 e, h)
+    go true false e h = absurd (subst IsRated (sym h) tt)
+    go false f e h = absurd (subst IsRated (sym h) tt)
+
+-- ---- the search
+
+-- a rating by the search: the analysis is in range, and the search came to a balance
+pub search-rated : (a : List ℕ) (allowance code : ℕ) (w : ℤ) (s r : ℕ) → searchOutcome a allowance code .answer ≡ Rated w s r
+    → (refusalOf a ≡ 0) × (searched a allowance .search ≡ Balanced s r)
+    × (w ≡ ratingOf (systemsFor a) (countFor a) (searched a allowance .cells) (inertFirst a))
+    × (searchOutcome a allowance code .split ≡ recordsOf (systemsFor a) (countFor a) (searched a allowance .cells))
+unfolding searchOutcome foundOutcome
+search-rated a allowance code w s r is = go (eqb (refusalOf a) 0) (searched a allowance .search) refl refl is
+  where
+    by : Bool → Search → Outcome
+    by b x = ifElse b (foundBy (systemsFor a) (countFor a) (inertFirst a) (searched a allowance .cells) x)
+        (outcome (Refused (refusalOf a) (ifElse (eqb (refusalOf a) 5) code 0)) noSplit)
+
+    go : (b : Bool) (x : Search) → eqb (refusalOf a) 0 ≡ b → searched a allowance .search ≡ x → by b x .answer ≡ Rated w s r
+        → (refusalOf a ≡ 0) × (x ≡ Balanced s r)
+        × (w ≡ ratingOf (systemsFor a) (countFor a) (searched a allowance .cells) (inertFirst a))
+        × (by b x .split ≡ recordsOf (systemsFor a) (countFor a) (searched a allowance .cells))
+    go true (Balanced s′ r′) e f h = (eqb-true (refusalOf a) 0 e, cc, cc, refl)
+    go true Unbalanced e f h = absurd (subst IsRated (sym h) tt)
+    go false x e f h = absurd (subst IsRated (sym h) tt)
+
+-- what a balance is: a split that re-sums, with no system empty, and its spread within the limit
+pub balance : (a : List ℕ) → length a ≡ 14 → refusalOf a ≡ 0 → (allowance s r : ℕ) → searched a allowance .search ≡ Balanced s r
+    → Balance (mixOf a) (systemsFor a) (countFor a) LIMIT (min allowance ROUNDS) (searched a allowance .cells) s r
+balance a long passed allowance s r is =
+    let u = find-search (mixOf a) (systemsFor a) (countFor a) LEVEL LIMIT (min allowance ROUNDS) (input-fits (mixOf a) (systemsFor a) (countFor a) LEVEL (input a long passed)) in
+    rw u (find-balanced (mixOf a) (systemsFor a) (countFor a) LIMIT LEVEL (min allowance ROUNDS) s r (ap (λ (f : Found). f .search) (sym u) ∙ is))
+
+-- the found split, put back
+pub found-back : (a : List ℕ) → length a ≡ 14 → (allowance code code′ : ℕ) (w : ℤ) (s r : ℕ) → searchOutcome a allowance code .answer ≡ Rated w s r
+    → splitAnswer a (searchOutcome a allowance code .split) code′ ≡ Rated w s 0
+found-back a long allowance code code′ w s r is =
+    let (passed, x, e, f) = search-rated a allowance code w s r is in
+    let b = balance a long passed allowance s r x in
+    let ch = systemsFor a in
+    let k = countFor a in
+    let cells = searched a allowance .cells in
+    let fit : Fit LIMIT ch k (mixOf a) cells = record { sums = λ c l. b .sums c l (shared a c l); some = b .sound .some; near = spread-near LIMIT (numberAt ch cells) k (omega (arith, b .spread, b .within)) } in
+    ap (λ (p : Split). splitAnswer a p code′) f
+    ∙ split-fits a (recordsOf ch k cells) code′ passed refl refl refl
+    ∙ ap (λ (l : List ℕ). proposedOf LIMIT ch k (mixOf a) l (inertFirst a)) (cells-back ch k (chosen a) (room a) cells (b .sound .stock .long) (b .clean))
+    ∙ fit-rated LIMIT ch k (mixOf a) cells (inertFirst a) fit
+    ∙ ap₂ (λ (x : ℤ) (y : ℕ). Rated x y 0) (sym e) (sym (b .spread))

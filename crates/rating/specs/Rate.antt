@@ -1,0 +1,113 @@
+-- The answers to an analysis with a proposed split, to an analysis by the search, and to a sheet
+-- (document 01, "The split and the rating", "The search", "What is turned away"). Assumes nothing.
+use mathlib.Core.Path.{_≡_}
+use mathlib.Core.List.{List}
+use mathlib.Core.Bool.{Bool, true, false}
+use Prim.Native.Nat.{ℕ, _+_, _*_, min}
+use lib.Dec.{eqb}
+use lib.ListN.{getD, length}
+use Rattle.analysis.specs.Register.{ifElse}
+use Rattle.analysis.specs.Check.{refusalOf, AtFault}
+use Rattle.sheet.specs.Split.{noSplit}
+use Rattle.sheet.specs.Read.{readOf, FaultIn}
+use Rattle.sheet.specs.declared.Split.{Split}
+use Rattle.sheet.specs.declared.Sheet.{Sheet}
+use Rattle.sheet.specs.declared.Reading.{Reading}
+use Rattle.sheet.specs.declared.Reading.the-variants as reading
+use Rattle.mixture.specs.Simplification.{simplifiedOf}
+use Rattle.mixture.specs.Inert.{inertFirst}
+use Rattle.systems.specs.Choice.{choiceOf}
+use Rattle.split.specs.Split.{cellsOf, amountsOf}
+use Rattle.split.specs.Rating.{ratingOf, proposedOf}
+use Rattle.split.specs.Start.{startOf}
+use Rattle.split.specs.Search.{LEVEL, searchOf}
+use Rattle.split.specs.declared.Answer.{Answer}
+use Rattle.split.specs.declared.Answer.the-variants.{Rated, Refused}
+use Rattle.split.specs.declared.Search.{Search}
+use Rattle.split.specs.declared.Search.the-variants.{Balanced, Unbalanced}
+use Rattle.split.specs.declared.Found.{Found}
+use Rattle.rating.specs.Records.{systemsOf, codesOf, fitsOf}
+use Rattle.rating.specs.declared.Outcome.{Outcome}
+
+-- the spread limit, 0.05 of a methane number, in units; the most rounds
+abbrev pub LIMIT : ℕ
+LIMIT = 500000
+
+abbrev pub ROUNDS : ℕ
+ROUNDS = 4000
+
+-- ---- what an analysis in range is rated by: simplified mixture, chosen systems and their number, inert mixture
+
+abbrev pub mixOf : List ℕ → List ℕ
+mixOf a = simplifiedOf a
+
+abbrev pub systemsFor : List ℕ → List ℕ
+systemsFor a = choiceOf (simplifiedOf a) .systems
+
+abbrev pub countFor : List ℕ → ℕ
+countFor a = choiceOf (simplifiedOf a) .count
+
+-- ---- a refusal of the analysis comes first; 5 carries `code`, and 6 none
+
+abbrev pub checkedBy : ℕ → ℕ → Answer → Answer
+checkedBy number code rated = ifElse (eqb number 0) rated (Refused number (ifElse (eqb number 5) code 0))
+
+-- ---- a proposed split
+
+-- of chosen systems, a mixture and its inert part: 7 where its records are not those expected, else the answer to its cells
+unfoldable pub splitBy : List ℕ → ℕ → List ℕ → ℕ → Split → Answer
+splitBy ch k mix n1 p =
+    ifElse (fitsOf ch k (p .count) (p .systems) (p .codes)) (proposedOf LIMIT ch k mix (cellsOf ch k (p .amounts)) n1) (Refused 7 0)
+
+-- of an analysis
+unfoldable pub splitAnswer : List ℕ → Split → ℕ → Answer
+splitAnswer a p code = checkedBy (refusalOf a) code (splitBy (systemsFor a) (countFor a) (mixOf a) (inertFirst a) p)
+
+-- ---- the search
+
+-- the split of the cells a, as records
+abbrev pub recordsOf : List ℕ → ℕ → List ℕ → Split
+recordsOf ch k a = record { count = 3 * k; systems = systemsOf ch k; codes = codesOf ch k; amounts = amountsOf ch k a }
+
+abbrev pub outcome : Answer → Split → Outcome
+outcome answer split = record { answer = answer; split = split }
+
+-- what the search came to: a rating with its split, or 11 and no split
+abbrev pub foundBy : List ℕ → ℕ → ℕ → List ℕ → Search → Outcome
+foundBy ch k n1 a (Balanced spread rounds) = outcome (Rated (ratingOf ch k a n1) spread rounds) (recordsOf ch k a)
+foundBy ch k n1 a Unbalanced = outcome (Refused 11 0) noSplit
+
+unfoldable pub foundOutcome : List ℕ → ℕ → ℕ → Found → Outcome
+foundOutcome ch k n1 f = foundBy ch k n1 (f .cells) (f .search)
+
+-- of an analysis: from the written start, at first stride 65536; an allowance above the most rounds counts as those
+abbrev pub searched : List ℕ → ℕ → Found
+searched a allowance =
+    searchOf (systemsFor a) (countFor a) LIMIT LEVEL (min allowance ROUNDS) (startOf (mixOf a) (systemsFor a) (countFor a))
+
+unfoldable pub searchOutcome : List ℕ → ℕ → ℕ → Outcome
+searchOutcome a allowance code =
+    ifElse (eqb (refusalOf a) 0)
+    (foundOutcome (systemsFor a) (countFor a) (inertFirst a) (searched a allowance))
+    (outcome (Refused (refusalOf a) (ifElse (eqb (refusalOf a) 5) code 0)) noSplit)
+
+-- ---- a sheet: its refusal, else its split, else the search with the most rounds
+
+-- a refusal carries the code at fault with 5, else the record's place
+abbrev pub readBy : Reading → List ℕ → Split → ℕ → Outcome
+readBy (reading.Refused number place code′) a p code = outcome (Refused number (ifElse (eqb number 5) code′ place)) noSplit
+readBy reading.Read a p code =
+    ifElse (eqb (p .count) 0) (searchOutcome a ROUNDS code) (outcome (splitAnswer a p code) noSplit)
+
+unfoldable pub sheetOutcome : List ℕ → ℕ → Outcome
+sheetOutcome s code = readBy (readOf s code .answer) (readOf s code .analysis .amounts) (readOf s code .split) code
+
+-- ---- what an answer carries: a refusal's number, 0 of a rating; the code at fault of 5, else 0
+
+abbrev pub numberOf : Answer → ℕ
+numberOf (Rated rating spread rounds) = 0
+numberOf (Refused number place) = number
+
+abbrev pub codeOf : Answer → ℕ
+codeOf (Rated rating spread rounds) = 0
+codeOf (Refused number place) = ifElse (eqb number 5) place 0
