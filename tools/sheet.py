@@ -27,7 +27,7 @@ GREATEST = 4294967295
 
 def parts(text):
     """The amount in parts (0.0001 %), or ValueError saying what is wrong."""
-    if not re.fullmatch(r'\d+(\.\d+)?', text):
+    if not re.fullmatch(r'[0-9]+(\.[0-9]+)?', text):
         raise ValueError(f"'{text}' is not an amount such as 97.0797")
     whole, _, decimals = text.partition('.')
     if len(decimals) > 4:

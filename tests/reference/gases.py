@@ -192,21 +192,51 @@ def moved(draw, records, most):
 def emptied(draw, records):
     """All of one system carried to the others; re-sums."""
     held = held_of(records)
-    victim = draw.pick(sorted(held))
-    for c in list(held[victim]):
+    drained = draw.pick(sorted(held))
+    for c in list(held[drained]):
         taker = draw.pick([s for s in sorted(held)
-                           if s != victim and c in held[s]])
-        held[taker][c] += held[victim][c]
-        held[victim][c] = 0
+                           if s != drained and c in held[s]])
+        held[taker][c] += held[drained][c]
+        held[drained][c] = 0
     if draw.one_in(4):      # one part left: no longer empty
-        for c in held[victim]:
-            giver = next((s for s in sorted(held) if s != victim
+        for c in held[drained]:
+            giver = next((s for s in sorted(held) if s != drained
                           and held[s].get(c, 0) > 0), None)
             if giver is not None:
                 held[giver][c] -= 1
-                held[victim][c] += 1
+                held[drained][c] += 1
                 break
     return records_of(held)
+
+
+def spread_at(held):
+    return ref.spread_of([ref.number_of(s, held[s]) for s in held])
+
+
+def border(draw, records):
+    """From a found split along one move, to one part inside the spread limit
+    or one part outside; the found split if the move never leaves it."""
+    held = held_of(records)
+    c, giver, taker = draw.pick(ref.moves(sorted(held)))
+    least, greatest = 0, held[giver][c]
+    if greatest == sum(held[giver].values()):
+        greatest -= 1
+
+    def at(parts):
+        out = {s: dict(held[s]) for s in held}
+        out[giver][c] -= parts
+        out[taker][c] += parts
+        return out
+
+    if greatest < 1 or spread_at(at(greatest)) <= ref.SPREAD_LIMIT:
+        return records
+    while greatest - least > 1:
+        middle = (least + greatest) // 2
+        if spread_at(at(middle)) <= ref.SPREAD_LIMIT:
+            least = middle
+        else:
+            greatest = middle
+    return records_of(at(draw.pick((least, greatest))))
 
 
 def off_by(draw, records, step):
@@ -286,6 +316,8 @@ def any_split(draw, pool, kind):
         return analysis, found
     if kind == "near":
         return analysis, moved(draw, found, draw.pick((3, 30, 300, 3000)))
+    if kind == "border":
+        return analysis, border(draw, found)
     if draw.one_in(2):      # the rest also from splits not found
         analysis = any_gas(draw)
         found = random_split(draw, analysis)
@@ -306,9 +338,10 @@ def any_split(draw, pool, kind):
     raise ValueError(kind)
 
 
-SPLIT_KINDS = ("put-back", "put-back", "near", "near", "near", "wide", "start",
-               "miss-by-one", "miss", "wrap", "wrap", "empty", "empty",
-               "all-zero", "misfit", "misfit", "other-gas")
+SPLIT_KINDS = ("put-back", "put-back", "near", "near", "near", "border",
+               "border", "wide", "start", "miss-by-one", "miss", "wrap",
+               "wrap", "empty", "empty", "all-zero", "misfit", "misfit",
+               "other-gas")
 
 
 # -------------------------------------------------------------- sheets
@@ -354,10 +387,9 @@ def range_sheet(draw, records):
 def total_sheet(draw, records):
     a = list(any_gas(draw))
     total = draw.pick((999899, 999900, 1000000, 1000100, 1000101,
-                       draw.between(900000, 1100000),
-                       1000000 + U32))   # wraps to a good total
+                       draw.between(900000, 1100000)))
     a[1] += total - sum(a)
-    return sheet_of(listed_of([x % U32 for x in a]), records)
+    return sheet_of(listed_of(a), records)
 
 
 def codes_sheet(draw, records):
@@ -426,7 +458,7 @@ def wild_sheet(draw):
     return sheet_of(listed, random_records(draw) if draw.one_in(2) else ())
 
 
-def sheets(seed, search_one_in=32):
+def sheets(seed, search_one_in=16):
     """(kind, bytes) without end.  One sheet in `search_one_in` is a good one
     that asks for a search; a few of the damaged ones do as well."""
     draw = Draw(seed)

@@ -227,7 +227,7 @@ def show_steps():
         held = ref.start(amounts, systems)
         for system, published in zip(systems, begin or ()):
             line("%s, system %d at the start" % (name, system), published,
-                 units(ref.number_of(system, held[system])), "0.002")
+                 units(ref.number_of(system, held[system])), "0.01")
         n1, n2 = ref.inert(analysis)
         line("%s, inert number" % name, inert,
              units(ref.partial_number(20, n1, n2, 0)), "0.0002")

@@ -460,6 +460,12 @@ def rate(sheet):
     return rate_split(analysis, split)
 
 
+def controller_record(answer):
+    """Rating and spread as doubles.  Python's division of whole numbers is
+    rounded once, to the nearest double."""
+    return answer.rating / UNITS, answer.spread / UNITS
+
+
 def display(answer):
     if isinstance(answer, Refusal):
         return "REFUSED %d\n" % answer.number

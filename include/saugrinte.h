@@ -1,0 +1,110 @@
+/* Saugrinte: the methane number of a natural gas by the MWM method.
+
+   A part is 0.0001 % by volume. A unit is 0.0000001 of a methane number.
+
+   Every function answers every input. An answer holds a number: 0 means done, anything else is a refusal.
+
+      1 torn          a sheet's count not allowed, too few bytes, bytes left over
+      2 unknown       code 0, 14 or above in components
+      3 retired       code 9 or 13 in components
+      4 out of order  a code not above the one before
+      5 out of range  an amount outside its range, or one of codes 1 to 5 absent
+      6 total         the amounts' sum outside 999900..1000100
+      7 misfit        the split's systems or codes are not the nine expected
+      8 unsummed      a component's amounts in the split don't add up
+      9 empty system  a chosen system has no parts
+     10 wide          the split's spread is above 500000 units
+     11 unbalanced    no split within that spread was found
+     12 no mixture    amounts whose sum is 0 or above 1000000
+     13 no system     not one of 2, 4, 7, 8, 20
+     14 short blank   the writer's buffer is too short
+
+   The place tells more: for 2 to 4 the record's place from 0, for 5 a code at fault, for all else 0.
+   A refusal changes no buffer.
+
+   amounts[k] is the amount in parts of code k, 0 where it is absent. Codes 0, 9 and 13 have no legal amount:
+   anything but 0 there is refused 5.
+
+   A split is a count of records, 0 or 9, and three arrays: record i gives amount parts[i] of component codes[i]
+   to system systems[i]. Codes in a split are 1 methane, 2 ethane, 3 propane, 14 butane.
+
+   The functions keep nothing between calls, so several threads may call them at once. No pointer may be null,
+   not even with a length, room or count of 0; an array is given whole, whatever the count says; and no buffer
+   that a call writes may overlap another argument. */
+#ifndef SAUGRINTE_H
+#define SAUGRINTE_H
+
+#include <stddef.h>
+#include <stdint.h>
+
+#ifdef __cplusplus
+extern "C" {
+#endif
+
+#define SAUGRINTE_CODES 14          /* entries of an analysis, one for each code from 0 to 13 */
+#define SAUGRINTE_RECORDS 9         /* records of a split */
+#define SAUGRINTE_SHEET 111         /* bytes of the longest sheet */
+#define SAUGRINTE_ROUNDS 4000       /* the greatest allowance of rounds */
+
+/* 0 for done, or the refusal's number with its place. */
+typedef struct {
+    uint32_t number;
+    uint32_t place;
+} saugrinte_answer;
+
+/* The controller's record: a rating and its spread as methane numbers. */
+typedef struct {
+    double rating;
+    double spread;
+} saugrinte_record;
+
+/* Rates a sheet: its own split where it has one, else the split that the search finds in 4000 rounds.
+   Done: figures holds the rating in units, the spread in units and the rounds (0 for the sheet's own split).
+   Refused 1 to 11: figures is unchanged. */
+saugrinte_answer saugrinte_rate(const uint8_t *sheet, size_t length, int64_t figures[3]);
+
+/* Rates an analysis by the search, with at most `allowance` rounds; above 4000 counts as 4000.
+   Done: figures holds rating, spread and rounds; the three arrays hold the nine records of the split found.
+   Refused 5, 6, 11: no buffer is changed. */
+saugrinte_answer saugrinte_search(const uint32_t amounts[14], uint32_t allowance, int64_t figures[3],
+                                  uint8_t systems[9], uint8_t codes[9], uint32_t parts[9]);
+
+/* Rates an analysis with a proposed split.
+   Done: figures holds rating, spread and 0.
+   Refused 5 to 10, 7 also where count is not nine: figures is unchanged. */
+saugrinte_answer saugrinte_rate_split(const uint32_t amounts[14], size_t count, const uint8_t systems[9],
+                                      const uint8_t codes[9], const uint32_t parts[9], int64_t figures[3]);
+
+/* The partial number, in units, of a system (2, 4, 7, 8, 20) at amounts n1, n2, n3 in the order of its formula.
+   Done: *number holds it.
+   Refused 13, then 12: *number is unchanged. */
+saugrinte_answer saugrinte_partial_number(uint32_t system, uint32_t n1, uint32_t n2, uint32_t n3,
+                                          int64_t *number);
+
+/* Reads a sheet.
+   Done: amounts holds the analysis, *count 0 or 9, the three arrays the split's records as they stand in the
+   sheet, or zeros where it has none.
+   Refused 1 to 6: no buffer is changed. */
+saugrinte_answer saugrinte_read(const uint8_t *sheet, size_t length, uint32_t amounts[14], size_t *count,
+                                uint8_t systems[9], uint8_t codes[9], uint32_t parts[9]);
+
+/* Writes the sheet of an analysis and a split, or of none (count 0), into a buffer of `room` bytes. The split's
+   records are written as given.
+   Done: *length holds the sheet's length, the buffer's first *length bytes the sheet; the others are unchanged.
+   Refused 1 (count neither 0 nor 9), then 5, 6, 14: the buffer and *length are unchanged. */
+saugrinte_answer saugrinte_write(const uint32_t amounts[14], size_t count, const uint8_t systems[9],
+                                 const uint8_t codes[9], const uint32_t parts[9], uint8_t *buffer, size_t room,
+                                 size_t *length);
+
+/* The controller's record of a rating and a spread in units: each count is converted to a double, which is exact
+   for every figure that a rating answers, then divided by 10000000 and rounded once. */
+saugrinte_record saugrinte_controller(int64_t rating, uint64_t spread);
+
+/* The whole methane number of a rating in units: (rating + 5000000) / 10000000 rounded down, also below zero. */
+int64_t saugrinte_whole_number(int64_t rating);
+
+#ifdef __cplusplus
+}
+#endif
+
+#endif

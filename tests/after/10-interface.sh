@@ -1,0 +1,22 @@
+#!/usr/bin/env bash
+# The C interface: builds the library's archive, compiles the driver and the example against it with the header, and
+# compares what the example prints. SAUGRINTE_LIB names another archive or a C file to take in the archive's place.
+set -euo pipefail
+cd "$(dirname "$0")/../.."
+
+out=target/interface
+mkdir -p "$out"
+lib=${SAUGRINTE_LIB:-target/staticlib/libplant.a}
+if [ -z "${SAUGRINTE_LIB:-}" ]; then
+  rt staticlib plant >"$out/staticlib.log" 2>&1 || { cat "$out/staticlib.log"; exit 1; }
+fi
+
+warnings='-std=c11 -Wall -Wextra -Werror'
+gcc -O3 $warnings -Iinclude tests/driver.c "$lib" -o "$out/driver"
+gcc -O3 $warnings -Iinclude examples/rate.c "$lib" -o "$out/rate-example"
+echo '#include "saugrinte.h"' | gcc -x c++ -fsyntax-only -Wall -Wextra -Werror -Iinclude - 2>"$out/header.log" \
+  || { grep -q 'cc1plus' "$out/header.log" || { cat "$out/header.log"; exit 1; }; }
+
+"$out/rate-example" >"$out/rate.out"
+diff examples/rate.out "$out/rate.out" || { echo "interface: examples/rate.c prints something else than rate.out"; exit 1; }
+echo "interface: $lib, header, driver and example stand; the example prints examples/rate.out"

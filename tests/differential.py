@@ -1,0 +1,456 @@
+#!/usr/bin/env python3
+"""Compares a driver (tests/driver.c, linked with the library) with the reference, case by case.
+
+  python3 tests/differential.py DRIVER                  100000 sheets and what belongs to them
+  python3 tests/differential.py DRIVER --long N SEED    N sheets of another seed
+  ... --brief                                           the last line only
+  ... --jobs N                                          processes at once; as many as processors if not said
+
+Seeded and repeatable, whatever the number of processes. Every answer and every buffer byte is compared, guards around
+the buffers included; a found split is put back as a proposed one; the distance of ratings from the exact fraction
+stays below 40 units. Ends with 1 at the first difference and prints that case.
+"""
+import argparse
+import itertools
+import multiprocessing
+import os
+import struct
+import subprocess
+import sys
+import tempfile
+import time
+
+HERE = os.path.dirname(os.path.abspath(__file__))
+sys.path.insert(0, os.path.join(HERE, 'reference'))
+import gases  # noqa: E402
+import saugrinte as ref  # noqa: E402
+
+DEFAULT_SHEETS, DEFAULT_SEED = 100000, 1
+PART = 5000                 # sheets of one part: a seed and a run of the driver of its own
+SEARCH_ONE_IN = 32          # good sheets that ask for a search
+EXACT = 150                 # ratings of proposed splits compared with the exact fraction, in a part
+SECONDS = 600               # the longest that the driver may take for a part
+DISTANCE = 40               # units; every rating is nearer than this to the exact one
+WORD = struct.calcsize('P')
+U32, U64, I64 = 1 << 32, 1 << 64, 1 << 63
+
+
+class Difference(Exception):
+    """Says what differs."""
+
+
+# ------------------------------------------------------------ what the driver prints
+
+def block(fill, data, size):
+    """A buffer with its guards in base sixteen; None is a buffer left as it was."""
+    guard = ('%02x' % fill) * 8
+    return ' ' + guard + (('%02x' % fill) * size if data is None else data.hex()) + guard
+
+
+def big(values, width):
+    return b''.join(v.to_bytes(width, 'big') for v in values)
+
+
+def figures(fill, result):
+    if isinstance(result, ref.Refusal):
+        return block(fill, None, 24)
+    return block(fill, struct.pack('>3q', result.rating, result.spread, result.rounds), 24)
+
+
+def split_blocks(fill, records):
+    if records is None:
+        return block(fill, None, 9) + block(fill, None, 9) + block(fill, None, 36)
+    return (block(fill, bytes(r[0] for r in records), 9) + block(fill, bytes(r[1] for r in records), 9)
+            + block(fill, big((r[2] for r in records), 4), 36))
+
+
+NONE = ((0, 0, 0),) * 9
+
+
+class Expected:
+    """One answer: the refusal's number, the places allowed, and the buffers as printed."""
+    __slots__ = ('number', 'places', 'buffers')
+
+    def __init__(self, result, buffers):
+        self.number, self.places, self.buffers = 0, (0,), buffers
+        if isinstance(result, ref.Refusal):
+            self.number = result.number
+            if result.number == 5:
+                self.places = result.at
+            elif result.number in (2, 3, 4):
+                self.places = (result.at,)
+
+    def agrees(self, line):
+        number, _, rest = line.partition(' ')
+        place, _, rest = rest.partition(' ')
+        return (number == str(self.number) and place.isdigit() and int(place) in self.places
+                and ' ' + rest == self.buffers)
+
+    def __str__(self):
+        return '%d %s%s' % (self.number, '|'.join(map(str, sorted(self.places))), self.buffers)
+
+
+class Line:
+    """An answer without refusal, as printed."""
+    __slots__ = ('line',)
+    number = 0
+
+    def __init__(self, line):
+        self.line = line
+
+    def agrees(self, line):
+        return line == self.line
+
+    def __str__(self):
+        return self.line
+
+
+# ------------------------------------------------------------ the reference's answers
+
+def check(analysis):
+    """5 or 6; an amount at a code that has none is at fault too."""
+    wrong = {c for c in (0, 9, 13) if analysis[c]}
+    if not wrong:
+        return ref.check(analysis)
+    others = ref.check(tuple(0 if c in wrong else a for c, a in enumerate(analysis)))
+    if others is not None and others.number == 5:
+        wrong |= others.at
+    return ref.Refusal(5, frozenset(wrong))
+
+
+def search(analysis, allowance):
+    return check(analysis) or (gases.searched(analysis) if allowance >= ref.MOST_ROUNDS
+                               else ref.search(analysis, allowance))
+
+
+def rate_split(analysis, count, records):
+    return check(analysis) or (ref.rate_split(analysis, records) if count == 9 else ref.Refusal(7))
+
+
+def read(sheet):
+    """The reading and the rating of a sheet."""
+    got = ref.read(sheet)
+    if isinstance(got, ref.Refusal):
+        return got, got
+    analysis, split = got
+    return got, gases.searched(analysis) if split is None else ref.rate_split(analysis, split)
+
+
+# ------------------------------------------------------------ cases
+
+class Cases:
+    """Lines for the driver and what is expected of them."""
+
+    def __init__(self):
+        self.items, self.fill = [], 0
+
+    def next_fill(self):
+        self.fill = (self.fill + 89) % 256
+        return self.fill
+
+    def add(self, kind, line, *expected):
+        self.items.append((kind, line, expected))
+
+    def rate(self, kind, sheet, result):
+        fill = self.next_fill()
+        self.add(kind, 'rate %02x %s' % (fill, sheet.hex() or '-'), Expected(result, figures(fill, result)))
+
+    def read(self, kind, sheet, got):
+        fill = self.next_fill()
+        if isinstance(got, ref.Refusal):
+            buffers = block(fill, None, 56) + block(fill, None, WORD) + split_blocks(fill, None)
+        else:
+            analysis, split = got
+            buffers = (block(fill, big(analysis, 4), 56) + block(fill, big((9 if split else 0,), WORD), WORD)
+                       + split_blocks(fill, split or NONE))
+        self.add(kind, 'read %02x %s' % (fill, sheet.hex() or '-'), Expected(got, buffers))
+
+    def search(self, kind, analysis, allowance, result):
+        fill = self.next_fill()
+        found = None if isinstance(result, ref.Refusal) else result.split
+        self.add(kind, 'search %02x %d %s' % (fill, allowance, big(analysis, 4).hex()),
+                 Expected(result, figures(fill, result) + split_blocks(fill, found)))
+
+    def split(self, kind, analysis, count, records, result):
+        fill = self.next_fill()
+        self.add(kind, 'split %02x %d %s %s' % (fill, count, big(analysis, 4).hex(), packed(records)),
+                 Expected(result, figures(fill, result)))
+
+    def write(self, kind, analysis, count, records, low, high):
+        fill = self.next_fill()
+        expected = []
+        for room in range(low, high + 1):
+            buffer = bytearray([fill]) * room
+            if count not in (0, 9):
+                result = ref.Refusal(1)
+            else:
+                result = check(analysis) or ref.write(analysis, records if count else None, buffer)
+            length = None if isinstance(result, ref.Refusal) else big((result,), WORD)
+            expected.append(Expected(result, block(fill, bytes(buffer), room) + block(fill, length, WORD)))
+        self.add(kind, 'write %02x %d %s %s %d %d' % (fill, count, big(analysis, 4).hex(), packed(records), low, high),
+                 *expected)
+
+    def partial(self, kind, system, n1, n2, n3):
+        fill = self.next_fill()
+        result = ref.partial_number(system, n1, n2, n3)
+        number = None if isinstance(result, ref.Refusal) else struct.pack('>q', result)
+        self.add(kind, 'partial %02x %d %d %d %d' % (fill, system, n1, n2, n3),
+                 Expected(result, block(fill, number, 8)))
+
+    def controller(self, rating, spread):
+        both = float(rating) / 1e7, float(spread) / 1e7
+        for units, double in zip((rating, spread), both):
+            if abs(units) <= 1 << 53 and double != units / ref.UNITS:
+                raise AssertionError('two roundings of %d differ from one' % units)
+        self.add('controller', 'controller %d %d' % (rating, spread), Line('0' + block(0, struct.pack('>2d', *both), 16)))
+
+    def whole(self, rating):
+        self.add('whole number', 'whole %d' % rating, Line('0 %d' % ref.whole_number(rating)))
+
+
+def packed(records):
+    return b''.join(bytes((s, c)) + a.to_bytes(4, 'big') for s, c, a in records or NONE).hex()
+
+
+class Exact:
+    """Ratings to be compared with the exact fraction: all found ones, and a sample of the others."""
+
+    def __init__(self, seed):
+        self.draw, self.left, self.seen = gases.Draw(seed + 77), EXACT, set()
+        self.count, self.farthest = 0, 0
+
+    def compare(self, analysis, records, rating, found):
+        if not found:
+            if not self.left or not self.draw.one_in(4):
+                return
+            self.left -= 1
+        if (analysis, records) in self.seen:
+            return
+        self.seen.add((analysis, records))
+        self.count += 1
+        distance = abs(ref.exact_rating(analysis, records) - rating)
+        self.farthest = max(self.farthest, distance)
+        if distance >= DISTANCE:
+            raise Difference('the rating %d of %s is %.1f units from the exact one'
+                             % (rating, ref.layout(analysis, records).hex(), distance))
+
+
+def sheet_cases(cases, exact, kind, sheet):
+    got, result = read(sheet)
+    cases.rate(kind, sheet, result)
+    cases.read('read', sheet, got)
+    if isinstance(got, ref.Refusal):
+        return
+    analysis, split = got
+    cases.write('write back', analysis, 9 if split else 0, split, len(sheet), len(sheet))
+    if isinstance(result, ref.Refusal):
+        return
+    exact.compare(analysis, result.split, result.rating, split is None)
+    if split is None:
+        back = ref.rate_split(analysis, result.split)
+        if isinstance(back, ref.Refusal) or back[:3] != result[:3]:
+            raise Difference('the reference does not rate the split found for %s' % sheet.hex())
+        cases.search('found', analysis, ref.MOST_ROUNDS, result)
+        cases.split('found, put back', analysis, 9, result.split, back)
+        cases.rate('found, put back as a sheet', ref.layout(analysis, result.split), back)
+
+
+# ------------------------------------------------------------ cases that chance seldom finds
+
+def half_gas(draw):
+    """The inert mixture's n1 falls on a half: T is an odd number of 128ths of T and carbon dioxide."""
+    while True:
+        a = list(gases.even_gas(draw))
+        a[6] = a[7] = a[8] = a[10] = 0
+        unit = draw.between(6641, 7812)
+        a[11] = unit * draw.pick((1, 3, 5, 7, 9, 11, 13))
+        a[1] = 128 * unit - sum(a[2:6]) - a[11]
+        a[12] = draw.between(999900, 1000100) - sum(a[:12])
+        if min(a) >= 0 and not ref.check(a):
+            total = sum(ref.tenths(a))
+            quotient, rest = divmod(2 * ref.PARTS * total, total + 10 * a[11])
+            if rest == 0 and quotient % 2 == 1:
+                return tuple(a)
+
+
+def fitness_tie_gas(draw):
+    """Systems 2 and 4 equally fit: 100 times butane is 48 times methane."""
+    while True:
+        a = list(gases.rich_gas(draw))
+        a[1] = 0
+        near = 100 * ref.tenths(a)[3] // 480
+        for methane in range(near - 30, near + 31):
+            a[1] = methane
+            a[12] = 0
+            a[12] = max(draw.between(999900, 1000100) - sum(a), 0)
+            if not ref.check(a):
+                amounts = ref.simplify(a)
+                if 100 * amounts[3] == 48 * amounts[0]:
+                    return tuple(a)
+
+
+def long_sheet(draw):
+    """A count above 11 with as many records, codes rising as long as they can."""
+    count = draw.pick((12, 12, 13, 14, 50, 51, 100, 255))
+    listed = [(min(i + 1, 255), draw.below(U32)) for i in range(count)]
+    return gases.sheet_of(listed, gases.random_records(draw) if draw.one_in(2) else None)
+
+
+def seldom_cases(cases, exact, seed):
+    draw = gases.Draw(seed + 3)
+    for _ in range(20):
+        sheet_cases(cases, exact, 'inert at a half', ref.layout(half_gas(draw), None))
+    for _ in range(5):
+        sheet_cases(cases, exact, 'fitness tie', ref.layout(fitness_tie_gas(draw), None))
+    for _ in range(20):
+        sheet_cases(cases, exact, 'count above 11', long_sheet(draw))
+
+
+def at_no_code(draw, analysis):
+    a = list(analysis)
+    a[draw.pick((0, 9, 13))] = draw.pick((1, 100, U32 - 1))
+    return tuple(a)
+
+
+def call_cases(cases, seed, sheets):
+    """The single calls; so many for so many sheets."""
+    draw = gases.Draw(seed + 1)
+    for analysis, allowance in itertools.islice(gases.search_cases(seed), sheets // 200):
+        if draw.one_in(32):
+            analysis = at_no_code(draw, analysis)
+        cases.search('search', analysis, allowance, search(analysis, allowance))
+    for kind, analysis, records in itertools.islice(gases.split_cases(seed), sheets // 10):
+        if draw.one_in(32):
+            analysis = at_no_code(draw, analysis)
+        count = draw.pick((0, 1, 8, 10, 255, U64 - 1)) if draw.one_in(32) else 9
+        cases.split('rate split', analysis, count, records, rate_split(analysis, count, records))
+    for case in itertools.islice(gases.partial_cases(seed), sheets // 5):
+        cases.partial('partial number', *case)
+    for analysis, records, room in itertools.islice(gases.writer_cases(seed), sheets // 20):
+        if draw.one_in(32):
+            analysis = at_no_code(draw, analysis)
+        count = draw.pick((1, 8, 10, 255, U64 - 1)) if draw.one_in(32) else 9 if records else 0
+        cases.write('write', analysis, count, records, room, room)
+    for analysis, records, _ in itertools.islice(gases.writer_cases(seed + 2), sheets // 500):
+        need = len(ref.layout(analysis, records))
+        cases.write('write, every room', analysis, 9 if records else 0, records, 0, need + 3)
+    for _ in range(sheets // 20):
+        edge = draw.between(-200, 200) * ref.UNITS + draw.pick((0, 5000000, -5000000)) + draw.pick((-1, 0, 1))
+        any_rating = draw.step() - I64
+        rating = draw.pick((edge, any_rating, any_rating >> draw.below(64), I64 - 1, -I64, I64 - 5000000))
+        cases.whole(rating)
+        cases.controller(rating, draw.step() >> draw.below(64))
+        cases.controller(draw.below(1200000000), draw.below(500001))
+
+
+def data_lines(name):
+    with open(os.path.join(HERE, 'data', name)) as lines:
+        return [line.strip() for line in lines if not line.startswith('#')]
+
+
+def known(cases, exact, kind, sheet, shown):
+    """A sheet whose display line is kept beside it."""
+    result = read(bytes.fromhex(sheet))[1]
+    if ref.display(result).strip() != shown:
+        raise Difference('the reference no longer prints %s for %s' % (shown, sheet))
+    sheet_cases(cases, exact, kind, bytes.fromhex(sheet))
+    return result
+
+
+def kept_cases(cases, exact):
+    """The sheets kept in tests/data: spreads at the limit and one unit on either side, and searches that end at the
+    limit, that need stride 1 or more than 4000 rounds, or where a move would empty a system."""
+    for line in data_lines('spread-limit.txt'):
+        known(cases, exact, 'spread at the limit', *line.split(' ', 1))
+    for line in data_lines('search-limit.txt'):
+        what, sheet, shown = line.split(' ', 2)
+        result = known(cases, exact, 'kept: ' + what, sheet, shown)
+        analysis = ref.read(bytes.fromhex(sheet))[0]
+        near = 4000 if isinstance(result, ref.Refusal) else result.rounds
+        for allowance in (max(near, 1) - 1, near, near + 1, 4000, 4001, 5000, U32 - 1):
+            cases.search('kept: ' + what, analysis, allowance, search(analysis, allowance))
+
+
+# ------------------------------------------------------------ the driver
+
+def run(driver, lines, *options):
+    with tempfile.TemporaryFile() as given:
+        given.write(''.join(line + '\n' for line in lines).encode())
+        given.seek(0)
+        try:
+            got = subprocess.run([driver, *options], stdin=given, stdout=subprocess.PIPE, text=True, timeout=SECONDS)
+        except subprocess.TimeoutExpired:
+            raise Difference('the driver has not ended after %d seconds' % SECONDS) from None
+    return got.returncode, got.stdout.split('\n')[:-1]
+
+
+def compare(driver, cases, tally):
+    """Runs the cases and ends at the first difference."""
+    lines = [line for _, line, _ in cases.items]
+    status, printed = run(driver, lines)
+    if status != 0:
+        status, printed = run(driver, lines, '--flush')
+    at = 0
+    for kind, line, expected in cases.items:
+        for one in expected:
+            if at >= len(printed):
+                raise Difference('the driver ended with status %s at this case (%s):\n  %s' % (status, kind, line))
+            if not one.agrees(printed[at]):
+                raise Difference('%s differs\n  case      %s\n  reference %s\n  driver    %s'
+                                 % (kind, line, one, printed[at]))
+            tally[kind, one.number] = tally.get((kind, one.number), 0) + 1
+            at += 1
+    if at != len(printed) or status != 0:
+        raise Difference('the driver printed %d lines for %d, status %s' % (len(printed), at, status))
+
+
+def part(job):
+    """One part: (difference or None, tally, exact ratings compared, farthest)."""
+    driver, seed, sheets, first = job
+    tally, exact, cases = {}, Exact(seed), Cases()
+    try:
+        if first:
+            kept_cases(cases, exact)
+        seldom_cases(cases, exact, seed)
+        call_cases(cases, seed, sheets)
+        for kind, sheet in itertools.islice(gases.sheets(seed, SEARCH_ONE_IN), sheets):
+            sheet_cases(cases, exact, kind, sheet)
+        compare(driver, cases, tally)
+    except Difference as difference:
+        return '%s\n  (seed %d of this part)' % (difference, seed), tally, 0, 0
+    return None, tally, exact.count, float(exact.farthest)
+
+
+def show(tally):
+    for kind in sorted({k for k, _ in tally}):
+        print('%-28s %7d  ' % (kind, sum(n for (k, _), n in tally.items() if k == kind))
+              + ' '.join('%d:%d' % (number, n) for (k, number), n in sorted(tally.items()) if k == kind))
+    print("(after the colon the count, before it the refusal's number, 0 for an answer)")
+
+
+def main():
+    parser = argparse.ArgumentParser()
+    parser.add_argument('driver')
+    parser.add_argument('--long', nargs=2, type=int, metavar=('N', 'SEED'))
+    parser.add_argument('--brief', action='store_true')
+    parser.add_argument('--jobs', type=int, default=os.cpu_count() or 1)
+    options = parser.parse_args()
+    sheets, seed = options.long or (DEFAULT_SHEETS, DEFAULT_SEED)
+    jobs = [(options.driver, seed * 100000 + i, min(PART, sheets - i * PART), i == 0)
+            for i in range(-(-sheets // PART))]
+    begin, tally, compared, farthest = time.time(), {}, 0, 0
+    with multiprocessing.Pool(options.jobs) as pool:
+        for difference, counts, exact, far in pool.imap(part, jobs):
+            if difference:
+                sys.exit('differential: ' + difference)
+            for key, n in counts.items():
+                tally[key] = tally.get(key, 0) + n
+            compared, farthest = compared + exact, max(farthest, far)
+    if not options.brief:
+        show(tally)
+    print('differential: %d sheets of seed %d, %d calls in all, no difference; %d ratings at most %.2f units from exact; '
+          '%.0f s' % (sheets, seed, sum(tally.values()), compared, farthest, time.time() - begin))
+
+
+if __name__ == '__main__':
+    main()

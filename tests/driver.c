@@ -1,0 +1,309 @@
+/* Calls the C interface with the cases on standard input and prints one line for each call.
+
+   A case is one line; FILL is a byte in base sixteen, HEX bytes in base sixteen or - for none, all else base ten.
+     rate       FILL HEX
+     read       FILL HEX
+     search     FILL ALLOWANCE AMOUNTS
+     split      FILL COUNT AMOUNTS RECORDS
+     write      FILL COUNT AMOUNTS RECORDS LOW HIGH     (a line for each room from LOW to HIGH)
+     partial    FILL SYSTEM N1 N2 N3
+     controller RATING SPREAD
+     whole      RATING
+   AMOUNTS is 14 times four bytes, high byte first; RECORDS nine times system, code and four bytes.
+
+   An answer is number, place, then every buffer of the call in base sixteen, in the header's order: first filled
+   with FILL, GUARD bytes before and after it included. Numbers in buffers stand high byte first. With --flush each
+   line is printed at once, so that the last one shows where a call did not return. */
+#include <stdio.h>
+#include <stdlib.h>
+#include <string.h>
+
+#include "saugrinte.h"
+
+enum { GUARD = 8, ROOM = 4096, LINE = 1 << 16 };
+
+/* A buffer with its guards. */
+typedef struct {
+    size_t size;
+    uint8_t *all;
+} region;
+
+static void fail(const char *why, const char *line)
+{
+    fprintf(stderr, "driver: %s: %.200s\n", why, line);
+    exit(2);
+}
+
+static void *reserve(size_t size)
+{
+    void *got = malloc(size ? size : 1);
+    if (!got)
+        fail("no memory", "");
+    return got;
+}
+
+static region filled(size_t size, int fill)
+{
+    region r = { size, reserve(size + 2 * GUARD) };
+    memset(r.all, fill, size + 2 * GUARD);
+    return r;
+}
+
+static void *at(region r)
+{
+    return r.all + GUARD;
+}
+
+static void put_byte(uint8_t byte)
+{
+    static const char digits[] = "0123456789abcdef";
+    putchar(digits[byte >> 4]);
+    putchar(digits[byte & 15]);
+}
+
+/* Prints a region whose numbers are `width` bytes each, high byte first, and gives it back. */
+static void put(region r, size_t width)
+{
+    putchar(' ');
+    for (size_t i = 0; i < GUARD; i++)
+        put_byte(r.all[i]);
+    for (size_t i = 0; i < r.size; i += width)
+        for (size_t j = width; j > 0; j--)
+            put_byte(r.all[GUARD + i + j - 1]);
+    for (size_t i = 0; i < GUARD; i++)
+        put_byte(r.all[GUARD + r.size + i]);
+    free(r.all);
+}
+
+static void put_answer(saugrinte_answer answer)
+{
+    printf("%lu %lu", (unsigned long)answer.number, (unsigned long)answer.place);
+}
+
+/* ---- words of a line ---- */
+
+static char line[LINE], *rest;
+
+static char *word(void)
+{
+    char *start = rest + strspn(rest, " \n");
+    char *end = start + strcspn(start, " \n");
+    if (start == end)
+        fail("a word is missing", line);
+    rest = *end ? end + 1 : end;
+    *end = 0;
+    return start;
+}
+
+static uint64_t number(void)
+{
+    return strtoull(word(), NULL, 10);
+}
+
+static int fill_byte(void)
+{
+    return (int)strtoul(word(), NULL, 16);
+}
+
+static int digit(char c)
+{
+    if (c >= '0' && c <= '9')
+        return c - '0';
+    if (c >= 'a' && c <= 'f')
+        return c - 'a' + 10;
+    fail("not a digit of base sixteen", line);
+    return 0;
+}
+
+/* Bytes in a block of just their size, so that a memory checker sees a read past it. */
+static uint8_t *bytes(size_t *length)
+{
+    char *w = word();
+    *length = strcmp(w, "-") ? strlen(w) / 2 : 0;
+    uint8_t *out = reserve(*length);
+    for (size_t i = 0; i < *length; i++)
+        out[i] = (uint8_t)(digit(w[2 * i]) << 4 | digit(w[2 * i + 1]));
+    return out;
+}
+
+static uint32_t four(const uint8_t *b)
+{
+    return (uint32_t)b[0] << 24 | (uint32_t)b[1] << 16 | (uint32_t)b[2] << 8 | b[3];
+}
+
+static void amounts_word(uint32_t amounts[14])
+{
+    size_t length;
+    uint8_t *b = bytes(&length);
+    if (length != 56)
+        fail("amounts are 56 bytes", line);
+    for (int i = 0; i < 14; i++)
+        amounts[i] = four(b + 4 * i);
+    free(b);
+}
+
+typedef struct {
+    uint8_t systems[9], codes[9];
+    uint32_t parts[9];
+} records;
+
+static records records_word(void)
+{
+    records r;
+    size_t length;
+    memset(&r, 0, sizeof r);
+    uint8_t *b = bytes(&length);
+    if (length != 54)
+        fail("records are 54 bytes", line);
+    for (int i = 0; i < 9; i++) {
+        r.systems[i] = b[6 * i];
+        r.codes[i] = b[6 * i + 1];
+        r.parts[i] = four(b + 6 * i + 2);
+    }
+    free(b);
+    return r;
+}
+
+/* What a call was given must stand as it was. */
+static void same(const void *now, const void *before, size_t size)
+{
+    if (size && memcmp(now, before, size))
+        printf(" INPUT CHANGED");
+}
+
+/* ---- the calls ---- */
+
+static void rate(void)
+{
+    int fill = fill_byte();
+    size_t length;
+    uint8_t *sheet = bytes(&length), *kept = reserve(length);
+    memcpy(kept, sheet, length);
+    region figures = filled(24, fill);
+    put_answer(saugrinte_rate(sheet, length, at(figures)));
+    put(figures, 8);
+    same(sheet, kept, length);
+    free(sheet);
+    free(kept);
+}
+
+static void read_sheet(void)
+{
+    int fill = fill_byte();
+    size_t length;
+    uint8_t *sheet = bytes(&length), *kept = reserve(length);
+    memcpy(kept, sheet, length);
+    region amounts = filled(56, fill), count = filled(sizeof(size_t), fill), systems = filled(9, fill),
+           codes = filled(9, fill), parts = filled(36, fill);
+    put_answer(saugrinte_read(sheet, length, at(amounts), at(count), at(systems), at(codes), at(parts)));
+    put(amounts, 4);
+    put(count, sizeof(size_t));
+    put(systems, 1);
+    put(codes, 1);
+    put(parts, 4);
+    same(sheet, kept, length);
+    free(sheet);
+    free(kept);
+}
+
+static void search(void)
+{
+    int fill = fill_byte();
+    uint32_t allowance = (uint32_t)number(), amounts[14], kept[14];
+    amounts_word(amounts);
+    memcpy(kept, amounts, sizeof kept);
+    region figures = filled(24, fill), systems = filled(9, fill), codes = filled(9, fill), parts = filled(36, fill);
+    put_answer(saugrinte_search(amounts, allowance, at(figures), at(systems), at(codes), at(parts)));
+    put(figures, 8);
+    put(systems, 1);
+    put(codes, 1);
+    put(parts, 4);
+    same(amounts, kept, sizeof kept);
+}
+
+static void split(void)
+{
+    int fill = fill_byte();
+    size_t count = (size_t)number();
+    uint32_t amounts[14], kept[14];
+    amounts_word(amounts);
+    memcpy(kept, amounts, sizeof kept);
+    records r = records_word(), before = r;
+    region figures = filled(24, fill);
+    put_answer(saugrinte_rate_split(amounts, count, r.systems, r.codes, r.parts, at(figures)));
+    put(figures, 8);
+    same(amounts, kept, sizeof kept);
+    same(&r, &before, sizeof r);
+}
+
+static void write_sheet(void)
+{
+    int fill = fill_byte();
+    size_t count = (size_t)number();
+    uint32_t amounts[14], kept[14];
+    amounts_word(amounts);
+    memcpy(kept, amounts, sizeof kept);
+    records r = records_word(), before = r;
+    size_t low = (size_t)number(), high = (size_t)number();
+    if (high > ROOM)
+        fail("too large a room", line);
+    for (size_t room = low; room <= high; room++) {
+        region buffer = filled(room, fill), length = filled(sizeof(size_t), fill);
+        put_answer(saugrinte_write(amounts, count, r.systems, r.codes, r.parts, at(buffer), room, at(length)));
+        put(buffer, 1);
+        put(length, sizeof(size_t));
+        same(amounts, kept, sizeof kept);
+        same(&r, &before, sizeof r);
+        if (room < high)
+            putchar('\n');
+    }
+}
+
+static void partial(void)
+{
+    int fill = fill_byte();
+    uint32_t system = (uint32_t)number(), n1 = (uint32_t)number(), n2 = (uint32_t)number(), n3 = (uint32_t)number();
+    region result = filled(8, fill);
+    put_answer(saugrinte_partial_number(system, n1, n2, n3, at(result)));
+    put(result, 8);
+}
+
+static void controller(void)
+{
+    int64_t rating = strtoll(word(), NULL, 10);
+    uint64_t spread = number();
+    saugrinte_record record = saugrinte_controller(rating, spread);
+    region both = filled(sizeof record, 0);
+    memcpy(at(both), &record, sizeof record);
+    putchar('0');
+    put(both, sizeof(double));
+}
+
+static void whole(void)
+{
+    printf("0 %lld", (long long)saugrinte_whole_number(strtoll(word(), NULL, 10)));
+}
+
+int main(int count, char **words)
+{
+    static const struct { const char *name; void (*call)(void); } calls[] = {
+        { "rate", rate }, { "read", read_sheet }, { "search", search }, { "split", split },
+        { "write", write_sheet }, { "partial", partial }, { "controller", controller }, { "whole", whole },
+    };
+    if (count > 1 && !strcmp(words[1], "--flush"))
+        setvbuf(stdout, NULL, _IOLBF, 0);
+    while (fgets(line, sizeof line, stdin)) {
+        if (!strchr(line, '\n'))
+            fail("a line is too long", line);
+        rest = line;
+        char *name = word();
+        size_t i = 0;
+        while (i < sizeof calls / sizeof *calls && strcmp(name, calls[i].name))
+            i++;
+        if (i == sizeof calls / sizeof *calls)
+            fail("no such call", name);
+        calls[i].call();
+        putchar('\n');
+    }
+    return 0;
+}

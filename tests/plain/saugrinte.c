@@ -1,0 +1,565 @@
+/* The same rules in plain C, written from the paper and not from the library, behind the same header. The benchmark
+   compares the library's time with it, and the tests can be tried on it. Compiled with gcc -O3. */
+#include <string.h>
+
+#include "saugrinte.h"
+
+enum { TORN = 1, UNKNOWN, RETIRED, OUT_OF_ORDER, OUT_OF_RANGE, TOTAL, MISFIT, UNSUMMED, EMPTY_SYSTEM, WIDE,
+       UNBALANCED, NO_MIXTURE, NO_SYSTEM, SHORT_BLANK };
+
+enum { CODES = SAUGRINTE_CODES, RECORDS = SAUGRINTE_RECORDS, ROUNDS = SAUGRINTE_ROUNDS };
+
+/* Components of the simplified mixture. */
+enum { METHANE, ETHANE, PROPANE, BUTANE, COMPONENTS };
+
+/* The four systems to choose from, in the order of their numbers 2, 4, 7, 8; the inert system is 20. */
+enum { CANDIDATES = 4, INERT = 4, CHOSEN = 3, MEMBERS = 3 };
+
+#define WHOLE 1000000
+#define LIMIT 500000
+
+static const saugrinte_answer done = { 0, 0 };
+
+static saugrinte_answer refused(uint32_t number, uint32_t place)
+{
+    saugrinte_answer answer = { number, place };
+    return answer;
+}
+
+/* ---- the register (001 Table 1) ---- */
+
+static const struct { uint32_t least, greatest; int required; } ranges[CODES] = {
+    { 0, 0, 0 },
+    { 400000, 999700, 1 },
+    { 100, 150000, 1 },
+    { 100, 60000, 1 },
+    { 10, 40000, 1 },
+    { 10, 40000, 1 },
+    { 10, 500, 0 },
+    { 10, 20000, 0 },
+    { 10, 20000, 0 },
+    { 0, 0, 0 },
+    { 10, 15000, 0 },
+    { 50, 100000, 0 },
+    { 50, 150000, 0 },
+    { 0, 0, 0 },
+};
+
+static int in_range(int code, uint32_t amount)
+{
+    return ranges[code].least <= amount && amount <= ranges[code].greatest;
+}
+
+static saugrinte_answer check(const uint32_t amounts[CODES])
+{
+    uint64_t total = 0;
+    for (int code = 0; code < CODES; code++) {
+        if (amounts[code] == 0 ? ranges[code].required : !in_range(code, amounts[code]))
+            return refused(OUT_OF_RANGE, code);
+        total += amounts[code];
+    }
+    if (total < 999900 || total > 1000100)
+        return refused(TOTAL, 0);
+    return done;
+}
+
+/* ---- partial numbers (001 Table 5, in units; a(2,2) of system 20 as in 000) ---- */
+
+static const int highest[8] = { 6, 3, 2, 1, 0, 0, 0, 0 };
+
+static const int64_t coefficients[CANDIDATES + 1][8][7] = {
+    { /* 2: propane, ethane, butane */
+        { 102451300, 149821300, 513697100, -568561500, 240394800, 0, 0 },
+        { 85906610, 957050400, -458027700, -314015700 },
+        { 738439600, -2020327000, 311470300 },
+        { -1003662000, 1251138000 },
+        { 412730500 },
+        { 0 },
+        { 0 },
+        { 0 },
+    },
+    { /* 4: methane, ethane, propane */
+        { 335390900, 206837500, -355368900, 500185600, -250425600, 0, 0 },
+        { -102822400, 331613700, 394184000, -433387600 },
+        { 2398141000, -2409604000, 803645400 },
+        { -9584746000, 3458510000 },
+        { 20052880000 },
+        { -21154170000 },
+        { 9054020000 },
+        { 0 },
+    },
+    { /* 7: methane, propane, butane */
+        { 101691400, 38170960, 1036501000, -1615215000, 774084000, 0, 0 },
+        { 436661200, -794786400, 2371491000, -878229100 },
+        { -8726454000, 3267886000, -4975863000 },
+        { 59397950000, -330858600 },
+        { -185412700000 },
+        { 295659800000 },
+        { -233707400000 },
+        { 73223480000 },
+    },
+    { /* 8: methane, ethane, butane */
+        { 107776100, -140500700, 1615437000, -1754670000, 607521300, 0, 0 },
+        { 164749000, -704486900, 3384803000, -1971021000 },
+        { -5198730000, 1479482000, -4041667000 },
+        { 39913150000, 2756444000 },
+        { -127748700000 },
+        { 201570300000 },
+        { -155801700000 },
+        { 47976930000 },
+    },
+    { /* 20: methane, carbon dioxide, nitrogen */
+        { 2991743000, -311563600, 1123041000, -21468550000, 66993640000, -83693870000, 39280730000 },
+        { -15119580000, 4548069000, 6555709000, -7933902000 },
+        { 76359480000, -7856294000, 1381699000 },
+        { -237626300000, 3860668000 },
+        { 435549400000 },
+        { -460772600000 },
+        { 261057000000 },
+        { -61439140000 },
+    },
+};
+
+static int64_t partial_number(int system, int64_t n1, int64_t n2, int64_t n3)
+{
+    int64_t d = n1 + n2 + n3;
+    int64_t number = 0;
+    for (int k = 7; k >= 0; k--) {
+        const int64_t *a = coefficients[system][k];
+        int64_t inner = a[highest[k]];
+        for (int l = highest[k] - 1; l >= 0; l--)
+            inner = inner * n2 / d + a[l];
+        number = k == 7 ? inner : number * n1 / d + inner;
+    }
+    return number;
+}
+
+/* ---- simplification and the inert mixture (000 A.3.1) ---- */
+
+typedef struct {
+    uint32_t amounts[COMPONENTS];
+    int64_t inert;                      /* the inert mixture's partial number */
+} mixture;
+
+static mixture simplify(const uint32_t amounts[CODES])
+{
+    mixture m;
+    uint64_t tenths[COMPONENTS], rest[COMPONENTS], total = 0, given = 0;
+    tenths[METHANE] = 10 * (uint64_t)amounts[1];
+    tenths[ETHANE] = 10 * (uint64_t)amounts[2];
+    tenths[PROPANE] = 10 * (uint64_t)amounts[3];
+    tenths[BUTANE] = 10 * ((uint64_t)amounts[4] + amounts[5])
+        + 23 * ((uint64_t)amounts[6] + amounts[7] + amounts[8]) + 53 * (uint64_t)amounts[10];
+    for (int c = 0; c < COMPONENTS; c++)
+        total += tenths[c];
+    for (int c = 0; c < COMPONENTS; c++) {
+        m.amounts[c] = tenths[c] * WHOLE / total;
+        rest[c] = tenths[c] * WHOLE % total;
+        given += m.amounts[c];
+    }
+    int raised[COMPONENTS] = { 0 };
+    for (; given < WHOLE; given++) {
+        int largest = -1;
+        for (int c = 0; c < COMPONENTS; c++)
+            if (!raised[c] && (largest < 0 || rest[c] > rest[largest]))
+                largest = c;
+        m.amounts[largest]++;
+        raised[largest] = 1;
+    }
+    uint64_t d = total + 10 * (uint64_t)amounts[11];
+    int64_t n1 = (2 * WHOLE * total + d) / (2 * d);
+    m.inert = partial_number(INERT, n1, WHOLE - n1, 0);
+    return m;
+}
+
+/* ---- choice of systems (000 A.3.2) ---- */
+
+static const int system_numbers[CANDIDATES + 1] = { 2, 4, 7, 8, 20 };
+
+/* Members as named: the first two are the formula's variables. */
+static const int formula[CANDIDATES][MEMBERS] = {
+    { PROPANE, ETHANE, BUTANE },
+    { METHANE, ETHANE, PROPANE },
+    { METHANE, PROPANE, BUTANE },
+    { METHANE, ETHANE, BUTANE },
+};
+
+/* Members in the order of a split's records. */
+static const int members[CANDIDATES][MEMBERS] = {
+    { ETHANE, PROPANE, BUTANE },
+    { METHANE, ETHANE, PROPANE },
+    { METHANE, PROPANE, BUTANE },
+    { METHANE, ETHANE, BUTANE },
+};
+
+static const int contains[CANDIDATES][COMPONENTS] = {
+    { 0, 1, 1, 1 },
+    { 1, 1, 1, 0 },
+    { 1, 0, 1, 1 },
+    { 1, 1, 0, 1 },
+};
+
+static void choose(const mixture *m, int systems[CHOSEN])
+{
+    static const uint64_t weights[COMPONENTS] = { 48, 75, 80, 100 };
+    static const int order[COMPONENTS] = { PROPANE, ETHANE, BUTANE, METHANE };
+    uint64_t fitness[CANDIDATES] = { 0 };
+    int chosen[CANDIDATES] = { 0 };
+    int times[COMPONENTS] = { 0 };
+    for (int s = 0; s < CANDIDATES; s++)
+        for (int c = 0; c < COMPONENTS; c++)
+            if (contains[s][c])
+                fitness[s] += weights[c] * m->amounts[c];
+    for (int wanted = 1; wanted <= 2; wanted++)
+        for (int i = 0; i < COMPONENTS; i++) {
+            if (times[order[i]] >= wanted)
+                continue;
+            int best = -1;
+            for (int s = 0; s < CANDIDATES; s++)
+                if (contains[s][order[i]] && !chosen[s] && (best < 0 || fitness[s] > fitness[best]))
+                    best = s;
+            chosen[best] = 1;
+            for (int c = 0; c < COMPONENTS; c++)
+                times[c] += contains[best][c];
+        }
+    for (int s = 0, i = 0; s < CANDIDATES && i < CHOSEN; s++)
+        if (chosen[s])
+            systems[i++] = s;
+}
+
+/* ---- the split and the rating ---- */
+
+typedef struct {
+    int systems[CHOSEN];
+    uint32_t amounts[CHOSEN][COMPONENTS];
+    int64_t numbers[CHOSEN];
+} split;
+
+static const uint8_t split_codes[COMPONENTS] = { 1, 2, 3, 14 };
+
+static int64_t number_of(int system, const uint32_t amounts[COMPONENTS])
+{
+    const int *f = formula[system];
+    return partial_number(system, amounts[f[0]], amounts[f[1]], amounts[f[2]]);
+}
+
+static int64_t parts_of(const uint32_t amounts[COMPONENTS])
+{
+    int64_t sum = 0;
+    for (int c = 0; c < COMPONENTS; c++)
+        sum += amounts[c];
+    return sum;
+}
+
+static int64_t spread_of(const int64_t numbers[CHOSEN])
+{
+    int64_t least = numbers[0], greatest = numbers[0];
+    for (int i = 1; i < CHOSEN; i++) {
+        if (numbers[i] < least)
+            least = numbers[i];
+        if (numbers[i] > greatest)
+            greatest = numbers[i];
+    }
+    return greatest - least;
+}
+
+static void rated(const split *s, const mixture *m, int64_t rounds, int64_t figures[3])
+{
+    int64_t sum = 0;
+    for (int i = 0; i < CHOSEN; i++)
+        sum += s->numbers[i] * parts_of(s->amounts[i]);
+    figures[0] = sum / WHOLE + m->inert - 1000003000;
+    figures[1] = spread_of(s->numbers);
+    figures[2] = rounds;
+}
+
+static saugrinte_answer rate_records(const uint32_t amounts[CODES], const uint8_t *systems, const uint8_t *codes,
+                                     const uint32_t *parts, int64_t figures[3])
+{
+    mixture m = simplify(amounts);
+    split s = { 0 };
+    uint64_t sums[COMPONENTS] = { 0 };
+    choose(&m, s.systems);
+    for (int r = 0; r < RECORDS; r++) {
+        int i = r / MEMBERS, c = members[s.systems[i]][r % MEMBERS];
+        if (systems[r] != system_numbers[s.systems[i]] || codes[r] != split_codes[c])
+            return refused(MISFIT, 0);
+        s.amounts[i][c] = parts[r];
+        sums[c] += parts[r];
+    }
+    for (int c = 0; c < COMPONENTS; c++)
+        if (sums[c] != m.amounts[c])
+            return refused(UNSUMMED, 0);
+    for (int i = 0; i < CHOSEN; i++) {
+        if (parts_of(s.amounts[i]) == 0)
+            return refused(EMPTY_SYSTEM, 0);
+        s.numbers[i] = number_of(s.systems[i], s.amounts[i]);
+    }
+    if (spread_of(s.numbers) > LIMIT)
+        return refused(WIDE, 0);
+    rated(&s, &m, 0, figures);
+    return done;
+}
+
+/* ---- the search ---- */
+
+static void start(const mixture *m, split *s)
+{
+    memset(s, 0, sizeof *s);
+    choose(m, s->systems);
+    for (int c = 0; c < COMPONENTS; c++) {
+        uint32_t sharing = 0;
+        for (int i = 0; i < CHOSEN; i++)
+            sharing += contains[s->systems[i]][c];
+        uint32_t share = m->amounts[c] / sharing, odd = m->amounts[c] % sharing;
+        for (int i = 0; i < CHOSEN; i++)
+            if (contains[s->systems[i]][c]) {
+                s->amounts[i][c] = share + (odd > 0);
+                odd -= odd > 0;
+            }
+    }
+    for (int i = 0; i < CHOSEN; i++)
+        s->numbers[i] = number_of(s->systems[i], s->amounts[i]);
+}
+
+static uint64_t imbalance_of(const int64_t numbers[CHOSEN])
+{
+    int64_t a = numbers[0] / 10000, b = numbers[1] / 10000, c = numbers[2] / 10000;
+    return (a - b) * (a - b) + (b - c) * (b - c) + (a - c) * (a - c);
+}
+
+/* Carries one stride of component c where that lowers the imbalance. Only the two systems touched are worked out
+   again; the numbers are kept with the split. */
+static int move(split *s, int c, int from, int to, uint32_t stride, uint64_t *imbalance)
+{
+    if (s->amounts[from][c] < stride || parts_of(s->amounts[from]) == stride)
+        return 0;
+    int64_t numbers[CHOSEN] = { s->numbers[0], s->numbers[1], s->numbers[2] };
+    s->amounts[from][c] -= stride;
+    s->amounts[to][c] += stride;
+    numbers[from] = number_of(s->systems[from], s->amounts[from]);
+    numbers[to] = number_of(s->systems[to], s->amounts[to]);
+    uint64_t after = imbalance_of(numbers);
+    if (after < *imbalance) {
+        memcpy(s->numbers, numbers, sizeof numbers);
+        *imbalance = after;
+        return 1;
+    }
+    s->amounts[from][c] += stride;
+    s->amounts[to][c] -= stride;
+    return 0;
+}
+
+static int first_move(split *s, uint32_t stride, uint64_t *imbalance)
+{
+    for (int c = 0; c < COMPONENTS; c++)
+        for (int from = 0; from < CHOSEN; from++)
+            for (int to = 0; to < CHOSEN; to++)
+                if (from != to && contains[s->systems[from]][c] && contains[s->systems[to]][c]
+                    && move(s, c, from, to, stride, imbalance))
+                    return 1;
+    return 0;
+}
+
+static saugrinte_answer find(const uint32_t amounts[CODES], uint32_t allowance, int64_t figures[3], split *s)
+{
+    mixture m = simplify(amounts);
+    uint32_t stride = 65536, rounds = 0;
+    start(&m, s);
+    uint64_t imbalance = imbalance_of(s->numbers);
+    for (;;) {
+        if (spread_of(s->numbers) <= LIMIT) {
+            rated(s, &m, rounds, figures);
+            return done;
+        }
+        if (rounds == allowance)
+            return refused(UNBALANCED, 0);
+        if (first_move(s, stride, &imbalance))
+            rounds++;
+        else if (stride == 1)
+            return refused(UNBALANCED, 0);
+        else
+            stride /= 2;
+    }
+}
+
+/* ---- the sheet ---- */
+
+typedef struct {
+    uint32_t amounts[CODES];
+    size_t count;
+    uint8_t systems[RECORDS], codes[RECORDS];
+    uint32_t parts[RECORDS];
+} contents;
+
+static uint32_t four_bytes(const uint8_t *b)
+{
+    return (uint32_t)b[0] << 24 | (uint32_t)b[1] << 16 | (uint32_t)b[2] << 8 | b[3];
+}
+
+static uint8_t *put_four_bytes(uint8_t *b, uint32_t value)
+{
+    b[0] = value >> 24;
+    b[1] = value >> 16;
+    b[2] = value >> 8;
+    b[3] = value;
+    return b + 4;
+}
+
+static saugrinte_answer parse(const uint8_t *sheet, size_t length, contents *out)
+{
+    memset(out, 0, sizeof *out);
+    if (length < 1 || sheet[0] > 11 || length < 2 + 5 * (size_t)sheet[0])
+        return refused(TORN, 0);
+    size_t components = sheet[0];
+    const uint8_t *second = sheet + 1 + 5 * components;
+    out->count = second[0];
+    if ((out->count != 0 && out->count != RECORDS) || length != 2 + 5 * components + 6 * out->count)
+        return refused(TORN, 0);
+    int before = 0, at_fault = 0;
+    for (size_t r = 0; r < components; r++) {
+        const uint8_t *record = sheet + 1 + 5 * r;
+        int code = record[0];
+        if (code == 0 || code >= 14)
+            return refused(UNKNOWN, r);
+        if (code == 9 || code == 13)
+            return refused(RETIRED, r);
+        if (code <= before)
+            return refused(OUT_OF_ORDER, r);
+        out->amounts[code] = four_bytes(record + 1);
+        if (out->amounts[code] == 0)
+            at_fault = code;
+        before = code;
+    }
+    if (at_fault)
+        return refused(OUT_OF_RANGE, at_fault);
+    saugrinte_answer checked = check(out->amounts);
+    if (checked.number)
+        return checked;
+    for (size_t r = 0; r < out->count; r++) {
+        const uint8_t *record = second + 1 + 6 * r;
+        out->systems[r] = record[0];
+        out->codes[r] = record[1];
+        out->parts[r] = four_bytes(record + 2);
+    }
+    return done;
+}
+
+/* ---- the interface ---- */
+
+saugrinte_answer saugrinte_rate(const uint8_t *sheet, size_t length, int64_t figures[3])
+{
+    contents read;
+    split found;
+    saugrinte_answer answer = parse(sheet, length, &read);
+    if (answer.number)
+        return answer;
+    if (read.count == 0)
+        return find(read.amounts, ROUNDS, figures, &found);
+    return rate_records(read.amounts, read.systems, read.codes, read.parts, figures);
+}
+
+saugrinte_answer saugrinte_search(const uint32_t amounts[14], uint32_t allowance, int64_t figures[3],
+                                  uint8_t systems[9], uint8_t codes[9], uint32_t parts[9])
+{
+    split found;
+    saugrinte_answer answer = check(amounts);
+    if (answer.number)
+        return answer;
+    answer = find(amounts, allowance < ROUNDS ? allowance : ROUNDS, figures, &found);
+    if (answer.number)
+        return answer;
+    for (int r = 0; r < RECORDS; r++) {
+        int i = r / MEMBERS, c = members[found.systems[i]][r % MEMBERS];
+        systems[r] = system_numbers[found.systems[i]];
+        codes[r] = split_codes[c];
+        parts[r] = found.amounts[i][c];
+    }
+    return done;
+}
+
+saugrinte_answer saugrinte_rate_split(const uint32_t amounts[14], size_t count, const uint8_t systems[9],
+                                      const uint8_t codes[9], const uint32_t parts[9], int64_t figures[3])
+{
+    saugrinte_answer answer = check(amounts);
+    if (answer.number)
+        return answer;
+    if (count != RECORDS)
+        return refused(MISFIT, 0);
+    return rate_records(amounts, systems, codes, parts, figures);
+}
+
+saugrinte_answer saugrinte_partial_number(uint32_t system, uint32_t n1, uint32_t n2, uint32_t n3, int64_t *number)
+{
+    for (int s = 0; s < CANDIDATES + 1; s++)
+        if (system == (uint32_t)system_numbers[s]) {
+            uint64_t d = (uint64_t)n1 + n2 + n3;
+            if (d == 0 || d > WHOLE)
+                return refused(NO_MIXTURE, 0);
+            *number = partial_number(s, n1, n2, n3);
+            return done;
+        }
+    return refused(NO_SYSTEM, 0);
+}
+
+saugrinte_answer saugrinte_read(const uint8_t *sheet, size_t length, uint32_t amounts[14], size_t *count,
+                                uint8_t systems[9], uint8_t codes[9], uint32_t parts[9])
+{
+    contents read;
+    saugrinte_answer answer = parse(sheet, length, &read);
+    if (answer.number)
+        return answer;
+    memcpy(amounts, read.amounts, sizeof read.amounts);
+    *count = read.count;
+    memcpy(systems, read.systems, sizeof read.systems);
+    memcpy(codes, read.codes, sizeof read.codes);
+    memcpy(parts, read.parts, sizeof read.parts);
+    return done;
+}
+
+saugrinte_answer saugrinte_write(const uint32_t amounts[14], size_t count, const uint8_t systems[9],
+                                 const uint8_t codes[9], const uint32_t parts[9], uint8_t *buffer, size_t room,
+                                 size_t *length)
+{
+    if (count != 0 && count != RECORDS)
+        return refused(TORN, 0);
+    saugrinte_answer answer = check(amounts);
+    if (answer.number)
+        return answer;
+    size_t components = 0;
+    for (int code = 0; code < CODES; code++)
+        components += amounts[code] != 0;
+    if (room < 2 + 5 * components + 6 * count)
+        return refused(SHORT_BLANK, 0);
+    uint8_t *at = buffer;
+    *at++ = components;
+    for (int code = 0; code < CODES; code++)
+        if (amounts[code] != 0) {
+            *at++ = code;
+            at = put_four_bytes(at, amounts[code]);
+        }
+    *at++ = count;
+    for (size_t r = 0; r < count; r++) {
+        *at++ = systems[r];
+        *at++ = codes[r];
+        at = put_four_bytes(at, parts[r]);
+    }
+    *length = at - buffer;
+    return done;
+}
+
+saugrinte_record saugrinte_controller(int64_t rating, uint64_t spread)
+{
+    saugrinte_record record = { (double)rating / 10000000.0, (double)spread / 10000000.0 };
+    return record;
+}
+
+int64_t saugrinte_whole_number(int64_t rating)
+{
+    int64_t whole = rating / 10000000, rest = rating % 10000000;
+    if (rest < 0) {
+        whole--;
+        rest += 10000000;
+    }
+    return whole + (rest >= 5000000);
+}

@@ -1,0 +1,348 @@
+"""Checks the reference against document 01: the figures given there, the
+limits of 19 and 40 units, found splits put back, and sums.
+
+selfcheck.py [SEED [GASES]]     default 1 and 300
+"""
+
+import os
+import sys
+from fractions import Fraction
+
+import gases
+import saugrinte as ref
+from saugrinte import Rating, Refusal
+
+A1 = (0, 970797, 16658, 2417, 346, 245, 11, 73, 125, 0, 84, 528, 8715, 0)
+EXAMPLE_1 = (0, 900900, 55400, 13200, 2100, 1900, 0, 400, 500, 0, 600, 14600,
+             10400, 0)
+EXAMPLE_2 = (0, 866475, 1169, 94500, 0, 1461, 0, 0, 292, 0, 0, 36103, 0, 0)
+
+
+def marked_figures():
+    assert ref.partial_number(20, 1000000, 0, 0) == 1000003000
+    assert ref.partial_number(4, 1000000, 0, 0) == 998693500
+    assert ref.partial_number(7, 1000000, 0, 0) == 973028600
+    assert ref.partial_number(8, 1000000, 0, 0) == 983775100
+    assert ref.partial_number(2, 1000000, 0, 0) == 335866010
+    assert ref.partial_number(2, 0, 0, 1000000) == 102451300
+    assert [ref.whole_number(x) for x in
+            (765000000, 764999999, -5000000, -5000001)] == [77, 76, 0, -1]
+    assert sum(A1) == 999999
+    amounts = ref.simplify(A1)
+    assert amounts == (979229, 16803, 2438, 1530)
+    assert ref.fitness(amounts) == {2: 1608265, 4: 48458257, 7: 47351032,
+                                    8: 48416217}
+    assert ref.choose(amounts) == (4, 7, 8)
+    begin = ref.start(amounts, (4, 7, 8))
+    assert [begin[s][ref.M] for s in (4, 7, 8)] == [326410, 326410, 326409]
+    assert ref.inert(A1) == (999468, 532)
+    # The inert case that decides the sign of a(2,2) of system 20: 101.42 with
+    # plus, 101.36 with minus.
+    plus = ref.exact_number(20, 985302, 14698, 0)
+    term = ref.COEFFICIENTS[20][2][2] * Fraction(985302 * 14698, 10 ** 12) ** 2
+    assert plus // 100000 == 10142 and (plus - 2 * term) // 100000 == 10136
+
+
+def compared_figures():
+    assert ref.search(A1, 0) == Refusal(11)
+    assert isinstance(ref.search(A1), Rating)
+
+    def sheet(**changed):
+        a = list(A1)
+        for name, amount in changed.items():
+            a[int(name[1:])] = amount
+        return ref.layout(a, None)
+
+    # Totals by methane; A1 totals 999999.
+    assert ref.read(sheet(c1=970797 - 100)) == Refusal(6)
+    assert not isinstance(ref.read(sheet(c1=970797 - 99)), Refusal)
+    assert not isinstance(ref.read(sheet(c1=970797 + 101)), Refusal)
+    assert ref.read(sheet(c1=970797 + 102)) == Refusal(6)
+    rest = 970797 + 16658
+    assert ref.read(sheet(c2=99, c1=rest - 99)) == Refusal(5, frozenset([2]))
+    assert not isinstance(ref.read(sheet(c2=100, c1=rest - 100)), Refusal)
+    assert ref.choose(ref.simplify(EXAMPLE_1)) == (4, 7, 8)
+    assert ref.choose(ref.simplify(EXAMPLE_2)) == (4, 7, 8)
+    assert ref.display(ref.rate(bytes.fromhex("01090000006400"))) == \
+        "REFUSED 3\n"
+
+
+def refusals():
+    """Each number, and the order of the tests."""
+    found = ref.search(A1)
+    good = ref.layout(A1, found.split)
+    assert len(good) == ref.LONGEST
+    for size in range(len(good)):
+        assert ref.read(good[:size]) == Refusal(1)
+    assert ref.read(good + b"\0") == Refusal(1)
+    assert ref.read(bytes([12]) + bytes(200)) == Refusal(1)
+    assert ref.read(bytes([0, 1]) + bytes(6)) == Refusal(1)
+    assert ref.read(bytes(2)) == Refusal(5, frozenset([1, 2, 3, 4, 5]))
+
+    def listed(*records):
+        return ref.read(gases.sheet_of(records, ()))
+    assert listed((0, 0)) == Refusal(2, 0)
+    assert listed((1, 0), (14, 0)) == Refusal(2, 1)
+    assert listed((9, 0), (14, 0)) == Refusal(3, 0)
+    assert listed((12, 0), (9, 0)) == Refusal(3, 1)
+    assert listed((12, 0), (13, 0)) == Refusal(3, 1)
+    assert listed((1, 0), (2, 0), (2, 0)) == Refusal(4, 2)
+    assert listed((2, 0), (1, 0), (0, 0)) == Refusal(4, 1)
+    assert listed(*((c, ref.RANGE[c][0] if c < 6 else 0)
+                    for c in sorted(ref.RANGE))).at == \
+        frozenset([6, 7, 8, 10, 11, 12])
+
+    def split(*changes):
+        records = [list(r) for r in found.split]
+        for place, column, figure in changes:
+            records[place][column] = figure
+        return ref.rate_split(A1, tuple(map(tuple, records)))
+    assert split() == found._replace(rounds=0)
+    assert split((0, 0, 2)) == split((0, 1, 2)) == Refusal(7)
+    assert split((5, 1, 4)) == Refusal(7)
+    assert split((0, 2, found.split[0][2] + 1)) == Refusal(8)
+    assert split((0, 2, 2 ** 32 - 1)) == Refusal(8)
+    # Wraps: 2^32 carried between two records of methane.
+    assert split((0, 2, found.split[0][2] + 2 ** 31),
+                 (3, 2, found.split[3][2] + 2 ** 31)) == Refusal(8)
+    m, e, p, b = ref.simplify(A1)
+    records = [(4, 1, m), (4, 2, e), (4, 3, p), (7, 1, 0), (7, 3, 0),
+               (7, 14, 0), (8, 1, 0), (8, 2, 0), (8, 14, b)]
+    assert ref.rate_split(A1, records) == Refusal(9)
+    records[4], records[2] = (7, 3, 1), (4, 3, p - 1)
+    assert ref.rate_split(A1, records) == Refusal(10)
+
+    assert ref.partial_number(3, 0, 0, 0) == Refusal(13)
+    assert ref.partial_number(4, 0, 0, 0) == Refusal(12)
+    assert ref.partial_number(4, 1000000, 1, 0) == Refusal(12)
+    assert ref.partial_number(4, 2 ** 32 - 1, 2, 0) == Refusal(12)
+
+    for split in (None, found.split):
+        sheet = ref.layout(A1, split)
+        for room in (0, len(sheet) - 1, len(sheet), len(sheet) + 3, 200):
+            buffer = bytearray(b"\xA5" * room)
+            got = ref.write(A1, split, buffer)
+            if room < len(sheet):
+                assert got == Refusal(14) and buffer == b"\xA5" * room
+            else:
+                assert got == len(sheet)
+                assert buffer == sheet + b"\xA5" * (room - len(sheet))
+        assert ref.read(sheet) == (A1, split)
+    thin = (0, 970797, 99, *A1[3:])
+    assert ref.write(thin, None, bytearray()) == Refusal(5, frozenset([2]))
+    light = (0, 900000, *A1[2:])
+    assert ref.write(light, None, bytearray()) == Refusal(6)
+
+
+def spread_limit():
+    """Sheets with a spread at the limit and one unit beside it."""
+    path = os.path.join(os.path.dirname(os.path.abspath(__file__)),
+                        "..", "data", "spread-limit.txt")
+    with open(path) as f:
+        for line in f:
+            if line.startswith("#"):
+                continue
+            sheet, display = line.split(" ", 1)
+            assert ref.display(ref.rate(bytes.fromhex(sheet))) == display
+
+
+# A second reading of the working rule and of the search, in the plainest form.
+
+def plain_number(system, n1, n2, n3):
+    d = n1 + n2 + n3
+    divisions = 0
+
+    def share(x, n):
+        nonlocal divisions
+        divisions += 1
+        quotient = abs(x * n) // d
+        return quotient if x >= 0 else -quotient
+
+    rows = []
+    for k in range(8):
+        row = ref.COEFFICIENTS[system][k]
+        value = row[ref.HIGHEST_L[k]]
+        for l in range(ref.HIGHEST_L[k] - 1, -1, -1):
+            value = share(value, n2) + row[l]
+        rows.append(value)
+    value = rows[7]
+    for k in range(6, -1, -1):
+        value = share(value, n1) + rows[k]
+    assert divisions == 19
+    return value
+
+
+def plain_search(analysis, allowance):
+    """The search over a flat list of nine records, everything worked out
+    afresh for each move."""
+    amounts = ref.simplify(analysis)
+    systems = ref.choose(amounts)
+    variables = {2: (3, 2, 14), 4: (1, 2, 3), 7: (1, 3, 14), 8: (1, 2, 14)}
+    records = []
+    for s in systems:
+        for code in (1, 2, 3, 14):
+            if code in variables[s]:
+                sharing = [x for x in systems if code in variables[x]]
+                amount = amounts[(1, 2, 3, 14).index(code)]
+                share = amount // len(sharing)
+                if sharing.index(s) < amount - share * len(sharing):
+                    share += 1
+                records.append((s, code, share))
+
+    def numbers(records):
+        amount = {(s, code): a for s, code, a in records}
+        return [plain_number(s, *(amount[s, code] for code in variables[s]))
+                for s in systems]
+
+    def uneven(values):
+        x, y, z = [abs(v) // 10000 * (1 if v >= 0 else -1) for v in values]
+        return (x - y) ** 2 + (y - z) ** 2 + (z - x) ** 2
+
+    rounds, stride = 0, 65536
+    while True:
+        now = numbers(records)
+        if max(now) - min(now) <= 500000:
+            return rounds, tuple(records)
+        if rounds == min(allowance, 4000):
+            return None
+        better = None
+        for code in (1, 2, 3, 14):
+            for i, (giver, c, has) in enumerate(records):
+                for j, (taker, c2, _) in enumerate(records):
+                    if better or c != code or c2 != code or i == j \
+                            or has < stride:
+                        continue
+                    trial = list(records)
+                    trial[i] = (giver, c, has - stride)
+                    trial[j] = (taker, c, trial[j][2] + stride)
+                    if any(sum(a for s, _, a in trial if s == x) == 0
+                           for x in systems):
+                        continue
+                    if uneven(numbers(trial)) < uneven(now):
+                        better = trial
+        if better:
+            records = better
+            rounds += 1
+        elif stride == 1:
+            return None
+        else:
+            stride //= 2
+
+
+def partial_limits(seed, count):
+    """Under 19 units from exact; the trimmed rule equals the full one."""
+    cases = gases.partial_cases(seed)
+    worst = Fraction(0)
+    for _ in range(count):
+        system, n1, n2, n3 = case = next(cases)
+        got = ref.partial_number(*case)
+        if system not in ref.COEFFICIENTS:
+            assert got == ref.exact_number(*case) == Refusal(13)
+        elif not 1 <= n1 + n2 + n3 <= 1000000:
+            assert got == ref.exact_number(*case) == Refusal(12)
+        else:
+            assert got == plain_number(*case)
+            exact = ref.exact_number(*case)
+            d = n1 + n2 + n3
+            assert d ** 7 % exact.denominator == 0
+            worst = max(worst, abs(got - exact))
+    assert worst < 19
+    return worst
+
+
+def resums(analysis, records):
+    sums = [sum(a for _, code, a in records if code == c)
+            for c in ref.SPLIT_CODE]
+    return tuple(sums) == ref.simplify(analysis)
+
+
+def found_splits(seed, count):
+    """Under 40 units, put back, re-summed, and the same by the plain search."""
+    draw = gases.Draw(seed)
+    worst = Fraction(0)
+    rated = 0
+    for n in range(count):
+        analysis = gases.any_gas(draw)
+        amounts = ref.simplify(analysis)
+        assert sum(amounts) == 1000000 and min(amounts) > 0
+        got = ref.search(analysis)
+        if isinstance(got, Refusal):
+            assert got == Refusal(11)
+            if n % 16 == 0:
+                assert plain_search(analysis, 4000) is None
+            continue
+        rated += 1
+        assert got.spread <= ref.SPREAD_LIMIT and got.rounds <= 4000
+        assert resums(analysis, got.split)
+        assert sum(a for _, _, a in got.split) == 1000000
+        back = ref.rate_split(analysis, got.split)
+        assert back == got._replace(rounds=0)
+        sheet = bytearray(111)
+        size = ref.write(analysis, got.split, sheet)
+        assert ref.rate(bytes(sheet[:size])) == back
+        worst = max(worst, abs(got.rating - ref.exact_rating(analysis,
+                                                             got.split)))
+        # A smaller allowance refuses, the same or a larger one doesn't.
+        assert ref.search(analysis, got.rounds) == got
+        assert ref.search(analysis, 2 ** 32 - 1) == got
+        if got.rounds:
+            assert ref.search(analysis, got.rounds - 1) == Refusal(11)
+        if got.rounds < 40:
+            assert plain_search(analysis, 4000) == (got.rounds, got.split)
+    assert worst < 40
+    return rated, worst
+
+
+def proposed_splits(seed, count):
+    """Under 40 units; rated exactly when in range, re-summed, no system empty
+    and the spread within the limit."""
+    cases = gases.split_cases(seed)
+    worst = Fraction(0)
+    rated = 0
+    for _ in range(count):
+        kind, analysis, records = next(cases)
+        got = ref.rate_split(analysis, records)
+        fits = not ref.check(analysis)
+        if fits:
+            pairs = ref.expected(ref.choose(ref.simplify(analysis)))
+            fits = [(s, c) for s, c, _ in records] == \
+                [(s, ref.SPLIT_CODE[c]) for s, c in pairs] \
+                and resums(analysis, records)
+        if fits:
+            held = gases.held_of(records)
+            fits = all(sum(x.values()) for x in held.values())
+        if fits:
+            values = [plain_number(s, *(held[s][c]
+                                        for c in ref.FORMULA_ORDER[s]))
+                      for s in held]
+            fits = max(values) - min(values) <= 500000
+        assert isinstance(got, Rating) == fits, kind
+        if fits:
+            rated += 1
+            worst = max(worst, abs(got.rating - ref.exact_rating(analysis,
+                                                                 records)))
+    assert worst < 40
+    return rated, worst
+
+
+def main(arguments):
+    seed = int(arguments[0]) if arguments else 1
+    count = int(arguments[1]) if len(arguments) > 1 else 300
+    marked_figures()
+    compared_figures()
+    refusals()
+    spread_limit()
+    print("figures and refusals of document 01: as written")
+    worst = partial_limits(seed, 10 * count)
+    print("partial numbers: %d cases, farthest from exact %.3f units"
+          % (10 * count, worst))
+    rated, worst = found_splits(seed, count)
+    print("found splits: %d of %d gases rated, put back and re-summed; "
+          "farthest from exact %.3f units" % (rated, count, worst))
+    rated, worst = proposed_splits(seed, 5 * count)
+    print("proposed splits: %d of %d rated; farthest from exact %.3f units"
+          % (rated, 5 * count, worst))
+
+
+if __name__ == "__main__":
+    main(sys.argv[1:])

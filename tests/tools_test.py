@@ -1,0 +1,108 @@
+#!/usr/bin/env python3
+"""Tests tools/sheet.py: the bytes it makes, and what it says of each kind of line that it cannot read.
+
+  python3 tests/tools_test.py
+"""
+import os
+import subprocess
+import sys
+import tempfile
+
+HERE = os.path.dirname(os.path.abspath(__file__))
+ROOT = os.path.dirname(HERE)
+sys.path.insert(0, os.path.join(HERE, 'reference'))
+import saugrinte as ref  # noqa: E402
+
+TOOL = os.path.join(ROOT, 'tools', 'sheet.py')
+TABLE_A1 = (0, 970797, 16658, 2417, 346, 245, 11, 73, 125, 0, 84, 528, 8715, 0)
+FOUND = ref.search(TABLE_A1).split
+NAMES = {1: 'methane', 2: 'ethane', 3: 'propane', 14: 'butane'}
+SPLIT = ''.join('split %d %s %d.%04d\n' % (s, NAMES[c], a // 10000, a % 10000) for s, c, a in FOUND)
+EXAMPLE = os.path.join(ROOT, 'examples', 'table-a1.txt')
+with open(EXAMPLE, encoding='utf-8') as example:
+    LINES = example.read()
+
+# (what it is, text, status, a part of the message)
+WRONG = (
+    ('an unknown component', 'methane 97.0797\nmethan 1\n', "line 2: 'methan' is none of methane, ethane,"),
+    ('capitals', 'Methane 97\n', "line 1: 'Methane' is none of"),
+    ('butane outside a split', 'butane 1\n', "line 1: 'butane' is none of"),
+    ('no amount', 'methane\n', 'line 1: a line is a component and its amount'),
+    ('three words', 'methane 97 %\n', 'line 1: a line is a component and its amount'),
+    ('words for an amount', 'methane much\n', "line 1: 'much' is not an amount such as 97.0797"),
+    ('a comma', 'methane 97,0797\n', "line 1: '97,0797' is not an amount"),
+    ('a sign', 'methane -1\n', "line 1: '-1' is not an amount"),
+    ('an exponent', 'methane 1e2\n', "line 1: '1e2' is not an amount"),
+    ('a point and no decimals', 'methane 97.\n', "line 1: '97.' is not an amount"),
+    ('no whole', 'methane .5\n', "line 1: '.5' is not an amount"),
+    ('digits of another script', 'methane \u0669\n', "line 1: '\u0669' is not an amount"),
+    ('five decimals', 'methane 97.07971\n', "line 1: '97.07971' has more than four decimals"),
+    ('too large', 'methane 429496.7296\n', "line 1: '429496.7296' does not fit the sheet's four bytes"),
+    ('twice', 'methane 97\n\nmethane 1\n', 'line 3: methane is listed twice'),
+    ('eight records', SPLIT.split('\n', 1)[1], 'a split has nine records, and 8 are given'),
+    ('ten records', SPLIT + 'split 8 butane 1\n', 'a split has nine records, and 10 are given'),
+    ('a short split line', 'split 4 methane\n', 'line 1: a split line is: split SYSTEM COMPONENT AMOUNT'),
+    ('a system in words', 'split four methane 1\n', "line 1: 'four' is not a system's number"),
+    ('a system above a byte', 'split 256 methane 1\n', "line 1: '256' is not a system's number"),
+    ('a component that splits have not', 'split 4 n-butane 1\n',
+     "line 1: 'n-butane' is none of methane, ethane, propane, butane"),
+    ('a split amount', 'split 4 methane x\n', "line 1: 'x' is not an amount"),
+)
+
+RIGHT = (
+    ('the gas of 001 Table A.1', LINES, ref.layout(TABLE_A1, None)),
+    ('with its found split', LINES + SPLIT, ref.layout(TABLE_A1, FOUND)),
+    ('lines in another order', '\n'.join(reversed(LINES.split('\n'))), ref.layout(TABLE_A1, None)),
+    ('comments and blank lines', '# gas\n\n  methane 40 # percent\n\tethane\t0.01\n',
+     bytes.fromhex('020100061a80020000006400')),
+    ('no line at all', '', bytes(2)),
+    ('the largest amount', 'methane 429496.7295\n', bytes.fromhex('0101ffffffff00')),
+    ('an amount of 0', 'nitrogen 0\n', bytes.fromhex('010c0000000000')),
+)
+
+failures = 0
+
+
+def run(text, *arguments):
+    got = subprocess.run([sys.executable, TOOL, *arguments], input=text.encode(), capture_output=True)
+    return got.returncode, got.stdout, got.stderr.decode()
+
+
+def expect(what, good, shown):
+    global failures
+    if not good:
+        failures += 1
+        print('tools: %s: %s' % (what, shown))
+
+
+def turned_away(status, out, said):
+    return status == 1 and out == b'' and said.startswith('sheet: ') and 'Traceback' not in said
+
+
+def main():
+    for what, text, sheet in RIGHT:
+        got = run(text)
+        expect(what, got == (0, sheet, ''), got)
+    got = run('', EXAMPLE)
+    expect('a named file', got == (0, ref.layout(TABLE_A1, None), ''), got)
+    for what, text, message in WRONG:
+        status, out, said = run(text)
+        expect(what, status == 1 and out == b'' and said.startswith('sheet: ' + message) and said.count('\n') == 1,
+               (status, out, said))
+    with tempfile.TemporaryDirectory() as place:
+        status, out, said = run('', os.path.join(place, 'none'))
+        expect('a file that is not there', turned_away(status, out, said), (status, out, said))
+        with open(os.path.join(place, 'bytes'), 'wb') as f:
+            f.write(b'methane 97\xff\n')
+        status, out, said = run('', f.name)
+        expect('bytes that are no text', turned_away(status, out, said), (status, out, said))
+    status, out, said = run('', 'a', 'b')
+    expect('two files', status == 1 and out == b'' and 'python3 tools/sheet.py' in said, (status, out, said))
+    if failures:
+        sys.exit('tools: %d failed' % failures)
+    print('tools: sheet.py makes %d sheets right and turns %d inputs away with a clear message'
+          % (len(RIGHT) + 1, len(WRONG) + 3))
+
+
+if __name__ == '__main__':
+    main()
