@@ -2,10 +2,14 @@
 use mathlib.Core.Path.{_≡_, refl, sym, ap, _∙_, subst}
 use mathlib.Core.Bool.{Bool, true, false}
 use mathlib.Core.List.{List}
-use Prim.Native.Nat.{ℕ, _≤_}
+use Prim.Native.Nat.{ℕ, _^_, _<_}
 use native.Mathlib.Omega.{arith}
 use lib.Dec.{eqb}
 use lib.IntN.{ℤ}
+use lib.Signed.{mag}
+use mir.Syntax.{w64}
+use mir.Val.{toZ, ofZ}
+use mir.ValLaws.{toZ-ofZ}
 use borrow.Author.Tests.{eq-eqb, ne-eqb, eqb-true, eqb-false}
 use Rattle.analysis.specs.Register.{ifElse}
 use Rattle.analysis.specs.Check.{refusalOf}
@@ -39,3 +43,8 @@ module _ (a : List ℕ) (r : InertMixture) (h : InertAnswer a r) (passed : refus
       let z : true ≡ false = ap isRefused (sym e ∙ inert-amounts) in
       let y : _≡_ {A = ℕ} 0 1 = cc in
       omega arith
+
+-- ---- a call's signed result
+
+pub read-back : (z : ℤ) → mag z < 2 ^ 63 → toZ w64 (ofZ w64 z) ≡ z
+read-back z h = toZ-ofZ w64 z (record { sfits = h })

@@ -57,8 +57,7 @@ pub rated-exactly-when : (a : List ℕ) → length a ≡ 14 → refusalOf a ≡ 
     → IsRated (splitAnswer a (proposal a xs) code) ↔ Fit LIMIT (systemsFor a) (countFor a) (mixOf a) (cellsIn a (proposal a xs))
 rated-exactly-when a long passed xs code =
     let n1 = inertFirst a in
-    let e = split-fits a (proposal a xs) code passed refl refl refl in
-    (
+    let e = split-fits a (proposal a xs) code passed refl refl refl in (
       λ r. rated-fit LIMIT (systemsFor a) (countFor a) (mixOf a) (cellsIn a (proposal a xs)) n1 (subst IsRated e r),
       λ f. subst IsRated (sym (e ∙ fit-rated LIMIT (systemsFor a) (countFor a) (mixOf a) (cellsIn a (proposal a xs)) n1 f)) tt,
     )

@@ -42,8 +42,7 @@ pub proposed-small : (a : List ℕ) → length a ≡ 14 → (p : Split) (code : 
     → (natAbs w < 9007199254740992) × (s < 9007199254740992)
 proposed-small a long p code w s r is =
     let (passed, e) = split-rated a p code w s r is in
-    let cells = cellsOf (systemsFor a) (countFor a) (p .amounts) in
-    (
+    let cells = cellsOf (systemsFor a) (countFor a) (p .amounts) in (
       rated-small (systemsFor a) (countFor a) (mixOf a) cells (chosen a) LIMIT (inertFirst a) w s r e (omega (arith, million a long passed)),
       rated-spread-small (systemsFor a) (countFor a) (mixOf a) cells (chosen a) LIMIT (inertFirst a) w s r e,
     )

@@ -172,7 +172,7 @@ pub accepted-ends : (s : List ℕ) (code : ℕ) → readOf s code .answer ≡ re
 unfolding sheetOutcome
 accepted-ends s code h e =
     let f = ap (λ (x : Reading). readBy x (readOf s code .analysis .amounts) (readOf s code .split) code .answer) h
-        ∙ ap (λ (n : ℕ). ifElse (eqb n 0) (searchOutcome (readOf s code .analysis .amounts) ROUNDS code) (outcome (splitAnswer (readOf s code .analysis .amounts) (readOf s code .split) code) noSplit) .answer) e in
+    ∙ ap (λ (n : ℕ). ifElse (eqb n 0) (searchOutcome (readOf s code .analysis .amounts) ROUNDS code) (outcome (splitAnswer (readOf s code .analysis .amounts) (readOf s code .split) code) noSplit) .answer) e in
     subst (λ (x : Answer). IsRated x ⊎ (x ≡ Refused 11 0)) (sym f) (search-ends (readOf s code .analysis .amounts) ROUNDS code (read-passed s code h))
 
 either : (x : Answer) → IsRated x ⊎ (x ≡ Refused 11 0) → RatedOr 1 11 x

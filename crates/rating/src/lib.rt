@@ -7,6 +7,7 @@ mod records;
 ghost use mathlib.Core.Path.{_≡_};
 ghost use Prim.Native.Nat.{_≤_, min};
 ghost use lib.Dec.{eqb};
+ghost use lib.ListN.{getD};
 ghost use Rattle.analysis.specs.Register.{ifElse};
 ghost use Rattle.analysis.specs.Check.{refusalOf, AtFault};
 ghost use Rattle.sheet.specs.Split.{noSplit};
@@ -18,11 +19,15 @@ ghost use Rattle.split.specs.Fits.{Fit};
 ghost use Rattle.rating.specs.Rate.{splitBy, splitAnswer, recordsOf, outcome, foundOutcome, searchOutcome, sheetOutcome, numberOf, codeOf};
 ghost use Rattle.rating.specs.Given.{FoundFit};
 use analysis::Analysis;
+use analysis::Checked;
 use mixture::InertMixture;
-use records::COMPONENTS;
 use records::CELLS;
+use records::COMPONENTS;
+use sheet::Reading;
 use sheet::Split;
 use split::Answer;
+use split::Found;
+use split::Search;
 use systems::Choice;
 
 // The spread limit in units, 0.05 of a methane number.
@@ -38,6 +43,138 @@ const ROUNDS: u32 = 4000;
 pub struct Outcome {
     pub answer: Answer,
     pub split: Split,
+}
+
+// The rating of a proposed split of an analysis: 5, 6, then 7 to 10, else its rating and its spread.
+pub fn rate_split(a: Analysis, p: Split) -> Answer
+    ensures { λ r. ⌜ r ≡ splitAnswer (a .amounts) p (codeOf r) ⌝ }
+    ensures { λ r. ⌜ (numberOf r ≡ 5 → AtFault (a .amounts) (codeOf r)) ⌝ }
+{
+    let simplified = mixture::simplify(a);
+    let answer = simplified.answer;
+    let mixture = simplified.mixture;
+    let mix = mixture.amounts;
+    match answer {
+        Checked::Refused { number, code } => Answer::Refused {
+            number,
+            place: code,
+        },
+        Checked::InRange => split_by(systems::choose(mix), mix, first_inert(a), p),
+    }
+}
+
+// The rating of an analysis by the search, with its split: 5, 6 or 11, else rating, spread and rounds. An allowance
+// above the most rounds counts as those.
+pub fn rate_by_search(a: Analysis, allowance: u32) -> Outcome
+    ensures { λ r. ⌜ r ≡ searchOutcome (a .amounts) allowance (codeOf (r .answer)) ⌝ }
+    ensures { λ r. ⌜ (numberOf (r .answer) ≡ 5 → AtFault (a .amounts) (codeOf (r .answer))) ⌝ }
+{
+    let simplified = mixture::simplify(a);
+    let answer = simplified.answer;
+    let mixture = simplified.mixture;
+    let mix = mixture.amounts;
+    match answer {
+        Checked::Refused { number, code } => refused(number, code),
+        Checked::InRange => {
+            let choice = systems::choose(mix);
+            let found = search::find(mix, choice, LIMIT, LEVEL, at_most(allowance));
+            found_outcome(choice, mix, first_inert(a), found)
+        }
+    }
+}
+
+// The rating of a sheet: 1 to 6, then that of its split, or by the search with the most rounds where it has none.
+pub fn rate_sheet(s: &[u8]) -> Outcome
+    ensures { λ r. ⌜ r ≡ sheetOutcome (now (s .entry)) (codeOf (r .answer)) ⌝ }
+    ensures { λ r. ⌜ (numberOf (r .answer) ≡ 5 → FaultIn (getD (now (s .entry)) 0 0) (now (s .entry)) (codeOf (r .answer))) ⌝ }
+{
+    let sheet = reader::read(s);
+    let answer = sheet.answer;
+    let analysis = sheet.analysis;
+    let split = sheet.split;
+    match answer {
+        Reading::Refused {
+            number,
+            place,
+            code,
+        } => refused(number, carried(number, place, code)),
+        Reading::Read => rate_read(analysis, split),
+    }
+}
+
+// The rating of what was read, an analysis in range.
+fn rate_read(a: Analysis, p: Split) -> Outcome
+    requires { ⌜ refusalOf (a .amounts) ≡ 0 ⌝ }
+    ensures { λ r. ⌜ r ≡ ifElse (eqb (p .count) 0) (searchOutcome (a .amounts) 4000 0) (outcome (splitAnswer (a .amounts) p 0) noSplit) ⌝ }
+{
+    let count = p.count;
+    if count == 0 {
+        return rate_by_search(a, ROUNDS);
+    }
+    Outcome {
+        answer: rate_split(a, p),
+        split: no_split(),
+    }
+}
+
+// The answer to a split of chosen systems, a mixture and its inert part.
+fn split_by(choice: Choice, mix: [u32; COMPONENTS], n1: u32, p: Split) -> Answer
+    requires { ⌜ Proposal mix (choice .systems) (choice .count) n1 × (choice .count ≤ 3) ⌝ }
+    ensures { λ r. ⌜ r ≡ splitBy (choice .systems) (choice .count) mix n1 p ⌝ }
+{
+    let count = choice.count;
+    let systems = choice.systems;
+    let records = p.count;
+    let found = p.systems;
+    let codes = p.codes;
+    let amounts = p.amounts;
+    if !records::fits(systems, count, records, found, codes) {
+        return Answer::Refused {
+            number: 7,
+            place: 0,
+        };
+    }
+    let cells = records::cells_of(systems, count, amounts);
+    search::proposed(LIMIT, choice, mix, cells, n1)
+}
+
+// What the search came to: a rating with its split, or 11.
+fn found_outcome(choice: Choice, mix: [u32; COMPONENTS], n1: u32, found: Found) -> Outcome
+    requires { ⌜ Proposal mix (choice .systems) (choice .count) n1 × FoundFit mix (choice .systems) (choice .count) found ⌝ }
+    ensures { λ r. ⌜ r ≡ foundOutcome (choice .systems) (choice .count) n1 found ⌝ }
+{
+    let search = found.search;
+    let cells = found.cells;
+    match search {
+        Search::Unbalanced => refused(11, 0),
+        Search::Balanced { spread, rounds } => Outcome {
+            answer: Answer::Rated {
+                rating: rating_of(choice, mix, cells, n1),
+                spread,
+                rounds,
+            },
+            split: split_of(choice, cells),
+        },
+    }
+}
+
+// The rating of cells that are fit.
+fn rating_of(choice: Choice, mix: [u32; COMPONENTS], cells: [u32; CELLS], n1: u32) -> i64
+    requires { ⌜ Proposal mix (choice .systems) (choice .count) n1 × Fit 500000 (choice .systems) (choice .count) mix cells ⌝ }
+    ensures { λ r. ⌜ r ≡ ratingOf (choice .systems) (choice .count) cells n1 ⌝ }
+{
+    let answer = search::proposed(LIMIT, choice, mix, cells, n1);
+    match answer {
+        Answer::Rated {
+            rating,
+            spread: _,
+            rounds: _,
+        } => rating,
+        Answer::Refused {
+            number: _,
+            place: _,
+        } => 0,
+    }
 }
 
 // The split of the cells, as records.
@@ -71,7 +208,11 @@ fn first_inert(a: Analysis) -> u32
 fn at_most(allowance: u32) -> u32
     ensures { λ r. ⌜ r ≡ min allowance 4000 ⌝ }
 {
-    if allowance < ROUNDS { allowance } else { ROUNDS }
+    if allowance < ROUNDS {
+        allowance
+    } else {
+        ROUNDS
+    }
 }
 
 // The code at fault with 5, else the record's place.

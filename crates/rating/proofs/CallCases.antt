@@ -1,0 +1,235 @@
+-- What the public calls meet: the check's answer, the values of an analysis in range, what the search found. Assumes nothing.
+use mathlib.Core.Path.{_≡_, refl, sym, ap, ap₂, _∙_, subst}
+use mathlib.Core.Bool.{Bool, true, false}
+use mathlib.Core.Logic.{_⊎_, inl, inr}
+use mathlib.Core.List.{List}
+use Prim.Native.Nat.{ℕ, _+_, _*_, _^_, _≤_, _<_, min}
+use native.Mathlib.Omega.{arith}
+use lib.Dec.{eqb, lit<}
+use native.Mathlib.Nat as N
+use lib.IntN.{ℤ}
+use lib.Signed.{mag}
+use mir.Syntax.{w64}
+use mir.Val.{toZ, ofZ}
+use lib.ListN.{getD, length, replicate}
+use borrow.Author.Tests.{eq-eqb, ne-eqb, eqb-true, eqb-false}
+use Rattle.integer.specs.Ring.{mag-le}
+use Rattle.analysis.specs.Register.{ifElse}
+use Rattle.analysis.specs.Check as check
+use Rattle.analysis.specs.Check.{refusalOf, AtFault, Checking}
+use Rattle.analysis.specs.declared.Checked.{Checked}
+use Rattle.analysis.specs.declared.Checked.the-variants as checked
+use Rattle.sheet.specs.Split.{noSplit}
+use Rattle.sheet.specs.declared.Split.{Split}
+use Rattle.mixture.specs.Simplification.{simplifiedOf}
+use Rattle.mixture.specs.Inert.{inertFirst}
+use Rattle.mixture.specs.Answers.{mixtureOf}
+use Rattle.systems.specs.Choice.{choiceOf}
+use Rattle.systems.specs.Chosen.{choice-choosable}
+use Rattle.systems.specs.declared.Choice.{Choice}
+use Rattle.split.specs.Split.{cellsOf, numberAt}
+use Rattle.split.specs.Rating.{spreadOf, ratingOf, proposedOf}
+use Rattle.split.specs.Spread.{spread-near}
+use Rattle.split.specs.Fits.{Fit}
+use Rattle.split.specs.Rated.{IsRated, fit-rated}
+use Rattle.split.specs.Proposed.{Proposal, answerOf, answer-proposed}
+use Rattle.split.specs.Start.{sharersOf}
+use Rattle.split.specs.Search.{LEVEL}
+use Rattle.split.specs.Find.{findOf}
+use Rattle.split.specs.Finds.{input-fits, find-search, find-balanced}
+use Rattle.split.specs.declared.Answer.{Answer}
+use Rattle.split.specs.declared.Answer.the-variants.{Rated, Refused}
+use Rattle.split.specs.declared.Search.{Search}
+use Rattle.split.specs.declared.Search.the-variants.{Balanced, Unbalanced}
+use Rattle.split.specs.declared.Found.{Found}
+use Rattle.rating.specs.Records.{fitsOf}
+use Rattle.rating.specs.Rate.{LIMIT, ROUNDS, mixOf, systemsFor, countFor, checkedBy, splitBy, splitAnswer, outcome, recordsOf, foundBy, foundOutcome, searched, searchOutcome, numberOf, codeOf}
+use Rattle.split.specs.Accuracy.{fit-few}
+use Rattle.split.specs.Size.{rating-small}
+use Rattle.rating.specs.Given.{FoundFit}
+use Rattle.rating.specs.Ready.{chosen, million, inert-million, shared, input}
+use Rattle.rating.specs.Sheets.{RatedOr, split-ends, search-ends}
+use Rattle.rating.specs.declared.Outcome.{Outcome}
+use Rattle.rating.proofs.AnswerCases.{read-back}
+
+differ : (b : Bool) → b ≡ true → b ≡ false → ⊥
+differ b p q = let z : _≡_ {A = ℕ} 0 1 = cc in omega arith
+
+-- ---- the check's answer
+
+abbrev isIn : Checked → Bool
+isIn checked.InRange = true
+isIn (checked.Refused number code) = false
+
+-- an analysis that is turned away: the refusal is its own, and 5 carries a code at fault
+pub record TurnedAway (a : List ℕ) (number code : ℕ) : Type 0 where
+  pub some : eqb (refusalOf a) 0 ≡ false
+  pub same : Refused number code ≡ Refused (refusalOf a) (ifElse (eqb (refusalOf a) 5) (codeOf (Refused number code)) 0)
+  pub fault : number ≡ 5 → AtFault a (codeOf (Refused number code))
+
+module _ (a : List ℕ) (x : Checked) (h : Checking a x) where
+  pub in-range : x ≡ checked.InRange → refusalOf a ≡ 0
+  in-range e = go (eqb (refusalOf a) 0) refl (h .answer)
+    where
+      go : (b : Bool) → eqb (refusalOf a) 0 ≡ b → x ≡ ifElse b checked.InRange (checked.Refused (refusalOf a) (ifElse (eqb (refusalOf a) 5) (check.codeOf x) 0)) → refusalOf a ≡ 0
+      go true q r = eqb-true (refusalOf a) 0 q
+      go false q r = absurd (differ (isIn x) (ap isIn e) (ap isIn r))
+
+  pub turned-away : (number code : ℕ) → x ≡ checked.Refused number code → TurnedAway a number code
+  turned-away number code e = go (eqb (refusalOf a) 0) refl (h .answer)
+    where
+      carried : check.codeOf x ≡ code
+      carried = ap check.codeOf e
+
+      by : (f : Bool) → eqb (refusalOf a) 5 ≡ f → number ≡ refusalOf a → code ≡ ifElse f (check.codeOf x) 0
+          → Refused number code ≡ Refused (refusalOf a) (ifElse (eqb (refusalOf a) 5) (codeOf (Refused number code)) 0)
+      by true q n c =
+          let five : eqb number 5 ≡ true = ap (λ (k : ℕ). eqb k 5) n ∙ q in
+          ap (λ (k : ℕ). Refused k code) n ∙ rw (q, five)
+      by false q n c = ap₂ Refused n c ∙ rw q
+
+      go : (b : Bool) → eqb (refusalOf a) 0 ≡ b → x ≡ ifElse b checked.InRange (checked.Refused (refusalOf a) (ifElse (eqb (refusalOf a) 5) (check.codeOf x) 0)) → TurnedAway a number code
+      go true q r = absurd (differ (isIn x) (ap isIn r) (ap isIn e))
+      go false q r =
+          let same : checked.Refused number code ≡ checked.Refused (refusalOf a) (ifElse (eqb (refusalOf a) 5) (check.codeOf x) 0) = sym e ∙ r in
+          let n : number ≡ refusalOf a = cc in
+          let c : code ≡ ifElse (eqb (refusalOf a) 5) (check.codeOf x) 0 = cc in
+          record {
+            some = q;
+            same = by (eqb (refusalOf a) 5) refl n c;
+            fault = λ z. rw (eq-eqb number 5 z) (subst (AtFault a) carried (h .code (sym n ∙ z)));
+          }
+
+pub split-away : (a : List ℕ) (p : Split) (number code : ℕ) → TurnedAway a number code → Refused number code ≡ splitAnswer a p (codeOf (Refused number code))
+unfolding splitAnswer
+split-away a p number code t =
+    t .same
+    ∙ sym (ap (λ (b : Bool). ifElse b (splitBy (systemsFor a) (countFor a) (mixOf a) (inertFirst a) p) (Refused (refusalOf a) (ifElse (eqb (refusalOf a) 5) (codeOf (Refused number code)) 0))) (t .some))
+
+pub search-away : (a : List ℕ) (allowance number code : ℕ) → TurnedAway a number code → outcome (Refused number code) noSplit ≡ searchOutcome a allowance (codeOf (Refused number code))
+unfolding searchOutcome
+search-away a allowance number code t =
+    ap (λ (x : Answer). outcome x noSplit) (t .same)
+    ∙ sym (ap (λ (b : Bool). ifElse b (foundOutcome (systemsFor a) (countFor a) (inertFirst a) (searched a allowance)) (outcome (Refused (refusalOf a) (ifElse (eqb (refusalOf a) 5) (codeOf (Refused number code)) 0)) noSplit)) (t .some))
+
+-- ---- an analysis in range
+
+module _ (a : List ℕ) (long : length a ≡ 14) (passed : refusalOf a ≡ 0) where
+  mixture-in : mixtureOf a ≡ simplifiedOf a
+  mixture-in = ap (λ (n : ℕ). ifElse (eqb n 0) (simplifiedOf a) (replicate 4 0)) passed
+
+  module _ (mix : List ℕ) (choice : Choice) (n1 : ℕ) (m : mix ≡ mixtureOf a) (c : choice ≡ choiceOf mix) (n : n1 ≡ inertFirst a) where
+    mix-is : mix ≡ mixOf a
+    mix-is = m ∙ mixture-in
+
+    choice-is : choice ≡ choiceOf (mixOf a)
+    choice-is = c ∙ ap choiceOf mix-is
+
+    pub given-proposal : Proposal mix (choice .systems) (choice .count) n1
+    given-proposal =
+        rw (choice-is, mix-is, n)
+        (record { chosen = chosen a; few = omega (arith, million a long passed); inert = inert-million a long passed })
+
+    pub given-three : choice .count ≤ 3
+    given-three = rw choice-is (omega (arith, choice-choosable (mixOf a) .three))
+
+    pub split-in : (p : Split) (r : Answer) → r ≡ splitBy (choice .systems) (choice .count) mix n1 p → r ≡ splitAnswer a p (codeOf r)
+    unfolding splitAnswer
+    split-in p r e = e ∙ rw (choice-is, mix-is, n, passed)
+
+    -- the search, of which the guarded one is the same
+    module _ (allowance most : ℕ) (l : most ≡ min allowance 4000) (found : Found) (f : found ≡ findOf mix (choice .systems) (choice .count) 500000 16 most) where
+      found-is : found ≡ searched a allowance
+      found-is =
+          f ∙ rw (choice-is, mix-is, l)
+          (sym (find-search (mixOf a) (systemsFor a) (countFor a) LEVEL LIMIT (min allowance ROUNDS) (input-fits (mixOf a) (systemsFor a) (countFor a) LEVEL (input a long passed))))
+
+      pub found-fit : FoundFit mix (choice .systems) (choice .count) found
+      found-fit s r e =
+          let b = find-balanced mix (choice .systems) (choice .count) 500000 16 most s r (ap (λ (x : Found). x .search) (sym f) ∙ e) in
+          let sharers : (c : ℕ) → c < 4 → 0 < sharersOf (choice .systems) c (choice .count) = λ c l. rw choice-is (shared a c l) in
+          rw f (record { sums = λ c l. b .sums c l (sharers c l); some = b .sound .some; near = spread-near LIMIT (numberAt (choice .systems) (findOf mix (choice .systems) (choice .count) 500000 16 most .cells)) (choice .count) (omega (arith, b .spread, b .within)) })
+
+      pub search-in : (r : Outcome) → r ≡ foundOutcome (choice .systems) (choice .count) n1 found → r ≡ searchOutcome a allowance (codeOf (r .answer))
+      unfolding searchOutcome
+      search-in r e = e ∙ rw (choice-is, n, found-is, passed)
+
+  -- neither is refused 5
+  not-five : (x : Answer) → RatedOr 7 11 x → numberOf x ≡ 5 → ⊥
+  not-five (Rated w s n) h e = omega arith
+  not-five (Refused n p) (inl r) e = r
+  not-five (Refused n p) (inr b) e = omega (arith, b .0)
+
+  pub split-not-five : (p : Split) (code : ℕ) (x : Answer) → x ≡ splitAnswer a p code → numberOf x ≡ 5 → ⊥
+  split-not-five p code x e h = not-five x (rw e (widen (split-ends a p code passed))) h
+    where
+      widen : RatedOr 7 10 (splitAnswer a p code) → RatedOr 7 11 (splitAnswer a p code)
+      widen (inl r) = inl r
+      widen (inr b) = inr (b .0, omega (arith, b .1))
+
+  pub search-not-five : (allowance code : ℕ) (x : Outcome) → x ≡ searchOutcome a allowance code → numberOf (x .answer) ≡ 5 → ⊥
+  search-not-five allowance code x e h = not-five (x .answer) (rw e (widen (search-ends a allowance code passed))) h
+    where
+      widen : IsRated (searchOutcome a allowance code .answer) ⊎ (searchOutcome a allowance code .answer ≡ Refused 11 0) → RatedOr 7 11 (searchOutcome a allowance code .answer)
+      widen (inl r) = inl r
+      widen (inr q) = inr (rw q (omega arith), rw q (omega arith))
+
+-- ---- inner functions
+
+module _ (ch : List ℕ) (k : ℕ) (mix : List ℕ) (n1 : ℕ) where
+  pub misfit : (p : Split) → fitsOf ch k (p .count) (p .systems) (p .codes) ≡ false → Refused 7 0 ≡ splitBy ch k mix n1 p
+  unfolding splitBy
+  misfit p e = rw e
+
+  pub fitting : (p : Split) (cells : List ℕ) → Proposal mix ch k n1 → fitsOf ch k (p .count) (p .systems) (p .codes) ≡ true → cells ≡ cellsOf ch k (p .amounts)
+      → answerOf 500000 ch k mix cells n1 ≡ splitBy ch k mix n1 p
+  unfolding splitBy
+  fitting p cells h e q = ap (λ (l : List ℕ). answerOf 500000 ch k mix l n1) q ∙ answer-proposed mix ch k n1 500000 (cellsOf ch k (p .amounts)) h ∙ rw e
+
+  module _ (cells : List ℕ) (h : Proposal mix ch k n1) (f : Fit 500000 ch k mix cells) (x : Answer) (e : x ≡ answerOf 500000 ch k mix cells n1) where
+    rated : x ≡ Rated (ratingOf ch k cells n1) (spreadOf (numberAt ch cells) k) 0
+    rated = e ∙ answer-proposed mix ch k n1 500000 cells h ∙ fit-rated 500000 ch k mix cells n1 f
+
+    pub rating-is : (w : ℤ) (s r : ℕ) → x ≡ Rated w s r → w ≡ ratingOf ch k cells n1
+    rating-is w s r q = let same : Rated w s r ≡ Rated (ratingOf ch k cells n1) (spreadOf (numberAt ch cells) k) 0 = sym q ∙ rated in cc
+
+    pub not-refused : (number place : ℕ) → x ≡ Refused number place → ⊥
+    not-refused number place q = subst IsRated (sym rated ∙ q) tt
+
+pub found-none : (ch : List ℕ) (k n1 : ℕ) (f : Found) → f .search ≡ Unbalanced → outcome (Refused 11 0) noSplit ≡ foundOutcome ch k n1 f
+unfolding foundOutcome
+found-none ch k n1 f e = sym (ap (foundBy ch k n1 (f .cells)) e)
+
+pub found-some : (ch : List ℕ) (k n1 : ℕ) (f : Found) (s r : ℕ) → f .search ≡ Balanced s r → outcome (Rated (ratingOf ch k (f .cells) n1) s r) (recordsOf ch k (f .cells)) ≡ foundOutcome ch k n1 f
+unfolding foundOutcome
+found-some ch k n1 f s r e = sym (ap (foundBy ch k n1 (f .cells)) e)
+
+-- ---- an analysis in range is answered whatever the code of 5
+
+pub split-any : (a : List ℕ) (p : Split) (c d : ℕ) → refusalOf a ≡ 0 → splitAnswer a p c ≡ splitAnswer a p d
+unfolding splitAnswer
+split-any a p c d h = rw h
+
+pub search-any : (a : List ℕ) (n c d : ℕ) → refusalOf a ≡ 0 → searchOutcome a n c ≡ searchOutcome a n d
+unfolding searchOutcome
+search-any a n c d h = rw h
+
+-- ---- the same of a call's result
+
+pub search-away-is : (a : List ℕ) (allowance number code : ℕ) (r : Outcome) → TurnedAway a number code → r ≡ outcome (Refused number code) noSplit
+    → (r ≡ searchOutcome a allowance (codeOf (r .answer))) × (numberOf (r .answer) ≡ 5 → AtFault a (codeOf (r .answer)))
+search-away-is a allowance number code r t e =
+    subst (λ (o : Outcome). (o ≡ searchOutcome a allowance (codeOf (o .answer))) × (numberOf (o .answer) ≡ 5 → AtFault a (codeOf (o .answer)))) (sym e)
+    (search-away a allowance number code t, t .fault)
+
+pub found-is-some : (ch : List ℕ) (k n1 : ℕ) (f : Found) (s r : ℕ) (w w′ : ℤ) (p : Split) → f .search ≡ Balanced s r → w′ ≡ w → w ≡ ratingOf ch k (f .cells) n1 → p ≡ recordsOf ch k (f .cells)
+    → outcome (Rated w′ s r) p ≡ foundOutcome ch k n1 f
+found-is-some ch k n1 f s r w w′ p e same q h = ap₂ (λ (x : ℤ) (y : Split). outcome (Rated x s r) y) (same ∙ q) h ∙ found-some ch k n1 f s r e
+
+-- a rating in its 64 bits
+pub rating-value : (ch : List ℕ) (k : ℕ) (mix : List ℕ) (n1 : ℕ) (cells : List ℕ) → Proposal mix ch k n1 → Fit 500000 ch k mix cells → (x : Answer) → x ≡ answerOf 500000 ch k mix cells n1
+    → (w : ℤ) (s r : ℕ) → x ≡ Rated w s r → toZ w64 (ofZ w64 w) ≡ ratingOf ch k cells n1
+rating-value ch k mix n1 cells h f x e w s r q =
+    let is = rating-is ch k mix n1 cells h f x e w s r q in
+    let small = rating-small ch k cells n1 (fit-few ch k mix cells (h .chosen) (h .few) (f .sums)) in
+    read-back w (subst (λ (z : ℤ). mag z < 2 ^ 63) (sym is) (N.lt-of-le-of-lt (N.le-trans (mag-le (ratingOf ch k cells n1)) small) (lit< tt))) ∙ is

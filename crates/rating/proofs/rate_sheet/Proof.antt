@@ -1,0 +1,61 @@
+-- `rating::rate_sheet` meets its contract. Assumes nothing.
+use Rattle.rating.proofs.SheetCases.{passed, sheet-refused-is, sheet-read, sheet-not-five}
+use mathlib.Core.Path.{_≡_, sym, ap, _∙_, subst}
+use Rattle.rating.specs.Rate.{numberOf, codeOf}
+use borrow.Author.Needs.{needs}
+use Rattle.rating.proofs.rate_sheet.Statement.{statement}
+use Rattle.rating.proofs.rate_sheet.Tie as tie
+use Rattle.rating.proofs.rate_sheet.Reads as reads
+use Rattle.rating.proofs.rate_sheet.Lts as lts
+use Rattle.rating.proofs.carried.Reads as carried-reads
+use Rattle.rating.proofs.rate_read.Reads as rate-read-reads
+use Rattle.rating.proofs.refused.Reads as refused-reads
+use Rattle.reader.proofs.read.Reads as read-reads
+
+-- src/lib.rt:88:9
+read-requires : tie.Need-read-requires
+read-requires c κs = search needs
+
+-- src/lib.rt:93:28
+enum-known-answer : tie.Need-enum-known-answer
+enum-known-answer c = search needs
+
+-- src/lib.rt:93:69
+carried-requires : tie.Need-carried-requires
+carried-requires c κs = search needs
+
+-- src/lib.rt:93:53
+refused-requires : tie.Need-refused-requires
+refused-requires c κs = search needs
+
+-- src/lib.rt:94:26
+enum-told : tie.Need-enum-told
+enum-told c = search needs
+
+-- src/lib.rt:94:26
+rate-read-requires : tie.Need-rate-read-requires
+rate-read-requires c κs = passed _ _ (c .before .before .before .before .read .ensures) (c .enum-told .given .1)
+
+-- src/lib.rt:84:1
+returns : tie.Need-returns
+returns c = sheet-refused-is _ _ (c .before .before .before .before .before .before .before .read .ensures) _ _ _ (c .before .before .before .answer .given .1) _ _
+    (c .before .carried .ensures) (c .refused .ensures)
+
+-- src/lib.rt:84:1
+returns-2 : tie.Need-returns-2
+returns-2 c = let h = c .before .before .before .before .before .read .ensures in
+    let e = c .before .enum-told .given .1 in
+    (sheet-read _ _ h e _ (c .rate-read .ensures), λ z. absurd (sheet-not-five _ _ h e _ (c .rate-read .ensures) z))
+
+pub rate-sheet-spec : {M : Type 1} → statement M
+rate-sheet-spec =
+    tie.close
+    (tie.spec
+    read-requires
+    enum-known-answer
+    carried-requires
+    refused-requires
+    enum-told
+    rate-read-requires
+    returns
+    returns-2)
