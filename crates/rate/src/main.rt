@@ -18,12 +18,11 @@ fn put_count(n: u64) {
 
 // A space and the number, with a minus sign before it where it is negative.
 fn put_signed(n: i64) {
+    put(b" ");
     if n < 0 {
-        put(b" -");
-        io::print_decimal(STDOUT_FILENO, ((-1 - n) as u64) + 1);
-    } else {
-        put_count(n as u64);
+        put(b"-");
     }
+    io::print_decimal(STDOUT_FILENO, decimal::size(n));
 }
 
 fn put_answer(answer: Answer) {

@@ -1,0 +1,167 @@
+-- What reading and writing a sheet for C meet. Assumes nothing.
+use mathlib.Core.Path.{_≡_, refl, sym, ap, _∙_, subst, subst⁻¹}
+use mathlib.Core.Bool.{Bool, true, false}
+use mathlib.Core.List.{List}
+use Prim.Native.Nat.{ℕ, zero, suc, _+_}
+use native.Mathlib.Omega.{arith}
+use lib.Dec.{eqb}
+use lib.ListN.{getD, length}
+use borrow.Author.Tests.{eq-eqb, ne-eqb}
+use Rattle.analysis.specs.Register.{ifElse}
+use Rattle.analysis.specs.Check.{AtFault}
+use Rattle.sheet.specs.Components.{codeRefusal, codesReading}
+use Rattle.sheet.specs.Sheet.{sheetOf, sectionsOf}
+use Rattle.sheet.specs.Read as read
+use Rattle.sheet.specs.Read.{readOf, ReadAs, FaultIn, amountsRefusal, byAmounts, contentOf, withAnswer, afterCodes}
+use Rattle.sheet.specs.Write as write
+use Rattle.sheet.specs.Write.{writeRefusal, writtenOf, leftOf, WrittenAs}
+use Rattle.sheet.specs.declared.Split.{Split}
+use Rattle.sheet.specs.declared.Sections.{Sections}
+use Rattle.sheet.specs.declared.Sections.the-variants as sections
+use Rattle.sheet.specs.declared.Reading.{Reading}
+use Rattle.sheet.specs.declared.Reading.the-variants as reading
+use Rattle.sheet.specs.declared.Sheet.{Sheet}
+use Rattle.sheet.specs.declared.Written.{Written}
+use Rattle.sheet.specs.declared.Written.the-variants.{Length, Refused}
+use Rattle.plant.specs.Interface.{reply, codeIn, readReply, readColumn, readCount, writtenReply, writtenLength, size}
+use Rattle.plant.specs.declared.Reply.{Reply}
+
+-- ---- writing: only 5 carries a code
+
+carries : (t : Bool) (n len c : ℕ) → write.codeOf (ifElse t (Length len) (Refused n (ifElse (eqb n 5) c 0)))
+    ≡ ifElse (eqb (write.numberOf (ifElse t (Length len) (Refused n (ifElse (eqb n 5) c 0)))) 5) c 0
+carries true n len c = refl
+carries false n len c = refl
+
+module _ (a : List ℕ) (p : Split) (b : List ℕ) (r : Written) (left : List ℕ) (w : WrittenAs a p b r left) where
+  coded : write.codeOf r ≡ ifElse (eqb (write.numberOf r) 5) (write.codeOf r) 0
+  unfolding writtenOf
+  coded =
+      ap write.codeOf (w .answer)
+      ∙ carries (eqb (writeRefusal a p (length b)) 0) (writeRefusal a p (length b)) (length (sheetOf a p)) (write.codeOf r)
+      ∙ sym (ap (λ (x : Written). ifElse (eqb (write.numberOf x) 5) (write.codeOf r) 0) (w .answer))
+
+  pub written-done : (n : ℕ) → r ≡ Length n → (old : ℕ)
+      → (reply 0 0 ≡ writtenReply (writtenOf a p (size b) 0)) × ((left ≡ leftOf a p b) × ((n ≡ writtenLength (writtenOf a p (size b) 0) old) × (_≡_ {A = ℕ} 0 5 → AtFault a 0)))
+  written-done n e old =
+      let f : writtenOf a p (length b) 0 ≡ Length n = ap (writtenOf a p (length b)) (sym (ap write.codeOf e)) ∙ sym (w .answer) ∙ e in
+      (sym (ap writtenReply f), (w .buffer, (sym (ap (λ (x : Written). writtenLength x old) f), λ (z : _≡_ {A = ℕ} 0 5). absurd (omega (arith, z)))))
+
+  module _ (number code : ℕ) (e : r ≡ Refused number code) where
+    same : write.codeOf r ≡ codeIn (reply number code)
+    same = ap write.codeOf e ∙ subst (λ (x : Written). write.codeOf x ≡ ifElse (eqb (write.numberOf x) 5) (write.codeOf x) 0) e coded
+
+    answer-back : writtenOf a p (length b) (codeIn (reply number code)) ≡ Refused number code
+    answer-back = ap (writtenOf a p (length b)) (sym same) ∙ sym (w .answer) ∙ e
+
+    pub written-refused : (old : ℕ)
+        → (reply number code ≡ writtenReply (writtenOf a p (size b) (codeIn (reply number code))))
+        × ((left ≡ leftOf a p b)
+        × ((old ≡ writtenLength (writtenOf a p (size b) (codeIn (reply number code))) old)
+        × (number ≡ 5 → AtFault a (codeIn (reply number code)))))
+    written-refused old = (
+      sym (ap writtenReply answer-back),
+      (
+        w .buffer,
+        (
+          sym (ap (λ (x : Written). writtenLength x old) answer-back),
+          λ (z : number ≡ 5). subst (AtFault a) same (w .code (ap write.numberOf e ∙ z)),
+        ),
+      ),
+    )
+
+-- ---- reading: only 5 carries a code
+
+abbrev Coded : Reading → Type 0
+Coded reading.Read = Unit {0}
+Coded (reading.Refused number place code) = eqb number 5 ≡ false → code ≡ 0
+
+codes-coded : (n : ℕ) (s : List ℕ) (at i p : ℕ) → Coded (codesReading n s at i p)
+codes-coded zero s at i p = tt
+codes-coded (suc n) s at i p = go (codes-coded n s (at + 5) (i + 1) (getD s at 0)) (eqb (codeRefusal (getD s at 0) p) 0)
+  where
+    go : Coded (codesReading n s (at + 5) (i + 1) (getD s at 0)) → (t : Bool)
+        → Coded (ifElse t (codesReading n s (at + 5) (i + 1) (getD s at 0)) (reading.Refused (codeRefusal (getD s at 0) p) i 0))
+    go rest true = rest
+    go rest false = λ e. refl
+
+by-coded : (number code : ℕ) → Coded (byAmounts number code)
+by-coded number code = go (eqb number 0)
+  where
+    go : (t : Bool) → Coded (ifElse t reading.Read (reading.Refused number 0 (ifElse (eqb number 5) code 0)))
+    go true = tt
+    go false = λ e. rw e
+
+after-coded : (x : Reading) (n : ℕ) (s : List ℕ) (code : ℕ) → Coded x → Coded (afterCodes x n s code)
+after-coded reading.Read n s code h = by-coded (amountsRefusal n s) code
+after-coded (reading.Refused number place code′) n s code h = h
+
+with-coded : (x : Reading) (y : Sheet) → y .answer ≡ reading.Read → Coded x → Coded (withAnswer x y .answer)
+with-coded reading.Read y e h = rw e tt
+with-coded (reading.Refused number place code) y e h = h
+
+read-coded : (s : List ℕ) (code : ℕ) → Coded (readOf s code .answer)
+unfolding readOf read.readBy
+read-coded s code = go (sectionsOf s)
+  where
+    go : (x : Sections) → Coded (read.readBy x s code .answer)
+    go sections.Torn = λ e. refl
+    go (sections.Both n m first) =
+        with-coded (afterCodes (codesReading n s 1 0 0) n s code) (contentOf n m first s) refl (after-coded (codesReading n s 1 0 0) n s code (codes-coded n s 1 0 0))
+
+-- what a refused sheet carries, as the place of the answer
+abbrev pub placeOf : ℕ → ℕ → ℕ → ℕ
+placeOf number place code = ifElse (eqb number 5) code place
+
+module _ (s : List ℕ) (r : Sheet) (h : ReadAs s r) (number place code : ℕ) (e : r .answer ≡ reading.Refused number place code) where
+  read-answer : readOf s code .answer ≡ reading.Refused number place code
+  read-answer = ap (λ (x : Sheet). x .answer) (sym (h .sheet ∙ ap (readOf s) (ap read.codeOf e))) ∙ e
+
+  same-code : codeIn (reply number (placeOf number place code)) ≡ code
+  same-code = go (eqb number 5) refl (subst Coded read-answer (read-coded s code))
+    where
+      go : (t : Bool) → eqb number 5 ≡ t → Coded (reading.Refused number place code) → ifElse t (ifElse t code place) 0 ≡ code
+      go true q z = refl
+      go false q z = sym (z q)
+
+  read-back : readOf s (codeIn (reply number (placeOf number place code))) .answer ≡ reading.Refused number place code
+  read-back = ap (λ (c : ℕ). readOf s c .answer) same-code ∙ read-answer
+
+  pub read-refused : (p : ℕ) → p ≡ placeOf number place code → reply number p ≡ readReply (readOf s (codeIn (reply number p)) .answer)
+  read-refused p q = subst⁻¹ (λ (n : ℕ). reply number n ≡ readReply (readOf s (codeIn (reply number n)) .answer)) q (sym (ap readReply read-back))
+
+  pub column-stays : (p : ℕ) → p ≡ placeOf number place code → (column l : List ℕ) → l ≡ readColumn (readOf s (codeIn (reply number p)) .answer) column l
+  column-stays p q column l =
+      sym (ap (λ (x : Reading). readColumn x column l) (ap (λ (n : ℕ). readOf s (codeIn (reply number n)) .answer) q ∙ read-back))
+
+  pub count-stays : (p : ℕ) → p ≡ placeOf number place code → (count old : ℕ) → old ≡ readCount (readOf s (codeIn (reply number p)) .answer) count old
+  count-stays p q count old =
+      sym (ap (λ (x : Reading). readCount x count old) (ap (λ (n : ℕ). readOf s (codeIn (reply number n)) .answer) q ∙ read-back))
+
+  pub read-fault : (p : ℕ) → p ≡ placeOf number place code → number ≡ 5 → FaultIn (getD s 0 0) s (codeIn (reply number p))
+  read-fault p q z =
+      subst⁻¹ (λ (c : ℕ). FaultIn (getD s 0 0) s c) (ap (λ (n : ℕ). codeIn (reply number n)) q ∙ same-code)
+      (subst (FaultIn (getD s 0 0) s) (ap read.codeOf e) (h .code (ap read.numberOf e ∙ z)))
+
+module _ (s : List ℕ) (r : Sheet) (h : ReadAs s r) (e : r .answer ≡ reading.Read) where
+  pub whole : r ≡ readOf s 0
+  whole = h .sheet ∙ ap (readOf s) (ap read.codeOf e)
+
+  good : readOf s 0 .answer ≡ reading.Read
+  good = ap (λ (x : Sheet). x .answer) (sym whole) ∙ e
+
+  pub read-done : reply 0 0 ≡ readReply (readOf s 0 .answer)
+  read-done = sym (ap readReply good)
+
+  pub column-read : (column now l : List ℕ) → now ≡ column → now ≡ readColumn (readOf s 0 .answer) column l
+  column-read column now l q = q ∙ sym (ap (λ (x : Reading). readColumn x column l) good)
+
+  pub count-read : (count now old : ℕ) → now ≡ count → now ≡ readCount (readOf s 0 .answer) count old
+  count-read count now old q = q ∙ sym (ap (λ (x : Reading). readCount x count old) good)
+
+-- the place is the code with 5, else the record's
+pub place-five : (number place code : ℕ) → number ≡ 5 → code ≡ placeOf number place code
+place-five number place code e = sym (rw (eq-eqb number 5 e))
+
+pub place-other : (number place code : ℕ) → (number ≡ 5 → ⊥) → place ≡ placeOf number place code
+place-other number place code e = sym (rw (ne-eqb number 5 e))

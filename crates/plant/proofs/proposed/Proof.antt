@@ -1,0 +1,21 @@
+-- `plant::proposed` meets its contract. Assumes nothing.
+use mathlib.Core.Path.{_≡_, sym, ap, _∙_, subst}
+use lib.ListN.{length}
+use Rattle.plant.specs.Interface.{SmallFigures}
+use Rattle.plant.specs.Small.{split-small}
+use borrow.Author.Needs.{needs}
+use Rattle.plant.proofs.proposed.Statement.{statement}
+use Rattle.plant.proofs.proposed.Tie as tie
+use Rattle.plant.proofs.proposed.Reads as reads
+use Rattle.plant.proofs.proposed.Lts as lts
+use Rattle.rating.proofs.rate_split.Reads as rate-split-reads
+
+rate-split-requires : tie.Need-rate-split-requires
+rate-split-requires c κs = search needs
+
+returns : tie.Need-returns
+returns c = let l : length (c .before .args .amounts) ≡ 14 = search needs in
+    let e = c .rate-split .ensures in (e .0, (e .1, subst SmallFigures (sym (e .0)) (split-small _ l _ _)))
+
+pub proposed-spec : {M : Type 1} → statement M
+proposed-spec = tie.close (tie.spec rate-split-requires returns)

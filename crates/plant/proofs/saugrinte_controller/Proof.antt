@@ -1,0 +1,21 @@
+-- `plant::saugrinte_controller` meets its contract. Assumes nothing.
+use mathlib.Core.Path.{_≡_, sym, ap, _∙_, subst}
+use mir.Syntax.{w64}
+use mir.ValLaws.{toZ-ofZ}
+use lib.IntN.{ℤ}
+use Rattle.controller.specs.Record.{recordOf}
+use borrow.Author.Needs.{needs}
+use Rattle.plant.proofs.saugrinte_controller.Statement.{statement}
+use Rattle.plant.proofs.saugrinte_controller.Tie as tie
+use Rattle.plant.proofs.saugrinte_controller.Reads as reads
+use Rattle.plant.proofs.saugrinte_controller.Lts as lts
+use Rattle.controller.proofs.record.Reads as record-reads
+
+record-requires : tie.Need-record-requires
+record-requires c κs = search needs
+
+returns : tie.Need-returns
+returns c = c .«record» .ensures ∙ ap (λ (z : ℤ). recordOf z (c .before .args .spread)) (toZ-ofZ w64 (c .before .args .rating) (c .before .fits .rating))
+
+pub saugrinte-controller-spec : {M : Type 1} → statement M
+saugrinte-controller-spec = tie.close (tie.spec record-requires returns)

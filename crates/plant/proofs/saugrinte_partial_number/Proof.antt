@@ -1,0 +1,32 @@
+-- `plant::saugrinte_partial_number` meets its contract. Assumes nothing.
+use mathlib.Core.Path.{_≡_, sym, ap, _∙_, subst}
+use mir.Syntax.{w64}
+use mir.ValLaws.{toZ-ofZ}
+use Rattle.plant.proofs.Cases.{partial-done, partial-refused}
+use borrow.Author.Needs.{needs}
+use Rattle.plant.proofs.saugrinte_partial_number.Statement.{statement}
+use Rattle.plant.proofs.saugrinte_partial_number.Tie as tie
+use Rattle.plant.proofs.saugrinte_partial_number.Reads as reads
+use Rattle.plant.proofs.saugrinte_partial_number.Lts as lts
+use Rattle.ternary.proofs.partial_number.Reads as partial-number-reads
+
+partial-number-requires : tie.Need-partial-number-requires
+partial-number-requires c κs = search needs
+
+enum-known-partial : tie.Need-enum-known-partial
+enum-known-partial c = search needs
+
+enum-known-partial-2 : tie.Need-enum-known-partial-2
+enum-known-partial-2 c = search needs
+
+returns : tie.Need-returns
+returns c = partial-done _ _ (sym (c .before .before .before .partial-number .ensures) ∙ c .before .partial .given .1) _ _
+    (toZ-ofZ w64 _ (search needs))
+
+returns-2 : tie.Need-returns-2
+returns-2 c = partial-refused _ _ (sym (c .before .before .before .partial-number .ensures) ∙ c .before .partial2 .given .1) _
+
+pub saugrinte-partial-number-spec : {M : Type 1} → statement M
+saugrinte-partial-number-spec =
+    tie.close
+    (tie.spec partial-number-requires enum-known-partial enum-known-partial-2 returns returns-2)

@@ -1,0 +1,21 @@
+-- `plant::saugrinte_whole_number` meets its contract. Assumes nothing.
+use mathlib.Core.Path.{_≡_, sym, ap, _∙_, subst}
+use mir.Syntax.{w64}
+use mir.ValLaws.{toZ-ofZ}
+use Rattle.ternary.specs.Whole.{wholeNumber}
+use borrow.Author.Needs.{needs}
+use Rattle.plant.proofs.saugrinte_whole_number.Statement.{statement}
+use Rattle.plant.proofs.saugrinte_whole_number.Tie as tie
+use Rattle.plant.proofs.saugrinte_whole_number.Reads as reads
+use Rattle.plant.proofs.saugrinte_whole_number.Lts as lts
+use Rattle.ternary.proofs.whole_number.Reads as whole-number-reads
+
+whole-number-requires : tie.Need-whole-number-requires
+whole-number-requires c κs = search needs
+
+returns : tie.Need-returns
+returns c = toZ-ofZ w64 (c .whole-number .result) (record { sfits = c .whole-number .ok })
+    ∙ c .whole-number .ensures ∙ ap wholeNumber (toZ-ofZ w64 (c .before .args .rating) (c .before .fits .rating))
+
+pub saugrinte-whole-number-spec : {M : Type 1} → statement M
+saugrinte-whole-number-spec = tie.close (tie.spec whole-number-requires returns)

@@ -1,0 +1,23 @@
+-- `plant::searched` meets its contract. Assumes nothing.
+use mathlib.Core.Path.{_≡_, sym, ap, _∙_, subst}
+use lib.ListN.{length}
+use Rattle.rating.specs.declared.Outcome.{Outcome}
+use Rattle.plant.specs.Interface.{SmallFigures}
+use Rattle.plant.specs.Small.{search-small}
+use borrow.Author.Needs.{needs}
+use Rattle.plant.proofs.searched.Statement.{statement}
+use Rattle.plant.proofs.searched.Tie as tie
+use Rattle.plant.proofs.searched.Reads as reads
+use Rattle.plant.proofs.searched.Lts as lts
+use Rattle.rating.proofs.rate_by_search.Reads as rate-by-search-reads
+
+rate-by-search-requires : tie.Need-rate-by-search-requires
+rate-by-search-requires c κs = search needs
+
+returns : tie.Need-returns
+returns c = let l : length (c .before .args .amounts) ≡ 14 = search needs in
+    let e = c .rate-by-search .ensures in
+    (e .0, (e .1, subst SmallFigures (sym (ap (λ (x : Outcome). x .answer) (e .0))) (search-small _ l _ _)))
+
+pub searched-spec : {M : Type 1} → statement M
+searched-spec = tie.close (tie.spec rate-by-search-requires returns)

@@ -1,0 +1,67 @@
+#!/usr/bin/env python3
+"""The lines of crates/rating_cases, worked out with the independent program of tests/reference.
+
+  rating_cases.py            prints the lines that the program has to print
+  rating_cases.py --check    compares the program's gases and its file `stdout` with them
+"""
+import os
+import re
+import sys
+
+sys.dont_write_bytecode = True
+HERE = os.path.dirname(os.path.abspath(__file__))
+sys.path.insert(0, os.path.join(HERE, 'reference'))
+import saugrinte as reference
+
+CRATE = os.path.join(HERE, '..', 'crates', 'rating_cases')
+
+GAS = (0, 970797, 16658, 2417, 346, 245, 11, 73, 125, 0, 84, 528, 8715, 0)
+LESS = (0, 970697, 16658, 2417, 346, 245, 11, 73, 125, 0, 84, 528, 8715, 0)
+LEAST = (0, 970698, 16658, 2417, 346, 245, 11, 73, 125, 0, 84, 528, 8715, 0)
+ETHANE_99 = (0, 969901, 99, 20000, 5000, 5000, 0, 0, 0, 0, 0, 0, 0, 0)
+ETHANE_100 = (0, 969900, 100, 20000, 5000, 5000, 0, 0, 0, 0, 0, 0, 0, 0)
+TIES = ((0, 856641, 19981, 19981, 18632, 19263, 0, 0, 0, 0, 0, 65502, 0, 0),
+        (0, 833065, 30857, 30857, 2859, 10119, 0, 0, 0, 0, 0, 92243, 0, 0),
+        (0, 826050, 26606, 26606, 33680, 11276, 0, 0, 0, 0, 0, 75782, 0, 0))
+BUTANE = (0, 504500, 150000, 60000, 40000, 40000, 500, 20000, 20000, 0, 15000, 0, 150000, 0)
+
+
+def search(gas, allowance=4000):
+    return reference.display(reference.search(gas, allowance))
+
+
+def back(gas):
+    return reference.display(reference.rate_split(gas, reference.search(gas).split))
+
+
+def mixture(gas):
+    assert reference.check(gas) is None
+    return 'MIXTURE %d %d %d %d\n' % reference.simplify(gas)
+
+
+def text():
+    lines = [search(GAS, 0), search(GAS), back(GAS), search(LESS), search(LEAST), search(ETHANE_99),
+             search(ETHANE_100), *map(mixture, TIES), mixture(BUTANE), search(BUTANE), back(BUTANE)]
+    # what document 01 and 001 say of these gases
+    assert lines[0] == 'REFUSED 11\n' and lines[3] == 'REFUSED 6\n' and lines[5] == 'REFUSED 5\n'
+    assert (sum(LESS), sum(LEAST)) == (999899, 999900)
+    assert reference.choose(reference.simplify(BUTANE)) == (2, 7, 8)
+    return ''.join(lines)
+
+
+def main():
+    if sys.argv[1:] == ['--check']:
+        source = open(os.path.join(CRATE, 'src', 'main.rt'), encoding='utf-8').read()
+        listed = {tuple(map(int, row.split(','))) for row in re.findall(r'\[(0, [0-9, ]+)\]', source)}
+        if listed != {GAS, LESS, LEAST, ETHANE_99, ETHANE_100, *TIES, BUTANE}:
+            sys.exit('rating_cases.py: other gases than those of the program')
+        if open(os.path.join(CRATE, 'stdout'), encoding='utf-8').read() != text():
+            sys.exit('rating_cases.py: the file stdout holds other lines')
+        print(f'rating_cases.py: {text().count(chr(10))} lines, as worked out by the reference')
+    elif sys.argv[1:]:
+        sys.exit(__doc__)
+    else:
+        print(text(), end='')
+
+
+main()
