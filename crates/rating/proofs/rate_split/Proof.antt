@@ -1,5 +1,5 @@
 -- `rating::rate_split` meets its contract. Assumes nothing.
-use Rattle.rating.proofs.CallCases.{in-range, turned-away, split-away, given-proposal, given-three, split-in, split-not-five}
+use Rattle.rating.proofs.CallCases.{in-range, turned-away, split-away, given-proposal, given-room, split-in, split-not-five}
 use mathlib.Core.Path.{_≡_, sym, ap, _∙_}
 use lib.ListN.{length}
 use borrow.Author.Needs.{needs}
@@ -40,7 +40,7 @@ split-by-requires c κs = let a = c .before .before .before .before .before .bef
     let s = c .before .before .before .before .before .before .simplify .ensures in
     let p = in-range _ _ (record { answer = s .0; code = s .1 .0 }) (c .before .before .enum-told .given .1) in (
       given-proposal a l p _ _ _ (s .1 .1) (c .before .choose .ensures) (c .first-inert .ensures),
-      given-three a l p _ _ _ (s .1 .1) (c .before .choose .ensures) (c .first-inert .ensures),
+      given-room a l p _ _ _ (s .1 .1) (c .before .choose .ensures) (c .first-inert .ensures),
     )
 
 -- src/lib.rt:48:1
