@@ -2,3 +2,4 @@ pub mod Register
 pub mod Table
 pub mod Check
 pub mod Ranges
+pub mod Examples

@@ -11,7 +11,7 @@ use lib.ListN.{getD, set, take, length, length-set, length-map}
 use lib.Seq.{take-all, ext-getD, getD-set-same, getD-set-other}
 use borrow.Author.Tests.{eqb-true, eqb-false, lt-ltb, le-ltb}
 use Rattle.analysis.specs.Check.{totalOf}
-use Rattle.mixture.specs.Scaling.{WHOLE, quotientOf, quotientsOf, remaindersOf, missingOf, greatestTo, greatestOf, distributed, scaledOf}
+use Rattle.mixture.specs.Scaling.{WHOLE, quotientOf, quotientsOf, remaindersOf, missingOf, greatestTo, greatestPlace, distributed, scaledOf}
 use Rattle.mixture.specs.Share.{getD-map}
 use Rattle.mixture.specs.Total.{sum-set, quotients-whole}
 use Rattle.mixture.specs.Limits.{LIMIT, Limited}
@@ -125,7 +125,7 @@ pub record Distributing (n w m₀ : ℕ) (q₀ r₀ : List ℕ) (m : ℕ) (q r :
   pub fits : totalOf q + m ≤ w
   pub same : distributed m q r ≡ distributed m₀ q₀ r₀
 
-pub distributing-next : (n w m₀ : ℕ) (q₀ r₀ : List ℕ) (m : ℕ) (q r : List ℕ) (p : ℕ) → 0 < m → p < n → p ≡ greatestOf r
+pub distributing-next : (n w m₀ : ℕ) (q₀ r₀ : List ℕ) (m : ℕ) (q r : List ℕ) (p : ℕ) → 0 < m → p < n → p ≡ greatestPlace r
     → Distributing n w m₀ q₀ r₀ m q r → Distributing n w m₀ q₀ r₀ (m - 1) (set q p (getD q p 0 + 1)) (set r p 0)
 unfolding distributed
 distributing-next n w m₀ q₀ r₀ m q r p h k e s =

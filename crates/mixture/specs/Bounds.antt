@@ -25,7 +25,7 @@ share-greatest t c h =
     let l : (2 * (WHOLE * t) + d) / (2 * d) < WHOLE + 1 = div-lt-iff-lt-mul {k = 2 * d} (omega arith) .1 (omega arith) in
     omega arith
 
--- the carbon dioxide is less than 2000000 times the rest
+-- where the carbon dioxide is at most 1000000 times the rest
 pub share-least : (t c : ℕ) → 0 < t → 10 * c ≤ WHOLE * t → 1 ≤ methaneShare t c
 unfolding methaneShare
 share-least t c h k = le-div-iff-mul-le {k = 2 * (t + 10 * c)} (omega arith) .1 (omega arith)

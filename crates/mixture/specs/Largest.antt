@@ -11,7 +11,7 @@ use lib.ListN.{getD, set, length, length-set, length-map}
 use lib.Seq.{getD-set-same, getD-set-other}
 use borrow.Author.Tests.{eqb-true, eqb-false, ltb-true, ltb-false}
 use Rattle.analysis.specs.Check.{totalOf}
-use Rattle.mixture.specs.Scaling.{WHOLE, quotientOf, remainderOf, quotientsOf, remaindersOf, missingOf, greatestTo, greatestOf, oneMore, distributed, scaledOf}
+use Rattle.mixture.specs.Scaling.{WHOLE, quotientOf, remainderOf, quotientsOf, remaindersOf, missingOf, greatestTo, greatestPlace, oneMore, distributed, scaledOf}
 use Rattle.mixture.specs.Total.{sum-set, sum-filled, greatest-below, greatest-least, remainders-sum}
 use Rattle.mixture.specs.Share.{getD-map, greatest-positive, scaled-near}
 
@@ -34,14 +34,14 @@ greatest-first rs (suc n) j h =
     go true e l rec least = omega (arith, ltb-true (getD rs (greatestTo rs n) 0) (getD rs n 0) e, least l)
     go false e l rec least = rec l
 
-greatest-before : (rs : List ℕ) (j : ℕ) → j < length rs → (j ≡ greatestOf rs → ⊥) → Before rs (greatestOf rs) j
+greatest-before : (rs : List ℕ) (j : ℕ) → j < length rs → (j ≡ greatestPlace rs → ⊥) → Before rs (greatestPlace rs) j
 greatest-before rs j l z =
-    record { no-less = greatest-least rs (length rs) j l; equal = λ e. after e (ltb (greatestOf rs) j) refl }
+    record { no-less = greatest-least rs (length rs) j l; equal = λ e. after e (ltb (greatestPlace rs) j) refl }
   where
-    after : getD rs j 0 ≡ getD rs (greatestOf rs) 0 → (b : Bool) → ltb (greatestOf rs) j ≡ b → greatestOf rs < j
-    after e true q = ltb-true (greatestOf rs) j q
+    after : getD rs j 0 ≡ getD rs (greatestPlace rs) 0 → (b : Bool) → ltb (greatestPlace rs) j ≡ b → greatestPlace rs < j
+    after e true q = ltb-true (greatestPlace rs) j q
     after e false q =
-        let k : j < greatestOf rs = omega (arith, ltb-false (greatestOf rs) j q, z) in
+        let k : j < greatestPlace rs = omega (arith, ltb-false (greatestPlace rs) j q, z) in
         absurd (omega (arith, greatest-first rs (length rs) j k))
 
 module _ (t n : ℕ) (h : 0 < t) where
@@ -53,15 +53,15 @@ module _ (t n : ℕ) (h : 0 < t) where
     pub enough : m * t ≤ totalOf rs
 
   module _ (m : ℕ) (qs rs : List ℕ) (w : Left (suc m) qs rs) where
-    positive : 0 < getD rs (greatestOf rs) 0
+    positive : 0 < getD rs (greatestPlace rs) 0
     positive = greatest-positive t m rs h (w .enough)
 
-    place : greatestOf rs < length rs
+    place : greatestPlace rs < length rs
     place = greatest-below rs (length rs) (sum-filled rs (omega (arith, w .enough)))
 
-    left-next : Left m (oneMore qs (greatestOf rs)) (set rs (greatestOf rs) 0)
+    left-next : Left m (oneMore qs (greatestPlace rs)) (set rs (greatestPlace rs) 0)
     left-next =
-        let p = greatestOf rs in
+        let p = greatestPlace rs in
         let l = place in
         let k = w .small p (omega (arith, w .remainders)) in
         record {
@@ -71,11 +71,11 @@ module _ (t n : ℕ) (h : 0 < t) where
           enough = omega (arith, sum-set rs p 0 l, w .enough);
         }
       where
-        at : (i : ℕ) → i < n → (b : Bool) → eqb i (greatestOf rs) ≡ b → getD (set rs (greatestOf rs) 0) i 0 < t
+        at : (i : ℕ) → i < n → (b : Bool) → eqb i (greatestPlace rs) ≡ b → getD (set rs (greatestPlace rs) 0) i 0 < t
         at i u true e =
-            let z : i ≡ greatestOf rs = eqb-true i (greatestOf rs) e in
-            rw z (rw (getD-set-same rs (greatestOf rs) 0 0 place) h)
-        at i u false e = rw (getD-set-other rs (greatestOf rs) i 0 0 (eqb-false i (greatestOf rs) e)) (w .small i u)
+            let z : i ≡ greatestPlace rs = eqb-true i (greatestPlace rs) e in
+            rw z (rw (getD-set-same rs (greatestPlace rs) 0 0 place) h)
+        at i u false e = rw (getD-set-other rs (greatestPlace rs) i 0 0 (eqb-false i (greatestPlace rs) e)) (w .small i u)
 
   -- a component with remainder 0 gets no more
   none-more : (m : ℕ) (qs rs : List ℕ) → Left m qs rs → (i : ℕ) → getD rs i 0 ≡ 0
@@ -83,7 +83,7 @@ module _ (t n : ℕ) (h : 0 < t) where
   unfolding distributed
   none-more zero qs rs w i e = refl
   none-more (suc m) qs rs w i e =
-      let p = greatestOf rs in
+      let p = greatestPlace rs in
       let z : i ≡ p → ⊥ = λ q. omega (arith, positive m qs rs w, ap (λ k. getD rs k 0) q) in
       none-more m (oneMore qs p) (set rs p 0) (left-next m qs rs w) i (getD-set-other rs p i 0 0 z ∙ e)
       ∙ getD-set-other qs p i (getD qs p 0 + 1) 0 z
@@ -94,29 +94,29 @@ module _ (t n : ℕ) (h : 0 < t) where
   unfolding distributed
   more-before zero qs rs w i j lj a b = absurd (a refl)
   more-before (suc m) qs rs w i j lj a b =
-      go (eqb i (greatestOf rs)) refl (more-before m (oneMore qs (greatestOf rs)) (set rs (greatestOf rs) 0) (left-next m qs rs w) i j lj)
+      go (eqb i (greatestPlace rs)) refl (more-before m (oneMore qs (greatestPlace rs)) (set rs (greatestPlace rs) 0) (left-next m qs rs w) i j lj)
     where
-      served : getD (distributed m (oneMore qs (greatestOf rs)) (set rs (greatestOf rs) 0)) (greatestOf rs) 0 ≡ getD qs (greatestOf rs) 0 + 1
+      served : getD (distributed m (oneMore qs (greatestPlace rs)) (set rs (greatestPlace rs) 0)) (greatestPlace rs) 0 ≡ getD qs (greatestPlace rs) 0 + 1
       served =
-          none-more m (oneMore qs (greatestOf rs)) (set rs (greatestOf rs) 0) (left-next m qs rs w) (greatestOf rs)
-          (getD-set-same rs (greatestOf rs) 0 0 (place m qs rs w))
-          ∙ getD-set-same qs (greatestOf rs) (getD qs (greatestOf rs) 0 + 1) 0 (omega (arith, place m qs rs w, w .quotients, w .remainders))
+          none-more m (oneMore qs (greatestPlace rs)) (set rs (greatestPlace rs) 0) (left-next m qs rs w) (greatestPlace rs)
+          (getD-set-same rs (greatestPlace rs) 0 0 (place m qs rs w))
+          ∙ getD-set-same qs (greatestPlace rs) (getD qs (greatestPlace rs) 0 + 1) 0 (omega (arith, place m qs rs w, w .quotients, w .remainders))
 
-      other : j ≡ greatestOf rs → ⊥
+      other : j ≡ greatestPlace rs → ⊥
       other q =
           omega
-          (arith, served, b, ap (λ k. getD (distributed m (oneMore qs (greatestOf rs)) (set rs (greatestOf rs) 0)) k 0) q, ap (λ k. getD qs k 0) q)
+          (arith, served, b, ap (λ k. getD (distributed m (oneMore qs (greatestPlace rs)) (set rs (greatestPlace rs) 0)) k 0) q, ap (λ k. getD qs k 0) q)
 
-      go : (e : Bool) → eqb i (greatestOf rs) ≡ e
-          → ((getD (distributed m (oneMore qs (greatestOf rs)) (set rs (greatestOf rs) 0)) i 0 ≡ getD (oneMore qs (greatestOf rs)) i 0 → ⊥)
-          → getD (distributed m (oneMore qs (greatestOf rs)) (set rs (greatestOf rs) 0)) j 0 ≡ getD (oneMore qs (greatestOf rs)) j 0
-          → Before (set rs (greatestOf rs) 0) i j)
+      go : (e : Bool) → eqb i (greatestPlace rs) ≡ e
+          → ((getD (distributed m (oneMore qs (greatestPlace rs)) (set rs (greatestPlace rs) 0)) i 0 ≡ getD (oneMore qs (greatestPlace rs)) i 0 → ⊥)
+          → getD (distributed m (oneMore qs (greatestPlace rs)) (set rs (greatestPlace rs) 0)) j 0 ≡ getD (oneMore qs (greatestPlace rs)) j 0
+          → Before (set rs (greatestPlace rs) 0) i j)
           → Before rs i j
       go true e rec =
-          let z : i ≡ greatestOf rs = eqb-true i (greatestOf rs) e in
+          let z : i ≡ greatestPlace rs = eqb-true i (greatestPlace rs) e in
           rw z (greatest-before rs j (omega (arith, w .remainders)) other)
       go false e rec =
-          let p = greatestOf rs in
+          let p = greatestPlace rs in
           let z = eqb-false i p e in
           let y = rec (λ f. a (f ∙ getD-set-other qs p i (getD qs p 0 + 1) 0 z)) (b ∙ sym (getD-set-other qs p j (getD qs p 0 + 1) 0 other)) in
           let ei = getD-set-other rs p i 0 0 z in

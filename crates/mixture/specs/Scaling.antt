@@ -34,8 +34,8 @@ greatestTo rs zero = 0
 greatestTo rs (suc n) =
     elim (ltb (getD rs (greatestTo rs n) 0) (getD rs n 0)) [ true ↦ n | false ↦ greatestTo rs n ]
 
-abbrev pub greatestOf : List ℕ → ℕ
-greatestOf rs = greatestTo rs (length rs)
+abbrev pub greatestPlace : List ℕ → ℕ
+greatestPlace rs = greatestTo rs (length rs)
 
 -- one more part at a place
 abbrev pub oneMore : List ℕ → ℕ → List ℕ
@@ -45,7 +45,7 @@ oneMore qs p = set qs p (getD qs p 0 + 1)
 -- remainder, which then counts 0, and so on
 unfoldable pub distributed : ℕ → List ℕ → List ℕ → List ℕ
 distributed zero qs rs = qs
-distributed (suc m) qs rs = distributed m (oneMore qs (greatestOf rs)) (set rs (greatestOf rs) 0)
+distributed (suc m) qs rs = distributed m (oneMore qs (greatestPlace rs)) (set rs (greatestPlace rs) 0)
 
 -- the amounts xs in parts of 1000000
 unfoldable pub scaledOf : List ℕ → List ℕ

@@ -10,7 +10,7 @@ use lib.ListN.{getD, set, length, length-set, length-map}
 use lib.Seq.{getD-set-same, getD-set-other}
 use borrow.Author.Tests.{eqb-true, eqb-false, ltb-true, ltb-false}
 use Rattle.analysis.specs.Check.{totalOf}
-use Rattle.mixture.specs.Scaling.{WHOLE, quotientOf, remainderOf, quotientsOf, remaindersOf, missingOf, greatestOf, oneMore, distributed, scaledOf}
+use Rattle.mixture.specs.Scaling.{WHOLE, quotientOf, remainderOf, quotientsOf, remaindersOf, missingOf, greatestPlace, oneMore, distributed, scaledOf}
 use Rattle.mixture.specs.Total.{sum-set, greatest-below, greatest-least, remainders-sum}
 
 -- s parts are less than one part from 1000000 × x / t
@@ -47,13 +47,13 @@ getD-map f (x ∷ l) zero h = refl
 getD-map f (x ∷ l) (suc i) h = getD-map f l i (omega arith)
 
 -- the greatest remainder is not 0 while parts are missing
-pub greatest-positive : (t m : ℕ) (rs : List ℕ) → 0 < t → suc m * t ≤ totalOf rs → 0 < getD rs (greatestOf rs) 0
-greatest-positive t m rs h l = go (ltb 0 (getD rs (greatestOf rs) 0)) refl
+pub greatest-positive : (t m : ℕ) (rs : List ℕ) → 0 < t → suc m * t ≤ totalOf rs → 0 < getD rs (greatestPlace rs) 0
+greatest-positive t m rs h l = go (ltb 0 (getD rs (greatestPlace rs) 0)) refl
   where
-    go : (b : Bool) → ltb 0 (getD rs (greatestOf rs) 0) ≡ b → 0 < getD rs (greatestOf rs) 0
-    go true e = ltb-true 0 (getD rs (greatestOf rs) 0) e
+    go : (b : Bool) → ltb 0 (getD rs (greatestPlace rs) 0) ≡ b → 0 < getD rs (greatestPlace rs) 0
+    go true e = ltb-true 0 (getD rs (greatestPlace rs) 0) e
     go false e =
-        let z = ltb-false 0 (getD rs (greatestOf rs) 0) e in
+        let z = ltb-false 0 (getD rs (greatestPlace rs) 0) e in
         absurd (omega (arith, sum-zero rs (λ i k. omega (arith, greatest-least rs (length rs) i k))))
 
 abbrev AllFair : ℕ → List ℕ → List ℕ → List ℕ → Type 0
@@ -79,7 +79,7 @@ module _ (t : ℕ) (xs : List ℕ) (h : 0 < t) where
   unfolding distributed
   distributed-fair zero qs rs a b l f i k = f i k .near
   distributed-fair (suc m) qs rs a b l f i k =
-      let p = greatestOf rs in
+      let p = greatestPlace rs in
       let z = greatest-positive t m rs h l in
       let below : p < length rs = greatest-below rs (length rs) (omega arith) in
       distributed-fair m (oneMore qs p) (set rs p 0) (length-set qs p (getD qs p 0 + 1) ∙ a) (length-set rs p 0 ∙ b)

@@ -9,7 +9,7 @@ use lib.Dec.{ltb}
 use lib.ListN.{getD, set, length, length-set, length-map}
 use borrow.Author.Tests.{ltb-true, ltb-false}
 use Rattle.analysis.specs.Check.{totalOf}
-use Rattle.mixture.specs.Scaling.{WHOLE, quotientOf, remainderOf, quotientsOf, remaindersOf, missingOf, greatestTo, greatestOf, oneMore, distributed, scaledOf}
+use Rattle.mixture.specs.Scaling.{WHOLE, quotientOf, remainderOf, quotientsOf, remaindersOf, missingOf, greatestTo, greatestPlace, oneMore, distributed, scaledOf}
 
 -- ---- sums
 
@@ -64,13 +64,13 @@ greatest-least rs (suc n) j h =
 pub distributed-length : (m : ℕ) (qs rs : List ℕ) → length (distributed m qs rs) ≡ length qs
 unfolding distributed
 distributed-length zero qs rs = refl
-distributed-length (suc m) qs rs = distributed-length m (oneMore qs (greatestOf rs)) (set rs (greatestOf rs) 0) ∙ length-set qs (greatestOf rs) (getD qs (greatestOf rs) 0 + 1)
+distributed-length (suc m) qs rs = distributed-length m (oneMore qs (greatestPlace rs)) (set rs (greatestPlace rs) 0) ∙ length-set qs (greatestPlace rs) (getD qs (greatestPlace rs) 0 + 1)
 
 pub distributed-sum : (m : ℕ) (qs rs : List ℕ) → length qs ≡ length rs → 0 < length rs → totalOf (distributed m qs rs) ≡ totalOf qs + m
 unfolding distributed
 distributed-sum zero qs rs e h = omega arith
 distributed-sum (suc m) qs rs e h =
-    let p = greatestOf rs in
+    let p = greatestPlace rs in
     omega (
       arith,
       distributed-sum m (oneMore qs p) (set rs p 0) (length-set qs p (getD qs p 0 + 1) ∙ e ∙ sym (length-set rs p 0)) (rw length-set h),

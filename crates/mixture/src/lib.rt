@@ -7,7 +7,7 @@ ghost use mathlib.Core.Path.{_≡_};
 ghost use Prim.Native.Nat.{ℕ, _+_, _*_, _<_, _≤_};
 ghost use lib.ListN.{getD, length};
 ghost use Rattle.analysis.specs.Check.{totalOf};
-ghost use Rattle.mixture.specs.Scaling.{WHOLE, quotientOf, remainderOf, quotientsOf, remaindersOf, missingOf, greatestOf, distributed, scaledOf};
+ghost use Rattle.mixture.specs.Scaling.{WHOLE, quotientOf, remainderOf, quotientsOf, remaindersOf, missingOf, greatestPlace, distributed, scaledOf};
 ghost use Rattle.mixture.specs.Simplification.{COMPONENTS, butaneOf, tenthsOf, tenthsTotal};
 ghost use Rattle.mixture.specs.Limits.{LIMIT, Limited};
 ghost use Rattle.mixture.specs.Answers.{Simplifying, InertAnswer};
@@ -179,7 +179,7 @@ fn missing(q: &[u32; COMPONENTS]) -> u32
 // The place of the greatest remainder, of equal ones the first.
 fn greatest(r: &[u64; COMPONENTS]) -> usize
     requires { ⌜ length (now r) ≡ COMPONENTS ⌝ }
-    ensures { λ p. ⌜ (p ≡ greatestOf (now (r .entry))) × (p < COMPONENTS) ⌝ }
+    ensures { λ p. ⌜ (p ≡ greatestPlace (now (r .entry))) × (p < COMPONENTS) ⌝ }
 {
     let mut p = 0;
     let mut i = 0;

@@ -203,6 +203,17 @@ fn refused(answer: Reading) -> Sheet
     }
 }
 
+// The same of a refusal's number, place and code.
+fn refused_with(number: u32, place: u32, code: u32) -> Sheet
+    ensures { λ r. ⌜ r ≡ refusedSheet (Reading.Refused number place code) ⌝ }
+{
+    refused(Reading::Refused {
+        number,
+        place,
+        code,
+    })
+}
+
 // Is a component listed at 0, or the analysis out of range? Refused 5 or 6, or not.
 fn amounts_refused(s: &[u8], n: usize, a: Analysis) -> Checked
     requires { ⌜ (1 + 5 * n ≤ length (now s)) × (a .amounts ≡ amountsFrom n (now s) 1 (replicate CODES 0)) ⌝ }
@@ -230,11 +241,7 @@ pub fn read(s: &[u8]) -> Sheet
         first,
     } = parts
     else {
-        return refused(Reading::Refused {
-            number: 1,
-            place: 0,
-            code: 0,
-        });
+        return refused_with(1, 0, 0);
     };
     let answer = codes(s, n);
     let Reading::Read = answer else {
@@ -245,11 +252,7 @@ pub fn read(s: &[u8]) -> Sheet
     };
     let checked = amounts_refused(s, n, a);
     match checked {
-        Checked::Refused { number, code } => refused(Reading::Refused {
-            number,
-            place: 0,
-            code,
-        }),
+        Checked::Refused { number, code } => refused_with(number, 0, code),
         Checked::InRange => {
             let split = split_at(s, first, m);
             Sheet {

@@ -4,7 +4,8 @@ ghost use Prim.Native.Nat.{ℕ, _+_, _*_, _<_, _≤_};
 ghost use lib.ListN.{length};
 ghost use lib.IntN.{ℤ, pos, negsuc, natAbs, _+ℤ_, _*ℤ_};
 ghost use lib.Signed.{quotZ};
-ghost use Rattle.split.specs.Split.{columnOf, Sound};
+ghost use Rattle.systems.specs.Systems.{COMPONENTS};
+ghost use Rattle.split.specs.Split.{SYSTEMS, CELLS, columnOf, Sound};
 ghost use Rattle.split.specs.Rating.{resums, weightedOf, inertNumber};
 ghost use Rattle.split.specs.Proposed.{proposalFit, ratedOf, answerOf};
 ghost use Rattle.search.specs.Carried.{LARGEST, Held};
@@ -29,20 +30,28 @@ const MILLION: u32 = 1000000;
 const INERT: u32 = 20;
 
 fn wide(x: u32) -> u64
-    ensures { λ r. ⌜ (r ≡ x) × (r ≤ 4294967295) ⌝ }
+    ensures { λ r. ⌜ r ≡ x ⌝ }
 {
     x as u64
 }
 
-// The amounts of component c in the k rows, added as whole numbers: nothing wraps.
+// One more amount, added as a whole number: nothing wraps.
+fn added(sum: u64, x: u32) -> u64
+    requires { ⌜ sum ≤ 34359738360 ⌝ }
+    ensures { λ r. ⌜ (r ≡ sum + x) × (r ≤ sum + 4294967295) ⌝ }
+{
+    sum + wide(x)
+}
+
+// The amounts of component c in the k rows, added.
 fn column(a: &[u32; CELLS], k: usize, c: usize) -> u64
-    requires { ⌜ (k ≤ 8) × (c < 4) ⌝ }
+    requires { ⌜ (k ≤ SYSTEMS) × (c < COMPONENTS) ⌝ }
     ensures { λ r. ⌜ r ≡ columnOf k (now (a .entry)) c ⌝ }
 {
     let mut sum: u64 = 0;
     let mut s = 0;
     while s < k {
-        sum += wide(a[s * COMPONENTS + c]);
+        sum = added(sum, a[s * COMPONENTS + c]);
         s += 1;
     }
     sum
@@ -50,7 +59,7 @@ fn column(a: &[u32; CELLS], k: usize, c: usize) -> u64
 
 // Whether each component's amounts add up to the mixture's.
 fn resums(mix: &[u32; COMPONENTS], k: usize, a: &[u32; CELLS]) -> bool
-    requires { ⌜ k ≤ 8 ⌝ }
+    requires { ⌜ k ≤ SYSTEMS ⌝ }
     ensures { λ r. ⌜ r ≡ resums (now (mix .entry)) k (now (a .entry)) ⌝ }
 {
     let mut c = 0;
@@ -148,7 +157,7 @@ pub(crate) fn answer(
     a: &[u32; CELLS],
     n1: u32,
 ) -> Answer
-    requires { ⌜ length (now a) ≡ 32 ⌝ }
+    requires { ⌜ length (now a) ≡ CELLS ⌝ }
     ensures { λ r. ⌜ r ≡ answerOf limit (now (ch .entry)) k (now (mix .entry)) (now (a .entry)) n1 ⌝ }
 {
     if !proposal_fit(mix, ch, k, n1) {

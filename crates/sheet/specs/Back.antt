@@ -63,16 +63,16 @@ module _ (k x : ℕ) (xs : List ℕ) where
   pub some-count : eqb x 0 ≡ false → countOf (x ∷ xs) ≡ suc (countOf xs)
   some-count e = rw e
 
-  pub none-comps : eqb x 0 ≡ true → componentBytes k (x ∷ xs) ≡ componentBytes (suc k) xs
-  none-comps e = rw e
+  pub none-bytes : eqb x 0 ≡ true → componentBytes k (x ∷ xs) ≡ componentBytes (suc k) xs
+  none-bytes e = rw e
 
-  pub some-comps : eqb x 0 ≡ false → componentBytes k (x ∷ xs) ≡ k ∷ bytesOf x ++ componentBytes (suc k) xs
-  some-comps e = rw e
+  pub some-bytes : eqb x 0 ≡ false → componentBytes k (x ∷ xs) ≡ k ∷ bytesOf x ++ componentBytes (suc k) xs
+  some-bytes e = rw e
 
 -- where a record was written: its code, its amount, and what is next
 module _ (s : List ℕ) (at k x : ℕ) (xs r : List ℕ) (e : drop at s ≡ componentBytes k (x ∷ xs) ++ r) (f : eqb x 0 ≡ false) where
   here : drop at s ≡ (k ∷ bytesOf x) ++ (componentBytes (suc k) xs ++ r)
-  here = e ∙ ap (λ (l : List ℕ). l ++ r) (some-comps k x xs f)
+  here = e ∙ ap (λ (l : List ℕ). l ++ r) (some-bytes k x xs f)
 
   pub code-back : getD s at 0 ≡ k
   code-back = byte-here s at _ here
@@ -84,7 +84,7 @@ module _ (s : List ℕ) (at k x : ℕ) (xs r : List ℕ) (e : drop at s ≡ comp
   next-back = rest-here s at _ here 5
 
 pub skip-back : (s : List ℕ) (at k x : ℕ) (xs r : List ℕ) → drop at s ≡ componentBytes k (x ∷ xs) ++ r → eqb x 0 ≡ true → drop at s ≡ componentBytes (suc k) xs ++ r
-skip-back s at k x xs r e f = e ∙ ap (λ (l : List ℕ). l ++ r) (none-comps k x xs f)
+skip-back s at k x xs r e f = e ∙ ap (λ (l : List ℕ). l ++ r) (none-bytes k x xs f)
 
 pub codes-back : (xs : List ℕ) (k i p : ℕ) (s : List ℕ) (at : ℕ) (r : List ℕ) → allInRange k xs ≡ true → p < k
     → drop at s ≡ componentBytes k xs ++ r → codesReading (countOf xs) s at i p ≡ Read
@@ -124,13 +124,13 @@ zero-back (x ∷ xs) k s at r e =
         let z = amount-back s at k x xs r e f in
         rw (f, z, f) (next (next-back s at k x xs r e f))
 
-pub fill-back : (xs : List ℕ) (k : ℕ) (ws : List ℕ) (s : List ℕ) (at : ℕ) (r : List ℕ) → length ws ≡ k
+pub amounts-filled : (xs : List ℕ) (k : ℕ) (ws : List ℕ) (s : List ℕ) (at : ℕ) (r : List ℕ) → length ws ≡ k
     → drop at s ≡ componentBytes k xs ++ r → amountsFrom (countOf xs) s at (ws ++ replicate (length xs) 0) ≡ ws ++ xs
-fill-back [] k ws s at r h e = refl
-fill-back (x ∷ xs) k ws s at r h e =
+amounts-filled [] k ws s at r h e = refl
+amounts-filled (x ∷ xs) k ws s at r h e =
     go
-    (λ d. fill-back xs (suc k) (ws ++ (0 ∷ [])) s at r (longer 0) d)
-    (λ d. fill-back xs (suc k) (ws ++ (x ∷ [])) s (at + 5) r (longer x) d)
+    (λ d. amounts-filled xs (suc k) (ws ++ (0 ∷ [])) s at r (longer 0) d)
+    (λ d. amounts-filled xs (suc k) (ws ++ (x ∷ [])) s (at + 5) r (longer x) d)
     (eqb x 0)
     refl
   where

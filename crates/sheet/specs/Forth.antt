@@ -15,7 +15,7 @@ use Rattle.sheet.specs.Bytes.{number, numberAt, bytesOf}
 use Rattle.sheet.specs.Components.{refusalBy, codeRefusal, codesReading, amountsFrom, zeroListed, countOf, componentBytes}
 use Rattle.sheet.specs.Split.{RECORDS, padded, recordBytes, byteColumn, amountColumn}
 use Rattle.sheet.specs.Cases.{status-above, code-back}
-use Rattle.sheet.specs.Back.{cut, cut-take, some-comps, some-count}
+use Rattle.sheet.specs.Back.{cut, cut-take, some-bytes, some-count}
 
 -- the bytes of the number of four bytes are those bytes
 pub bytes-number : (a b c d : ℕ) → a < 256 → b < 256 → c < 256 → d < 256 → bytesOf (number a b c d) ≡ a ∷ b ∷ c ∷ d ∷ []
@@ -79,9 +79,9 @@ module _ (s : List ℕ) (bytes : Bytes s) where
         ∙ sym (part-here at (omega arith)))
 
 -- amounts that are not listed leave nothing
-pub zeros-comps : (g k : ℕ) (l : List ℕ) → componentBytes k (replicate g 0 ++ l) ≡ componentBytes (k + g) l
-zeros-comps zero k l = let e : k + 0 ≡ k = omega arith in ap (λ (n : ℕ). componentBytes n l) (sym e)
-zeros-comps (suc g) k l = let e : suc k + g ≡ k + suc g = omega arith in zeros-comps g (suc k) l ∙ ap (λ (n : ℕ). componentBytes n l) e
+pub zeros-bytes : (g k : ℕ) (l : List ℕ) → componentBytes k (replicate g 0 ++ l) ≡ componentBytes (k + g) l
+zeros-bytes zero k l = let e : k + 0 ≡ k = omega arith in ap (λ (n : ℕ). componentBytes n l) (sym e)
+zeros-bytes (suc g) k l = let e : suc k + g ≡ k + suc g = omega arith in zeros-bytes g (suc k) l ∙ ap (λ (n : ℕ). componentBytes n l) e
 
 pub zeros-count : (g : ℕ) (l : List ℕ) → countOf (replicate g 0 ++ l) ≡ countOf l
 zeros-count zero l = refl
@@ -100,8 +100,8 @@ fault-none c p h =
     go false e z = leb-false CODES c e
 
 module _ (n : ℕ) (s : List ℕ) (at : ℕ) where
-  pub codes-one : (i p : ℕ) → codesReading (suc n) s at i p ≡ Read → (codeRefusal (getD s at 0) p ≡ 0) × (codesReading n s (at + 5) (i + 1) (getD s at 0) ≡ Read)
-  codes-one i p h = go (eqb (codeRefusal (getD s at 0) p) 0) refl h
+  pub codes-head : (i p : ℕ) → codesReading (suc n) s at i p ≡ Read → (codeRefusal (getD s at 0) p ≡ 0) × (codesReading n s (at + 5) (i + 1) (getD s at 0) ≡ Read)
+  codes-head i p h = go (eqb (codeRefusal (getD s at 0) p) 0) refl h
     where
       go : (t : Bool) → eqb (codeRefusal (getD s at 0) p) 0 ≡ t
           → ifElse t (codesReading n s (at + 5) (i + 1) (getD s at 0)) (Refused (codeRefusal (getD s at 0) p) i 0) ≡ Read
@@ -109,8 +109,8 @@ module _ (n : ℕ) (s : List ℕ) (at : ℕ) where
       go true e h = (eqb-true _ _ e, h)
       go false e h = (cc, cc)
 
-  pub zero-one : zeroListed (suc n) s at ≡ false → (numberAt s (at + 1) ≡ 0 → ⊥) × (zeroListed n s (at + 5) ≡ false)
-  zero-one h = go (eqb (numberAt s (at + 1)) 0) refl h
+  pub zero-head : zeroListed (suc n) s at ≡ false → (numberAt s (at + 1) ≡ 0 → ⊥) × (zeroListed n s (at + 5) ≡ false)
+  zero-head h = go (eqb (numberAt s (at + 1)) 0) refl h
     where
       go : (t : Bool) → eqb (numberAt s (at + 1)) 0 ≡ t → ifElse t true (zeroListed n s (at + 5)) ≡ false → (numberAt s (at + 1) ≡ 0 → ⊥) × (zeroListed n s (at + 5) ≡ false)
       go true e h = let z : _≡_ {A = ℕ} 0 1 = cc in (λ _. omega arith, cc)
@@ -130,14 +130,14 @@ put-one ws g z c x h =
 pub record Filled (n : ℕ) (s : List ℕ) (at p next : ℕ) (ws : List ℕ) (z : ℕ) : Type 0 where
   pub ys : List ℕ
   pub filled : amountsFrom n s at (ws ++ replicate z 0) ≡ ws ++ ys
-  pub comps : componentBytes (p + 1) ys ++ drop next s ≡ drop at s
+  pub bytes-filled : componentBytes (p + 1) ys ++ drop next s ≡ drop at s
   pub count : countOf ys ≡ n
 
 -- one record more
-fill-step : (n : ℕ) (s : List ℕ) → Bytes s → (at p next : ℕ) (ws : List ℕ) (z gap w c x : ℕ) → getD s at 0 ≡ c → numberAt s (at + 1) ≡ x
+filled-step : (n : ℕ) (s : List ℕ) → Bytes s → (at p next : ℕ) (ws : List ℕ) (z gap w c x : ℕ) → getD s at 0 ≡ c → numberAt s (at + 1) ≡ x
     → gap + suc w ≡ z → length ws + gap ≡ c → p + 1 + gap ≡ c → suc c ≡ c + 1 → (x ≡ 0 → ⊥) → at + 5 ≤ length s
     → Filled n s (at + 5) c next ((ws ++ replicate gap 0) ++ (x ∷ [])) w → Filled (suc n) s at p next ws z
-fill-step n s bytes at p next ws z gap w c x ec ex zz lw pc sc o h r =
+filled-step n s bytes at p next ws z gap w c x ec ex zz lw pc sc o h r =
     record {
       ys = replicate gap 0 ++ (x ∷ r .ys);
       filled =
@@ -148,48 +148,48 @@ fill-step n s bytes at p next ws z gap w c x ec ex zz lw pc sc o h r =
           ∙ r .filled
           ∙ append-snoc (ws ++ replicate gap 0) x (r .ys)
           ∙ append-assoc ws (replicate gap 0) (x ∷ r .ys);
-      comps =
+      bytes-filled =
           ap (λ (v : List ℕ). v ++ drop next s)
-          (zeros-comps gap (p + 1) (x ∷ r .ys)
+          (zeros-bytes gap (p + 1) (x ∷ r .ys)
           ∙ ap (λ (j : ℕ). componentBytes j (x ∷ r .ys)) pc
-          ∙ some-comps c x (r .ys) (ne-eqb x 0 o)
+          ∙ some-bytes c x (r .ys) (ne-eqb x 0 o)
           ∙ ap (λ (j : ℕ). (c ∷ bytesOf x) ++ componentBytes j (r .ys)) sc)
-          ∙ ap (λ (v : List ℕ). (c ∷ bytesOf x) ++ v) (r .comps)
+          ∙ ap (λ (v : List ℕ). (c ∷ bytesOf x) ++ v) (r .bytes-filled)
           ∙ ap (λ (k : ℕ). (k ∷ bytesOf x) ++ drop (at + 5) s) (sym ec)
           ∙ ap (λ (k : ℕ). (getD s at 0 ∷ bytesOf k) ++ drop (at + 5) s) (sym ex)
           ∙ sym (record-here s bytes at h);
       count = zeros-count gap (x ∷ r .ys) ∙ some-count c x (r .ys) (ne-eqb x 0 o) ∙ ap suc (r .count);
     }
 
-pub fill-forth : (n : ℕ) (s : List ℕ) → Bytes s → (at i p next : ℕ) (ws : List ℕ) (z : ℕ) → codesReading n s at i p ≡ Read → zeroListed n s at ≡ false
+pub filled-forth : (n : ℕ) (s : List ℕ) → Bytes s → (at i p next : ℕ) (ws : List ℕ) (z : ℕ) → codesReading n s at i p ≡ Read → zeroListed n s at ≡ false
     → length ws ≡ p + 1 → p + 1 + z ≡ CODES → at + 5 * n ≡ next → next ≤ length s → Filled n s at p next ws z
-fill-forth zero s bytes at i p next ws z good nz l k e h =
+filled-forth zero s bytes at i p next ws z good nz l k e h =
     let q : next ≡ at = omega arith in
-    let a : componentBytes (p + 1) (replicate z 0) ≡ [] = ap (λ (r : List ℕ). componentBytes (p + 1) r) (sym (append-nil (replicate z 0))) ∙ zeros-comps z (p + 1) [] in
+    let a : componentBytes (p + 1) (replicate z 0) ≡ [] = ap (λ (r : List ℕ). componentBytes (p + 1) r) (sym (append-nil (replicate z 0))) ∙ zeros-bytes z (p + 1) [] in
     let b : countOf (replicate z 0) ≡ 0 = ap countOf (sym (append-nil (replicate z 0))) ∙ zeros-count z [] in
     record {
       ys = replicate z 0;
       filled = refl;
-      comps = ap (λ (r : List ℕ). r ++ drop next s) a ∙ ap (λ (m : ℕ). drop m s) q;
+      bytes-filled = ap (λ (r : List ℕ). r ++ drop next s) a ∙ ap (λ (m : ℕ). drop m s) q;
       count = b;
     }
-fill-forth (suc n) s bytes at i p next ws z good nz l k e h =
-    let g = codes-one n s at i p good in
+filled-forth (suc n) s bytes at i p next ws z good nz l k e h =
+    let g = codes-head n s at i p good in
     let f = fault-none (getD s at 0) p (g .0) in
-    let o = zero-one n s at nz in
+    let o = zero-head n s at nz in
     let lw : length ws + (getD s at 0 - (p + 1)) ≡ getD s at 0 = omega arith in
     let lv : length ((ws ++ replicate (getD s at 0 - (p + 1)) 0) ++ (numberAt s (at + 1) ∷ [])) ≡ getD s at 0 + 1 = simp (length-append, length-replicate) (omega arith) in
-    fill-step n s bytes at p next ws z (getD s at 0 - (p + 1)) (CODES - (getD s at 0 + 1)) (getD s at 0) (numberAt s (at + 1)) refl refl
+    filled-step n s bytes at p next ws z (getD s at 0 - (p + 1)) (CODES - (getD s at 0 + 1)) (getD s at 0) (numberAt s (at + 1)) refl refl
     (omega arith) lw (omega arith) (omega arith) (o .0) (omega arith)
-    (fill-forth n s bytes (at + 5) (i + 1) (getD s at 0) next ((ws ++ replicate (getD s at 0 - (p + 1)) 0) ++ (numberAt s (at + 1) ∷ [])) (CODES - (getD s at 0 + 1)) (g .1) (o .1) lv (omega arith) (omega arith) h)
+    (filled-forth n s bytes (at + 5) (i + 1) (getD s at 0) next ((ws ++ replicate (getD s at 0 - (p + 1)) 0) ++ (numberAt s (at + 1) ∷ [])) (CODES - (getD s at 0 + 1)) (g .1) (o .1) lv (omega arith) (omega arith) h)
 
-pub length-bytes : (m : ℕ) (s : List ℕ) (at : ℕ) → length (byteColumn m s at) ≡ m
-length-bytes zero s at = refl
-length-bytes (suc m) s at = ap suc (length-bytes m s (at + 6))
+pub length-byte-column : (m : ℕ) (s : List ℕ) (at : ℕ) → length (byteColumn m s at) ≡ m
+length-byte-column zero s at = refl
+length-byte-column (suc m) s at = ap suc (length-byte-column m s (at + 6))
 
-pub length-nums : (m : ℕ) (s : List ℕ) (at : ℕ) → length (amountColumn m s at) ≡ m
-length-nums zero s at = refl
-length-nums (suc m) s at = ap suc (length-nums m s (at + 6))
+pub length-amount-column : (m : ℕ) (s : List ℕ) (at : ℕ) → length (amountColumn m s at) ≡ m
+length-amount-column zero s at = refl
+length-amount-column (suc m) s at = ap suc (length-amount-column m s (at + 6))
 
 -- a column, out of the places that it was put into
 pub column-forth : (m : ℕ) (vs : List ℕ) → length vs ≡ m → m ≤ length (padded vs) → cut m 0 (padded vs) ≡ vs

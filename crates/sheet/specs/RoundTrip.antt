@@ -24,8 +24,8 @@ use Rattle.sheet.specs.Sheet.{LISTED, SHEET, sheetOf, sectionsOf}
 use Rattle.sheet.specs.Read.{amountsOf, amountsRefusal, contentOf, readOf}
 use Rattle.sheet.specs.Write.{writeRefusal, writtenOf, leftOf}
 use Rattle.sheet.specs.Cases.{both-true, allowed-most, Sectioned, sectioned, sections-both, read-good, Whole, read-whole, amounts-checked, amounts-back, length-components, length-sheet, number-none, number-back, written-length, written-back, left-sheet}
-use Rattle.sheet.specs.Back.{unlisted, codes-back, zero-back, fill-back, rest-here, cut, cut-take, split-back}
-use Rattle.sheet.specs.Forth.{Bytes, one, Filled, fill-forth, split-forth, column-forth, length-bytes, length-nums}
+use Rattle.sheet.specs.Back.{unlisted, codes-back, zero-back, amounts-filled, rest-here, cut, cut-take, split-back}
+use Rattle.sheet.specs.Forth.{Bytes, one, Filled, filled-forth, split-forth, column-forth, length-byte-column, length-amount-column}
 
 -- ---- how long a sheet is
 
@@ -116,9 +116,9 @@ trimmed-same a p k h u =
 -- nor does trimming a split that was read
 pub trimmed-read : (m : ℕ) (s : List ℕ) (at : ℕ) → trimmed (splitAt m s at) ≡ splitAt m s at
 trimmed-read m s at =
-    let x = column (byteColumn m s at) (length-bytes m s at) in
-    let y = column (byteColumn m s (at + 1)) (length-bytes m s (at + 1)) in
-    let z = column (amountColumn m s (at + 2)) (length-nums m s (at + 2)) in
+    let x = column (byteColumn m s at) (length-byte-column m s at) in
+    let y = column (byteColumn m s (at + 1)) (length-byte-column m s (at + 1)) in
+    let z = column (amountColumn m s (at + 2)) (length-amount-column m s (at + 2)) in
     λ i. record { count = m; systems = x i; codes = y i; amounts = z i }
   where
     column : (vs : List ℕ) → length vs ≡ m → padded (take m (padded vs)) ≡ padded vs
@@ -179,7 +179,7 @@ module _ (xs : List ℕ) (p : Split) (k : Sized (0 ∷ xs) p) (allowed : allowed
   unfolding s r n
   amounts =
       let l : length xs ≡ CODES - 1 = omega (arith, k .amounts-of-codes) in
-      ap (λ (j : ℕ). amountsFrom n s 1 (0 ∷ replicate j 0)) (sym l) ∙ fill-back xs 1 (0 ∷ []) s 1 r refl refl
+      ap (λ (j : ℕ). amountsFrom n s 1 (0 ∷ replicate j 0)) (sym l) ∙ amounts-filled xs 1 (0 ∷ []) s 1 r refl refl
 
   split : splitAt (p .count) s (2 + 5 * n) ≡ trimmed p
   unfolding s n
@@ -243,7 +243,7 @@ module _ (s : List ℕ) (bytes : Bytes s) (x : Whole s) where
   passed = amounts-back (x .n) s (x .amounts)
 
   filled : Filled (x .n) s 1 0 (1 + 5 * x .n) (0 ∷ []) (CODES - 1)
-  filled = fill-forth (x .n) s bytes 1 0 0 (1 + 5 * x .n) (0 ∷ []) (CODES - 1) (x .codes) (passed .0) refl refl refl (omega (arith, shape .size))
+  filled = filled-forth (x .n) s bytes 1 0 0 (1 + 5 * x .n) (0 ∷ []) (CODES - 1) (x .codes) (passed .0) refl refl refl (omega (arith, shape .size))
 
   p : Split
   p = splitAt (x .m) s (x .first)
@@ -257,9 +257,9 @@ module _ (s : List ℕ) (bytes : Bytes s) (x : Whole s) where
       let k : length s ≤ length s = omega arith in
       let f = split-forth s bytes (p .systems) (p .codes) (p .amounts) (x .m) 0 (x .first) (length s)
       (omega (arith, shape .size, shape .begins)) k
-      (column (byteColumn (x .m) s (x .first)) (length-bytes (x .m) s (x .first)))
-      (column (byteColumn (x .m) s (x .first + 1)) (length-bytes (x .m) s (x .first + 1)))
-      (column (amountColumn (x .m) s (x .first + 2)) (length-nums (x .m) s (x .first + 2))) in
+      (column (byteColumn (x .m) s (x .first)) (length-byte-column (x .m) s (x .first)))
+      (column (byteColumn (x .m) s (x .first + 1)) (length-byte-column (x .m) s (x .first + 1)))
+      (column (amountColumn (x .m) s (x .first + 2)) (length-amount-column (x .m) s (x .first + 2))) in
       sym (append-nil _) ∙ ap (λ (l : List ℕ). splitBytes p ++ l) (sym (drop-length s)) ∙ f
 
   sheet-same : sheetOf (amountsOf (x .n) s) (splitAt (x .m) s (x .first)) ≡ s
@@ -270,7 +270,7 @@ module _ (s : List ℕ) (bytes : Bytes s) (x : Whole s) where
       ap (λ (a : List ℕ). (countOf a ∷ componentBytes 0 a) ++ q) (filled .filled)
       ∙ ap (λ (j : ℕ). (j ∷ componentBytes 1 (filled .ys)) ++ q) (filled .count)
       ∙ ap (λ (l : List ℕ). (x .n ∷ componentBytes 1 (filled .ys)) ++ l) e
-      ∙ ap (λ (l : List ℕ). x .n ∷ l) (filled .comps)
+      ∙ ap (λ (l : List ℕ). x .n ∷ l) (filled .bytes-filled)
       ∙ ap (λ (j : ℕ). j ∷ drop 1 s) (shape .components)
       ∙ sym (one s bytes 0 1 refl (omega (arith, shape .size)))
 

@@ -8,7 +8,6 @@ use lib.Dec.{ltb, leb, eqb}
 use lib.IntN.{ℤ, natAbs}
 use lib.ListN.{getD, replicate}
 use borrow.Author.Tests.{lt-ltb, le-leb, ltb-true, leb-true, eqb-false, ne-eqb, not-true}
-use Rattle.ternary.specs.Partial.{partial-small}
 use Rattle.systems.specs.Systems.{COMPONENTS, candidates, elem, Candidate}
 use Rattle.split.specs.Fold.{sumTo, allTo, someTo}
 use Rattle.split.specs.Split.{SYSTEMS, CELLS, systemOf, partsOf, columnOf, numberAt, both, Chosen, Stock, Sound}
@@ -24,6 +23,7 @@ use Rattle.split.specs.Members.{both-left, both-right}
 use Rattle.split.specs.Starts.{start-sums, start-stock, start-sound}
 use Rattle.split.specs.Runs.{Kept, Reached, reached-kept, reached-falls, reached-rounds, result-kept, result-says, result-rounds, larger-allowance}
 use Rattle.split.specs.Clean.{Clean}
+use Rattle.split.specs.Size.{number-small}
 use Rattle.split.specs.CleanCells.{start-clean, reached-clean, result-clean}
 
 -- ---- the tests of the input
@@ -110,10 +110,6 @@ pub record State (mix ch : List ℕ) (k allowance : ℕ) (b : List ℕ) (r : ℕ
   pub small : (s : ℕ) → natAbs (numberAt ch b s) ≤ 2000000000000
   pub falls : imbalanceOf (numberAt ch b) k + r ≤ imbalanceOf (numberAt ch (startOf mix ch k)) k
   pub rounds : r ≤ allowance
-
-pub number-small : (ch a : List ℕ) (s : ℕ) → natAbs (numberAt ch a s) ≤ 2000000000000
-unfolding numberAt
-number-small ch a s = partial-small _ _ _ _
 
 pub reached-state : {mix ch : List ℕ} {k limit level allowance : ℕ} {b : List ℕ} {l r : ℕ} → SearchInput mix ch k level → Reached ch k limit level allowance (startOf mix ch k) b l r → State mix ch k allowance b r
 reached-state {mix} {ch} {k} {limit} {level} {allowance} {b} i x =

@@ -32,3 +32,4 @@ pub mod Places
 pub mod Records
 pub mod Proposed
 pub mod PutBack
+pub mod Example

@@ -5,6 +5,7 @@ ghost use Prim.Native.Nat.{ℕ, _+_, _*_, _<_, _≤_};
 ghost use mathlib.Core.List.{_∷_, _++_};
 ghost use lib.ListN.{length, drop, set};
 ghost use lib.Seq.{sets};
+ghost use Rattle.analysis.specs.Register.{CODES};
 ghost use Rattle.sheet.specs.Bytes.{bytesOf};
 ghost use Rattle.sheet.specs.Components.{countOf, componentBytes};
 ghost use Rattle.sheet.specs.Split.{RECORDS, splitBytes};
@@ -57,7 +58,7 @@ fn put_record(b: &mut [u8], at: usize, system: u8, code: u8, x: u32)
 
 // How many codes have an amount.
 fn listed(a: [u32; CODES]) -> usize
-    ensures { λ r. ⌜ (r ≡ countOf a) × (r ≤ 14) ⌝ }
+    ensures { λ r. ⌜ (r ≡ countOf a) × (r ≤ CODES) ⌝ }
 {
     let mut n: usize = 0;
     let mut k: usize = 0;

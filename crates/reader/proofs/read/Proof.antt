@@ -25,11 +25,11 @@ enum-known-parts c = search needs
 enum-told : tie.Need-enum-told
 enum-told c = search needs
 
-refused-requires : tie.Need-refused-requires
-refused-requires c κs = search needs
+refused-with-requires : tie.Need-refused-with-requires
+refused-with-requires c κs = search needs
 
 returns : tie.Need-returns
-returns c = answer-torn _ _ (sym (c .before .before .before .sections .ensures) ∙ c .before .enum-told .given .1) (c .refused .ensures)
+returns c = answer-torn _ _ (sym (c .before .before .before .sections .ensures) ∙ c .before .enum-told .given .1) (c .refused-with .ensures)
 
 codes-requires : tie.Need-codes-requires
 codes-requires c κs =
@@ -42,13 +42,13 @@ enum-told-2 c = search needs
 enum-told-3 : tie.Need-enum-told-3
 enum-told-3 c = search needs
 
-refused-requires-2 : tie.Need-refused-requires-2
-refused-requires-2 c κs = search needs
+refused-requires : tie.Need-refused-requires
+refused-requires c κs = search needs
 
 returns-2 : tie.Need-returns-2
 returns-2 c =
     let t = c .before .enum-told3 .given .1 in
-    answer-codes _ _ _ _ _ (both (c .before .before .before .before)) _ _ _ (sym (c .before .before .before .codes .ensures) ∙ t) (c .refused2 .ensures ∙ ap refusedSheet t)
+    answer-codes _ _ _ _ _ (both (c .before .before .before .before)) _ _ _ (sym (c .before .before .before .codes .ensures) ∙ t) (c .refused .ensures ∙ ap refusedSheet t)
 
 amounts-requires : tie.Need-amounts-requires
 amounts-requires c κs =
@@ -63,8 +63,8 @@ amounts-refused-requires c κs =
 enum-known-checked : tie.Need-enum-known-checked
 enum-known-checked c = search needs
 
-refused-requires-3 : tie.Need-refused-requires-3
-refused-requires-3 c κs = search needs
+refused-with-requires-2 : tie.Need-refused-with-requires-2
+refused-with-requires-2 c κs = search needs
 
 enum-told-4 : tie.Need-enum-told-4
 enum-told-4 c = search needs
@@ -78,7 +78,7 @@ returns-3 : tie.Need-returns-3
 returns-3 c =
     let t = c .before .before .checked .given .1 in
     let d = sym (c .before .before .before .before .before .before .before .before .codes .ensures) ∙ c .before .before .before .before .before .before .enum-told2 .given .1 in
-    answer-amounts _ _ _ _ _ (both (c .before .before .before .before .before .before .before .before .before)) d _ _ _ (c .before .before .before .before .amounts-refused .ensures) t (c .refused3 .ensures)
+    answer-amounts _ _ _ _ _ (both (c .before .before .before .before .before .before .before .before .before)) d _ _ _ (c .before .before .before .before .amounts-refused .ensures) t (c .refused-with2 .ensures)
 
 returns-4 : tie.Need-returns-4
 returns-4 c =
@@ -95,17 +95,17 @@ read-spec =
     sections-requires
     enum-known-parts
     enum-told
-    refused-requires
+    refused-with-requires
     returns
     codes-requires
     enum-told-2
     enum-told-3
-    refused-requires-2
+    refused-requires
     returns-2
     amounts-requires
     amounts-refused-requires
     enum-known-checked
-    refused-requires-3
+    refused-with-requires-2
     enum-told-4
     split-at-requires
     returns-3

@@ -8,7 +8,7 @@ use lib.Seq.{sets}
 use Rattle.sheet.specs.declared.Split.{Split}
 use Rattle.sheet.specs.Bytes.{numberAt}
 use Rattle.sheet.specs.Split.{RECORDS, byteColumn, amountColumn}
-use Rattle.sheet.specs.Forth.{length-bytes, length-nums}
+use Rattle.sheet.specs.Forth.{length-byte-column, length-amount-column}
 use Rattle.reader.proofs.Turns.{bytes-go, column-go, bytes-end, column-end, sets-padded}
 use borrow.Author.Needs.{needs}
 use Rattle.reader.proofs.split_at.Statement.{statement}
@@ -81,9 +81,9 @@ returns c =
     let l = c .before .loop in
     let t = c .loop-test .left in
     let s = a .s .now in
-    let x = sym (bytes-end (a .m) (l .i) s (l .w) (l .systems) t) ∙ l .inv .2 ∙ sets-padded (byteColumn (a .m) s (a .at)) (omega (arith, length-bytes (a .m) s (a .at))) in
-    let y = sym (bytes-end (a .m) (l .i) s (l .w + 1) (l .codes) t) ∙ l .inv .3 ∙ sets-padded (byteColumn (a .m) s (a .at + 1)) (omega (arith, length-bytes (a .m) s (a .at + 1))) in
-    let z = sym (column-end (a .m) (l .i) s (l .w + 2) (l .amounts) t) ∙ l .inv .4 ∙ sets-padded (amountColumn (a .m) s (a .at + 2)) (omega (arith, length-nums (a .m) s (a .at + 2))) in
+    let x = sym (bytes-end (a .m) (l .i) s (l .w) (l .systems) t) ∙ l .inv .2 ∙ sets-padded (byteColumn (a .m) s (a .at)) (omega (arith, length-byte-column (a .m) s (a .at))) in
+    let y = sym (bytes-end (a .m) (l .i) s (l .w + 1) (l .codes) t) ∙ l .inv .3 ∙ sets-padded (byteColumn (a .m) s (a .at + 1)) (omega (arith, length-byte-column (a .m) s (a .at + 1))) in
+    let z = sym (column-end (a .m) (l .i) s (l .w + 2) (l .amounts) t) ∙ l .inv .4 ∙ sets-padded (amountColumn (a .m) s (a .at + 2)) (omega (arith, length-amount-column (a .m) s (a .at + 2))) in
     λ j. record { count = a .m; systems = x j; codes = y j; amounts = z j }
 
 pub split-at-spec : {M : Type 1} → statement M

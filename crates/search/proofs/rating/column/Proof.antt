@@ -1,7 +1,7 @@
+-- `search::rating::column` meets its contract: the sum of the first s rows, each at most 4294967295. Assumes nothing.
 use Prim.Native.Nat.{ℕ, _+_, _*_, _-_, _≤_, _<_}
-use mathlib.Core.Path.{_≡_, sym, ap, _∙_}
+use mathlib.Core.Path.{_≡_, refl, _∙_}
 use native.Mathlib.Omega.{arith}
-use borrow.Author.Needs.{needs}
 use Rattle.split.specs.Split.{cellOf, columnOf}
 use Rattle.split.specs.Folds.{sum-none, sum-more}
 use Rattle.search.proofs.rating.column.Statement.{statement}
@@ -17,23 +17,20 @@ loop-holds : tie.Need-loop-holds Inv-loop μ-loop
 unfolding columnOf
 loop-holds c = (omega arith, sum-none (λ s. cellOf (c .args .a .now) s (c .args .c)), omega arith)
 
-mul-wide : tie.Need-mul-wide Inv-loop μ-loop
-mul-wide c = omega arith
+mul-added : tie.Need-mul-added Inv-loop μ-loop
+mul-added c = omega arith
 
-add-wide : tie.Need-add-wide Inv-loop μ-loop
-add-wide c = omega arith
+add-added : tie.Need-add-added Inv-loop μ-loop
+add-added c = omega arith
 
-mul-wide-2 : tie.Need-mul-wide-2 Inv-loop μ-loop
-mul-wide-2 c = omega arith
+mul-added-2 : tie.Need-mul-added-2 Inv-loop μ-loop
+mul-added-2 c = omega arith
 
-element-copy-out-wide : tie.Need-element-copy-out-wide Inv-loop μ-loop
-element-copy-out-wide c = omega arith
+element-copy-out-added : tie.Need-element-copy-out-added Inv-loop μ-loop
+element-copy-out-added c = omega arith
 
-wide-requires : tie.Need-wide-requires Inv-loop μ-loop
-wide-requires c κs = search needs
-
-add-sum : tie.Need-add-sum Inv-loop μ-loop
-add-sum c = omega arith
+added-requires : tie.Need-added-requires Inv-loop μ-loop
+added-requires c κs = omega arith
 
 add-s : tie.Need-add-s Inv-loop μ-loop
 add-s c = omega arith
@@ -43,7 +40,12 @@ loop-less c = omega arith
 
 loop-again : tie.Need-loop-again Inv-loop μ-loop
 unfolding columnOf
-loop-again c = (omega arith, sum-more (λ s. cellOf (c .before .before .before .before .args .a .now) s (c .before .before .before .before .args .c)) _ _ _ (c .before .before .before .loop .inv .1) (c .wide .ensures .0), omega arith)
+loop-again c =
+    let a = c .before .before .before .before .args in (
+      omega arith,
+      c .added .ensures .0 ∙ sum-more (λ s. cellOf (a .a .now) s (a .c)) _ _ _ (c .before .before .before .loop .inv .1) refl,
+      omega arith,
+    )
 
 returns : tie.Need-returns Inv-loop μ-loop
 returns c = let q : c .before .loop .s ≡ c .before .before .args .k = omega arith in rw q at (c .before .loop .inv .1)
@@ -55,12 +57,11 @@ column-spec =
     Inv-loop
     μ-loop
     loop-holds
-    mul-wide
-    add-wide
-    mul-wide-2
-    element-copy-out-wide
-    wide-requires
-    add-sum
+    mul-added
+    add-added
+    mul-added-2
+    element-copy-out-added
+    added-requires
     add-s
     loop-less
     loop-again

@@ -25,7 +25,7 @@ element-copy-out-weigh : tie.Need-element-copy-out-weigh Inv-loop μ-loop
 element-copy-out-weigh c = omega (arith, c .before .before .pre .small .most)
 
 parts-requires : tie.Need-parts-requires Inv-loop μ-loop
-parts-requires c κs = (c .before .before .before .pre .sound .stock, c .before .loop-test .taken)
+parts-requires c κs = (c .before .before .before .pre .sound .stock, omega arith)
 
 weigh-requires : tie.Need-weigh-requires Inv-loop μ-loop
 weigh-requires c κs = weigh-asks _ _ _ _ (c .before .before .before .before .pre) _ _ _ _ (c .before .before .before .loop .inv) (c .before .before .loop-test .taken) (at-back _ _ _ (c .before .before .before .before .pre .small) (c .before .before .loop-test .taken)) (c .parts .ensures)

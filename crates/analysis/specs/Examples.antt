@@ -1,0 +1,36 @@
+-- Worked examples (document 01, "Gases and their figures": run and compared). Assumes nothing.
+use mathlib.Core.Path.{_≡_, refl}
+use mathlib.Core.List.{List, [], _∷_}
+use Prim.Native.Nat.{ℕ}
+use Rattle.analysis.specs.Register.{statusOf}
+use Rattle.analysis.specs.Check.{inRange, totalFits, refusalOf}
+
+-- a gas of methane and ethane as given, and 10000 parts of propane, 1000 of each butane
+abbrev gas : ℕ → ℕ → List ℕ
+gas methane ethane = 0 ∷ methane ∷ ethane ∷ 10000 ∷ 1000 ∷ 1000 ∷ 0 ∷ 0 ∷ 0 ∷ 0 ∷ 0 ∷ 0 ∷ 0 ∷ 0 ∷ []
+
+-- total 999899 is 6, 999900 and 1000100 pass, 1000101 is 6
+total-999899 : refusalOf (gas 967899 20000) ≡ 6
+unfolding refusalOf inRange totalFits statusOf
+total-999899 = refl
+
+total-999900 : refusalOf (gas 967900 20000) ≡ 0
+unfolding refusalOf inRange totalFits statusOf
+total-999900 = refl
+
+total-1000100 : refusalOf (gas 968100 20000) ≡ 0
+unfolding refusalOf inRange totalFits statusOf
+total-1000100 = refl
+
+total-1000101 : refusalOf (gas 968101 20000) ≡ 6
+unfolding refusalOf inRange totalFits statusOf
+total-1000101 = refl
+
+-- ethane 99 is 5, 100 passes
+ethane-99 : refusalOf (gas 987901 99) ≡ 5
+unfolding refusalOf inRange statusOf
+ethane-99 = refl
+
+ethane-100 : refusalOf (gas 987900 100) ≡ 0
+unfolding refusalOf inRange totalFits statusOf
+ethane-100 = refl
