@@ -52,7 +52,7 @@ def text():
 def main():
     if sys.argv[1:] == ['--check']:
         source = open(os.path.join(CRATE, 'src', 'main.rt'), encoding='utf-8').read()
-        listed = {tuple(map(int, row.split(','))) for row in re.findall(r'\[(0, [0-9, ]+)\]', source)}
+        listed = {tuple(map(int, re.findall('[0-9]+', row))) for row in re.findall(r'\[(\s*0,[0-9,\s]+)\]', source)}
         if listed != {GAS, LESS, LEAST, ETHANE_99, ETHANE_100, *TIES, BUTANE}:
             sys.exit('rating_cases.py: other gases than those of the program')
         if open(os.path.join(CRATE, 'stdout'), encoding='utf-8').read() != text():
