@@ -145,7 +145,7 @@ module _ (a : List ℕ) (long : length a ≡ 14) (passed : refusalOf a ≡ 0) wh
       pub found-fit : FoundFit mix (choice .systems) (choice .count) found
       found-fit s r e =
           let b = find-balanced mix (choice .systems) (choice .count) 500000 16 most s r (ap (λ (x : Found). x .search) (sym f) ∙ e) in
-          rw f (balance-fit mix (choice .systems) (choice .count) 500000 most (findOf mix (choice .systems) (choice .count) 500000 16 most .cells) s r b (λ c l. rw choice-is (shared a c l)))
+          rw f (balance-fit mix (choice .systems) (choice .count) 500000 most (findOf mix (choice .systems) (choice .count) 500000 16 most .cells) s r b (λ c l. rw (choice-is, mix-is) (shared a c l)))
 
       pub search-in : (r : Outcome) → r ≡ foundOutcome (choice .systems) (choice .count) n1 found → r ≡ searchOutcome a allowance (codeOf (r .answer))
       unfolding searchOutcome

@@ -2,16 +2,18 @@
 use mathlib.Core.Path.{_≡_, refl, ap, _∙_}
 use mathlib.Core.List.{List, [], _∷_}
 use Prim.Native.Nat.{ℕ}
+use lib.ListN.{length}
 use Rattle.ternary.specs.Marked.{MarkedNumbers, marked-numbers, MarkedWholes, marked-wholes}
 use Rattle.mixture.specs.Simplification.{simplifiedOf}
 use Rattle.mixture.specs.Inert.{inertOf}
 use Rattle.mixture.specs.Marked.{tableA1, marked}
 use Rattle.systems.specs.Systems.{hasOf, memberOf}
-use Rattle.systems.specs.Choice.{fitnessOf, chooseOf}
+use Rattle.systems.specs.Choice.{fitnessOf, chooseOf, paddedOf}
 use Rattle.systems.specs.Marked.{fitness, choice}
-use Rattle.split.specs.Start.{sharersOf, shareOf, givenOf}
-use Rattle.split.specs.Fold.{sumTo}
-use Rattle.split.specs.Split.{heldOf}
+use Rattle.split.specs.Start.{sharersOf, shareOf, givenOf, startOf}
+use Rattle.split.specs.Fold.{sumTo, table}
+use Rattle.split.specs.Split.{cellOf, heldOf}
+use Rattle.rating.specs.Rate.{mixOf, systemsFor, countFor}
 
 pub record MarkedFigures : Type 0 where
   -- partial numbers, whole numbers
@@ -25,9 +27,9 @@ pub record MarkedFigures : Type 0 where
   pub fitness-8 : fitnessOf (simplifiedOf tableA1) 8 ≡ 48416217
   pub systems : chooseOf (simplifiedOf tableA1) ≡ 4 ∷ 7 ∷ 8 ∷ []
   -- methane's start in the three systems, and the inert mixture
-  pub start-4 : givenOf (simplifiedOf tableA1) (chooseOf (simplifiedOf tableA1)) 3 0 0 ≡ 326410
-  pub start-7 : givenOf (simplifiedOf tableA1) (chooseOf (simplifiedOf tableA1)) 3 1 0 ≡ 326410
-  pub start-8 : givenOf (simplifiedOf tableA1) (chooseOf (simplifiedOf tableA1)) 3 2 0 ≡ 326409
+  pub start-4 : cellOf (startOf (mixOf tableA1) (systemsFor tableA1) (countFor tableA1)) 0 0 ≡ 326410
+  pub start-7 : cellOf (startOf (mixOf tableA1) (systemsFor tableA1) (countFor tableA1)) 1 0 ≡ 326410
+  pub start-8 : cellOf (startOf (mixOf tableA1) (systemsFor tableA1) (countFor tableA1)) 2 0 ≡ 326409
   pub inert : inertOf tableA1 ≡ 999468 ∷ 532 ∷ 0 ∷ []
 
 mix : List ℕ
@@ -40,12 +42,15 @@ fit s = ap (λ (m : List ℕ). fitnessOf m s) (marked .0)
 chosen : chooseOf (simplifiedOf tableA1) ≡ 4 ∷ 7 ∷ 8 ∷ []
 chosen = ap chooseOf (marked .0) ∙ choice
 
-given : (s : ℕ) → givenOf (simplifiedOf tableA1) (chooseOf (simplifiedOf tableA1)) 3 s 0 ≡ givenOf mix (4 ∷ 7 ∷ 8 ∷ []) 3 s 0
-unfolding mix
-given s = rw (chosen, marked .0)
+cells : List ℕ → List ℕ → List ℕ
+cells m l = startOf m (paddedOf l) (length l)
 
-start : (givenOf mix (4 ∷ 7 ∷ 8 ∷ []) 3 0 0 ≡ 326410) × (givenOf mix (4 ∷ 7 ∷ 8 ∷ []) 3 1 0 ≡ 326410) × (givenOf mix (4 ∷ 7 ∷ 8 ∷ []) 3 2 0 ≡ 326409)
-unfolding mix givenOf heldOf hasOf memberOf shareOf sharersOf sumTo
+started : (s : ℕ) → cellOf (startOf (mixOf tableA1) (systemsFor tableA1) (countFor tableA1)) s 0 ≡ cellOf (cells mix (4 ∷ 7 ∷ 8 ∷ [])) s 0
+unfolding mix cells
+started s = ap (λ (m : List ℕ). cellOf (startOf m (paddedOf (chooseOf m)) (length (chooseOf m))) s 0) (marked .0) ∙ ap (λ (l : List ℕ). cellOf (startOf mix (paddedOf l) (length l)) s 0) choice
+
+start : (cellOf (cells mix (4 ∷ 7 ∷ 8 ∷ [])) 0 0 ≡ 326410) × (cellOf (cells mix (4 ∷ 7 ∷ 8 ∷ [])) 1 0 ≡ 326410) × (cellOf (cells mix (4 ∷ 7 ∷ 8 ∷ [])) 2 0 ≡ 326409)
+unfolding mix cells startOf table paddedOf givenOf heldOf hasOf memberOf shareOf sharersOf sumTo
 start = (refl, refl, refl)
 
 pub marked-figures : MarkedFigures
@@ -59,8 +64,8 @@ marked-figures = record {
   fitness-7 = fit 7 ∙ fitness .2;
   fitness-8 = fit 8 ∙ fitness .3;
   systems = chosen;
-  start-4 = given 0 ∙ start .0;
-  start-7 = given 1 ∙ start .1;
-  start-8 = given 2 ∙ start .2;
+  start-4 = started 0 ∙ start .0;
+  start-7 = started 1 ∙ start .1;
+  start-8 = started 2 ∙ start .2;
   inert = marked .1;
 }

@@ -2,7 +2,8 @@
 -- such that every split of them can be worked out and the search can begin. Assumes nothing.
 use mathlib.Core.Path.{_≡_, refl, sym, ap, ap₂, _∙_, subst}
 use mathlib.Core.List.{List, [], _∷_}
-use mathlib.Core.Bool.{Bool, true, false, cond}
+use mathlib.Core.Bool.{Bool, true, false, cond, _||_}
+use mathlib.Core.Logic.{inr}
 use Prim.Native.Nat.{ℕ, zero, suc, _+_, _*_, _≤_, _<_}
 use native.Mathlib.Omega.{arith}
 use lib.ListN.{getD, length}
@@ -15,7 +16,8 @@ use Rattle.mixture.specs.Simplification.{tenthsOf, tenthsTotal, simplifiedOf}
 use Rattle.mixture.specs.Inert.{inertFirst}
 use Rattle.mixture.specs.Share.{NearShare}
 use Rattle.mixture.specs.Bounds.{simplified-length, simplified-total, simplified-near, inert-greatest, tenths-greatest, tenths-positive, GREATEST_TENTHS}
-use Rattle.systems.specs.Systems.{COMPONENTS, hasOf}
+use Rattle.systems.specs.Systems.{COMPONENTS, memberOf, hasOf, Candidate}
+use Rattle.systems.specs.Table.{each-candidate, to-true}
 use Rattle.systems.specs.Members.{countTo}
 use Rattle.systems.specs.Choice.{choiceOf}
 use Rattle.systems.specs.Chosen.{Choosable, choice-choosable}
@@ -23,6 +25,7 @@ use Rattle.split.specs.Fold.{sumTo}
 use Rattle.split.specs.Split.{RECORDS, systemOf, Chosen}
 use Rattle.split.specs.Sums.{totalOf}
 use Rattle.split.specs.Start.{sharersOf}
+use Rattle.split.specs.Starts.{Shared, Supplied}
 use Rattle.split.specs.Search.{LEVEL}
 use Rattle.split.specs.Finds.{SearchInput, enough-parts}
 use Rattle.rating.specs.Rate.{mixOf, systemsFor, countFor}
@@ -44,8 +47,16 @@ unfolding countTo sharersOf sumTo
 count-sharers ch c zero = refl
 count-sharers ch c (suc n) = ap (λ (x : ℕ). x + cond (hasOf (getD ch n 0) c) 1 0) (count-sharers ch c n)
 
-pub shared : (a : List ℕ) (c : ℕ) → c < COMPONENTS → 0 < sharersOf (systemsFor a) c (countFor a)
-shared a c l = omega (arith, choice-choosable (simplifiedOf a) .twice c l, count-sharers (systemsFor a) c (countFor a))
+pub shared : (a : List ℕ) (c : ℕ) → c < COMPONENTS → Shared (mixOf a) (systemsFor a) (countFor a) c
+shared a c l = inr (omega (arith, choice-choosable (simplifiedOf a) .twice c l, count-sharers (systemsFor a) c (countFor a)))
+
+-- each candidate contains methane or ethane
+abbrev methaneOrEthane : ℕ → Bool
+methaneOrEthane system = hasOf system 0 || hasOf system 1
+
+one-of : (system : ℕ) → Candidate system → (hasOf system 0 || hasOf system 1) ≡ true
+unfolding hasOf memberOf
+one-of system k = to-true (methaneOrEthane system) (each-candidate methaneOrEthane tt system k)
 
 -- four amounts added either way
 total-is : (mix : List ℕ) → length mix ≡ COMPONENTS → analysis.totalOf mix ≡ totalOf mix
@@ -89,9 +100,18 @@ module _ (a : List ℕ) (long : length a ≡ 14) (passed : refusalOf a ≡ 0) wh
       three-parts (tenthsTotal a) (10 * getD a 2 0) (getD (mixOf a) 1 0) (tenths-positive a long passed) few-tenths
       (omega (arith, within-ranges a long passed .ethane-least)) (simplified-near a (tenths-positive a long passed) 1 (omega arith))
 
+  -- each chosen system has methane or ethane enough
+  supplied : (s : ℕ) → s < countFor a → Supplied (mixOf a) (systemsFor a) (countFor a) s
+  supplied s h = go (hasOf (systemOf (systemsFor a) s) 0) refl (one-of (systemOf (systemsFor a) s) (chosen a .known s h))
+    where
+      k : countFor a ≡ 3
+      k = choice-choosable (simplifiedOf a) .three
+
+      go : (b : Bool) → hasOf (systemOf (systemsFor a) s) 0 ≡ b → (hasOf (systemOf (systemsFor a) s) 0 || hasOf (systemOf (systemsFor a) s) 1) ≡ true → Supplied (mixOf a) (systemsFor a) (countFor a) s
+      go true e t = record { component = 0; low = omega arith; contained = e; enough = omega (arith, k, methane) }
+      go false e t = record { component = 1; low = omega arith; contained = rw e at t; enough = omega (arith, k, ethane) }
+
   -- the search can begin: its start leaves no system empty
   pub input : SearchInput (mixOf a) (systemsFor a) (countFor a) LEVEL
   input =
-      let k = choice-choosable (simplifiedOf a) .three in
-      enough-parts (mixOf a) (systemsFor a) (countFor a) LEVEL (omega arith) (omega (arith, million)) (chosen a)
-      (omega (arith, k, methane)) (omega (arith, k, ethane))
+      enough-parts (mixOf a) (systemsFor a) (countFor a) LEVEL (omega arith) (omega (arith, million)) (chosen a) supplied

@@ -12,7 +12,7 @@ use Rattle.systems.specs.Systems.{COMPONENTS, candidates, elem, Candidate}
 use Rattle.split.specs.Fold.{sumTo, allTo, someTo}
 use Rattle.split.specs.Split.{SYSTEMS, CELLS, systemOf, partsOf, columnOf, numberAt, both, Chosen, Stock, Sound}
 use Rattle.split.specs.Rating.{spreadOf, someEmpty}
-use Rattle.split.specs.Start.{sharersOf, startOf}
+use Rattle.split.specs.Start.{startOf}
 use Rattle.split.specs.Move.{imbalanceOf}
 use Rattle.split.specs.Search.{LEVEL, found, runOf, searchOf}
 use Rattle.split.specs.Find.{chosenFit, mixtureFit, searchFit, findOf}
@@ -20,7 +20,7 @@ use Rattle.split.specs.declared.Search.the-variants.{Balanced, Unbalance
 use Rattle.split.specs.declared.Found.{Found}
 use Rattle.split.specs.Folds.{all-each, all-of, some-each, some-of}
 use Rattle.split.specs.Members.{both-left, both-right}
-use Rattle.split.specs.Starts.{start-sums, start-stock, start-sound}
+use Rattle.split.specs.Starts.{Shared, Supplied, start-sums, start-stock, start-sound}
 use Rattle.split.specs.Runs.{Kept, Reached, reached-kept, reached-falls, reached-rounds, result-kept, result-says, result-rounds, larger-allowance}
 use Rattle.split.specs.Clean.{Clean}
 use Rattle.split.specs.Size.{number-small}
@@ -88,9 +88,9 @@ module _ (mix ch : List ℕ) (k level : ℕ) where
   unfolding searchFit
   input-fits i = rw (le-leb level LEVEL (i .low), mixture-fits mix (i .few), chosen-fits ch k (i .chosen), none-empty ch k (startOf mix ch k) (i .sound))
 
-  -- as many parts of methane and of ethane as there are chosen systems are enough
-  pub enough-parts : level ≤ LEVEL → sumTo (λ c. getD mix c 0) COMPONENTS ≤ 1000000 → Chosen ch k → k ≤ getD mix 0 0 → k ≤ getD mix 1 0 → SearchInput mix ch k level
-  enough-parts l few cn m e = record { low = l; few = few; chosen = cn; sound = start-sound mix ch k cn few m e }
+  -- it is enough that each chosen system contains a component of which there are as many parts as chosen systems
+  pub enough-parts : level ≤ LEVEL → sumTo (λ c. getD mix c 0) COMPONENTS ≤ 1000000 → Chosen ch k → ((s : ℕ) → s < k → Supplied mix ch k s) → SearchInput mix ch k level
+  enough-parts l few cn supplied = record { low = l; few = few; chosen = cn; sound = start-sound mix ch k cn few supplied }
 
   module _ (limit allowance : ℕ) where
     pub find-search : searchFit mix ch k level ≡ true → searchOf ch k limit level allowance (startOf mix ch k) ≡ findOf mix ch k limit level allowance
@@ -106,7 +106,7 @@ module _ (mix ch : List ℕ) (k level : ℕ) where
 pub record State (mix ch : List ℕ) (k allowance : ℕ) (b : List ℕ) (r : ℕ) : Type 0 where
   pub sound : Sound ch k b
   pub clean : Clean ch k b
-  pub sums : (c : ℕ) → c < COMPONENTS → 0 < sharersOf ch c k → columnOf k b c ≡ getD mix c 0
+  pub sums : (c : ℕ) → c < COMPONENTS → Shared mix ch k c → columnOf k b c ≡ getD mix c 0
   pub small : (s : ℕ) → natAbs (numberAt ch b s) ≤ 2000000000000
   pub falls : imbalanceOf (numberAt ch b) k + r ≤ imbalanceOf (numberAt ch (startOf mix ch k)) k
   pub rounds : r ≤ allowance
@@ -129,7 +129,7 @@ pub record Balance (mix ch : List ℕ) (k limit allowance : ℕ) (a : List ℕ) 
   pub chosen : Chosen ch k
   pub sound : Sound ch k a
   pub clean : Clean ch k a
-  pub sums : (c : ℕ) → c < COMPONENTS → 0 < sharersOf ch c k → columnOf k a c ≡ getD mix c 0
+  pub sums : (c : ℕ) → c < COMPONENTS → Shared mix ch k c → columnOf k a c ≡ getD mix c 0
   pub spread : s ≡ spreadOf (numberAt ch a) k
   pub within : s ≤ limit
   pub rounds : r ≤ allowance

@@ -9,7 +9,7 @@ use Rattle.integer.specs.Fraction.{Within}
 use Rattle.systems.specs.Systems.{COMPONENTS}
 use Rattle.split.specs.Split.{RECORDS, cellsOf, amountsOf, numberAt}
 use Rattle.split.specs.Rating.{spreadOf, ratingOf, proposedOf}
-use Rattle.split.specs.Start.{sharersOf}
+use Rattle.split.specs.Starts.{Shared}
 use Rattle.split.specs.Finds.{Balance}
 use Rattle.split.specs.Spread.{spread-near}
 use Rattle.split.specs.Exact.{exactRating}
@@ -21,7 +21,7 @@ use Rattle.split.specs.Records.{cells-back}
 use Rattle.split.specs.declared.Answer.{Answer}
 use Rattle.split.specs.declared.Answer.the-variants.{Rated}
 
-module _ (mix ch : List ℕ) (k limit allowance : ℕ) (a : List ℕ) (s r : ℕ) (balance : Balance mix ch k limit allowance a s r) (shared : (c : ℕ) → c < COMPONENTS → 0 < sharersOf ch c k) where
+module _ (mix ch : List ℕ) (k limit allowance : ℕ) (a : List ℕ) (s r : ℕ) (balance : Balance mix ch k limit allowance a s r) (shared : (c : ℕ) → c < COMPONENTS → Shared mix ch k c) where
   pub balance-fit : Fit limit ch k mix a
   balance-fit = record {
     sums = λ c l. balance .sums c l (shared c l);

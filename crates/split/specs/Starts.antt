@@ -1,7 +1,8 @@
 -- The laws of the split that a search begins with. Assumes nothing.
 use Prim.Native.Nat.{ℕ, zero, suc, _+_, _*_, _-_, _/_, _%_, _≤_, _<_, min}
 use mathlib.Core.Path.{_≡_, refl, sym, ap, ap₂, subst, _∙_}
-use mathlib.Core.Bool.{Bool, true, false, cond, _||_}
+use mathlib.Core.Bool.{Bool, true, false, cond}
+use mathlib.Core.Logic.{_⊎_, inl, inr}
 use mathlib.Core.List.{List, [], _∷_}
 use native.Mathlib.Nat as N
 use native.Mathlib.Nat.{not-suc-le-zero, le-of-suc-le-suc}
@@ -13,7 +14,6 @@ use borrow.Author.Count.{below-more}
 use borrow.Author.Tests.{lt-ltb, le-ltb, ltb-true, ltb-false, eqb-true, eqb-false, eq-eqb, ne-eqb}
 use Rattle.systems.specs.Systems.{COMPONENTS, candidates, memberOf, hasOf, Candidate}
 use Rattle.systems.specs.Members.{has-cases}
-use Rattle.systems.specs.Table.{each-candidate, to-true}
 use Rattle.split.specs.Fold.{sumTo, table}
 use Rattle.split.specs.Split.{SYSTEMS, CELLS, cellOf, systemOf, amountOf, partsOf, columnOf, heldOf, both, Chosen, Stock, Sound}
 use Rattle.split.specs.Start.{sharersOf, shareOf, givenOf, startCell, startOf}
@@ -62,6 +62,10 @@ unfolding sumTo
 sum-le f g zero h = omega arith
 sum-le f g (suc n) h = omega (arith, sum-le f g n (λ i l. h i (omega arith)), h n (omega arith))
 
+-- the mixture has none of component c, or a chosen system contains it
+abbrev pub Shared : List ℕ → List ℕ → ℕ → ℕ → Type 0
+Shared mix ch k c = (getD mix c 0 ≡ 0) ⊎ (0 < sharersOf ch c k)
+
 -- the start
 module _ (mix ch : List ℕ) (k : ℕ) (most : k ≤ SYSTEMS) where
   cell-start : (s c : ℕ) → s < k → c < COMPONENTS
@@ -79,8 +83,8 @@ module _ (mix ch : List ℕ) (k : ℕ) (most : k ≤ SYSTEMS) where
       ∙ ranked (λ s. hasOf (systemOf ch s) c) (shareOf (getD mix c 0) (sharersOf ch c k)) k
 
   -- of a component that a chosen system contains all is shared, and of another nothing
-  pub start-sums : (c : ℕ) → c < COMPONENTS → 0 < sharersOf ch c k → columnOf k (startOf mix ch k) c ≡ getD mix c 0
-  start-sums c l h = start-column c l ∙ shares-all (getD mix c 0) (sharersOf ch c k) h
+  start-shared : (c : ℕ) → c < COMPONENTS → 0 < sharersOf ch c k → columnOf k (startOf mix ch k) c ≡ getD mix c 0
+  start-shared c l h = start-column c l ∙ shares-all (getD mix c 0) (sharersOf ch c k) h
 
   pub start-none : (c : ℕ) → c < COMPONENTS → sharersOf ch c k ≡ 0 → columnOf k (startOf mix ch k) c ≡ 0
   start-none c l e = start-column c l ∙ ap (sumTo (shareOf (getD mix c 0) (sharersOf ch c k))) e ∙ sym (sum-none (shareOf (getD mix c 0) (sharersOf ch c k)))
@@ -90,7 +94,12 @@ module _ (mix ch : List ℕ) (k : ℕ) (most : k ≤ SYSTEMS) where
     where
       go : (b : Bool) → eqb (sharersOf ch c k) 0 ≡ b → columnOf k (startOf mix ch k) c ≤ getD mix c 0
       go true e = omega (arith, start-none c l (eqb-true (sharersOf ch c k) 0 e))
-      go false e = omega (arith, start-sums c l (omega (arith, eqb-false (sharersOf ch c k) 0 e)))
+      go false e = omega (arith, start-shared c l (omega (arith, eqb-false (sharersOf ch c k) 0 e)))
+
+  -- the start re-sums
+  pub start-sums : (c : ℕ) → c < COMPONENTS → Shared mix ch k c → columnOf k (startOf mix ch k) c ≡ getD mix c 0
+  start-sums c l (inl e) = let z = start-le c l in omega arith
+  start-sums c l (inr h) = start-shared c l h
 
   start-long : length (startOf mix ch k) ≡ CELLS
   unfolding startOf
@@ -176,18 +185,17 @@ module _ (mix ch : List ℕ) (k : ℕ) (most : k ≤ SYSTEMS) (s : ℕ) (h : s <
       at (suc (suc zero)) b e = omega (arith, one (memberOf (systemOf ch s) 2) e)
       at (suc (suc (suc j))) b e = absurd (omega arith)
 
--- each candidate contains methane or ethane
-abbrev methaneOrEthane : ℕ → Bool
-methaneOrEthane system = hasOf system 0 || hasOf system 1
+-- each chosen system contains a component of which there are as many parts as chosen systems
+pub record Supplied (mix ch : List ℕ) (k s : ℕ) : Type 0 where
+  pub component : ℕ
+  pub low : component < COMPONENTS
+  pub contained : hasOf (systemOf ch s) component ≡ true
+  pub enough : k ≤ getD mix component 0
 
+-- then none is empty at the start
 pub start-sound : (mix ch : List ℕ) (k : ℕ) → Chosen ch k → sumTo (λ c. getD mix c 0) COMPONENTS ≤ 1000000
-    → k ≤ getD mix 0 0 → k ≤ getD mix 1 0 → Sound ch k (startOf mix ch k)
-unfolding hasOf memberOf
-start-sound mix ch k cn few m e = record {
+    → ((s : ℕ) → s < k → Supplied mix ch k s) → Sound ch k (startOf mix ch k)
+start-sound mix ch k cn few supplied = record {
   stock = start-stock mix ch k (cn .most) few cn;
-  some = λ s h. of s h (hasOf (systemOf ch s) 0) refl (to-true (methaneOrEthane (systemOf ch s)) (each-candidate methaneOrEthane tt (systemOf ch s) (cn .known s h)));
+  some = λ s h. let z = supplied s h in start-row mix ch k (cn .most) s h (z .component) (z .low) (z .contained) (z .enough);
 }
-  where
-    of : (s : ℕ) → s < k → (b : Bool) → hasOf (systemOf ch s) 0 ≡ b → (hasOf (systemOf ch s) 0 || hasOf (systemOf ch s) 1) ≡ true → 1 ≤ partsOf ch (startOf mix ch k) s
-    of s h true u t = start-row mix ch k (cn .most) s h 0 (omega arith) u m
-    of s h false u t = start-row mix ch k (cn .most) s h 1 (omega arith) (rw u at t) e
