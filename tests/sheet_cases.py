@@ -312,7 +312,7 @@ def files():
 
 
 def self_test():
-    """What document 01 and the plan name, of the reader above."""
+    """What document 01 names, of the reader above."""
     assert line(bytes.fromhex('01090000006400')) == 'REFUSED 3 0'
     assert len(sheet(GAS, START)) == 111 and read(sheet(GAS, START))[0] == 'READ'
     rest = sum(x for c, x in GAS if c != 1)

@@ -3,7 +3,7 @@
 ghost use mathlib.Core.Path.{_≡_};
 ghost use Prim.Native.Nat.{ℕ, _+_, _<_, _≤_};
 ghost use Rattle.analysis.specs.Register.{CODES};
-ghost use Rattle.analysis.specs.Check.{inRange, totalOf, totalFits, refusalBy, Fault, Checking};
+ghost use Rattle.analysis.specs.Check.{inRange, totalOf, totalFits, refusalBy, refusalOf, answerOf, codeOf, AtFault, Fault};
 
 // Indices of an analysis: the codes 1 to 13, and 0, which is no code.
 pub const CODES: usize = 14;
@@ -117,7 +117,8 @@ fn refusal(ranges: bool, total: bool) -> u32
 
 // Is the analysis in range, or with which number is it refused?
 pub fn check(a: Analysis) -> Checked
-    ensures { λ r. ⌜ Checking (a .amounts) r ⌝ }
+    ensures { λ r. ⌜ r ≡ answerOf (refusalOf (a .amounts)) (codeOf r) ⌝ }
+    ensures { λ r. ⌜ (refusalOf (a .amounts) ≡ 5 → AtFault (a .amounts) (codeOf r)) ⌝ }
 {
     let amounts = a.amounts;
     let code = first_fault(amounts);

@@ -5,8 +5,7 @@ use mathlib.Core.List.{List}
 use lib.Dec.{eqb}
 use lib.ListN.{replicate}
 use Rattle.analysis.specs.Register.{ifElse}
-use Rattle.analysis.specs.Check.{refusalOf, AtFault, Checking}
-use Rattle.mixture.specs.declared.Simplified.{Simplified}
+use Rattle.analysis.specs.Check.{refusalOf, AtFault}
 use Rattle.mixture.specs.declared.InertMixture.{InertMixture}
 use Rattle.mixture.specs.declared.InertMixture.the-variants.{Amounts, Refused}
 use Rattle.mixture.specs.Simplification.{COMPONENTS, simplifiedOf}
@@ -15,11 +14,6 @@ use Rattle.mixture.specs.Inert.{inertFirst, inertSecond}
 -- the simplified mixture of an analysis in range; zeros beside a refusal
 abbrev pub mixtureOf : List ℕ → List ℕ
 mixtureOf a = ifElse (eqb (refusalOf a) 0) (simplifiedOf a) (replicate COMPONENTS 0)
-
--- the promise of simplification: the check's answer, and the mixture
-pub record Simplifying (a : List ℕ) (r : Simplified) : Type 0 where
-  pub checking : Checking a (r .answer)
-  pub mixture : r .mixture .amounts ≡ mixtureOf a
 
 -- the inert mixture of an analysis in range, else its refusal; 5 carries `code`, and 6 none
 abbrev pub inertAnswer : List ℕ → ℕ → InertMixture

@@ -10,7 +10,8 @@ ghost use Rattle.analysis.specs.Check.{totalOf};
 ghost use Rattle.mixture.specs.Scaling.{WHOLE, quotientOf, remainderOf, quotientsOf, remaindersOf, missingOf, greatestPlace, distributed, scaledOf};
 ghost use Rattle.mixture.specs.Simplification.{COMPONENTS, butaneOf, tenthsOf, tenthsTotal};
 ghost use Rattle.mixture.specs.Limits.{LIMIT, Limited};
-ghost use Rattle.mixture.specs.Answers.{Simplifying, InertAnswer};
+ghost use Rattle.analysis.specs.Check.{refusalOf, answerOf, codeOf, AtFault};
+ghost use Rattle.mixture.specs.Answers.{mixtureOf, inertAnswer, inertCode};
 ghost use Rattle.mixture.specs.Inert.{halvesUp, methaneShare, inertFirst};
 
 // Methane, ethane, propane, butane.
@@ -41,7 +42,9 @@ pub enum InertMixture {
 
 // The simplified mixture of an analysis in range, else its refusal beside zeros.
 pub fn simplify(a: Analysis) -> Simplified
-    ensures { λ r. ⌜ Simplifying (a .amounts) r ⌝ }
+    ensures { λ r. ⌜ r .answer ≡ answerOf (refusalOf (a .amounts)) (codeOf (r .answer)) ⌝ }
+    ensures { λ r. ⌜ (refusalOf (a .amounts) ≡ 5 → AtFault (a .amounts) (codeOf (r .answer))) ⌝ }
+    ensures { λ r. ⌜ r .mixture .amounts ≡ mixtureOf (a .amounts) ⌝ }
 {
     let amounts = a.amounts;
     let answer = analysis::check(a);
@@ -63,7 +66,8 @@ pub fn simplify(a: Analysis) -> Simplified
 
 // The inert mixture of an analysis in range, else its refusal. Nitrogen does not enter.
 pub fn inert(a: Analysis) -> InertMixture
-    ensures { λ r. ⌜ InertAnswer (a .amounts) r ⌝ }
+    ensures { λ r. ⌜ r ≡ inertAnswer (a .amounts) (inertCode r) ⌝ }
+    ensures { λ r. ⌜ (refusalOf (a .amounts) ≡ 5 → AtFault (a .amounts) (inertCode r)) ⌝ }
 {
     let amounts = a.amounts;
     let answer = analysis::check(a);

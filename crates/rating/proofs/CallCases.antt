@@ -25,15 +25,12 @@ use Rattle.mixture.specs.Simplification.{simplifiedOf}
 use Rattle.mixture.specs.Inert.{inertFirst}
 use Rattle.mixture.specs.Answers.{mixtureOf}
 use Rattle.systems.specs.Choice.{choiceOf}
-use Rattle.systems.specs.Chosen.{choice-choosable}
 use Rattle.systems.specs.declared.Choice.{Choice}
-use Rattle.split.specs.Split.{cellsOf, numberAt}
+use Rattle.split.specs.Split.{RECORDS, cellsOf, numberAt}
 use Rattle.split.specs.Rating.{spreadOf, ratingOf, proposedOf}
-use Rattle.split.specs.Spread.{spread-near}
 use Rattle.split.specs.Fits.{Fit}
 use Rattle.split.specs.Rated.{IsRated, fit-rated}
 use Rattle.split.specs.Proposed.{Proposal, answerOf, answer-proposed}
-use Rattle.split.specs.Start.{sharersOf}
 use Rattle.split.specs.Search.{LEVEL}
 use Rattle.split.specs.Find.{findOf}
 use Rattle.split.specs.Finds.{input-fits, find-search, find-balanced}
@@ -45,9 +42,10 @@ use Rattle.split.specs.declared.Found.{Found}
 use Rattle.rating.specs.Records.{fitsOf}
 use Rattle.rating.specs.Rate.{LIMIT, ROUNDS, mixOf, systemsFor, countFor, checkedBy, splitBy, splitAnswer, outcome, recordsOf, foundBy, foundOutcome, searched, searchOutcome, numberOf, codeOf}
 use Rattle.split.specs.Accuracy.{fit-few}
+use Rattle.split.specs.PutBack.{balance-fit}
 use Rattle.split.specs.Size.{rating-small}
 use Rattle.rating.specs.Given.{FoundFit}
-use Rattle.rating.specs.Ready.{chosen, million, inert-million, shared, input}
+use Rattle.rating.specs.Ready.{chosen, room, million, inert-million, shared, input}
 use Rattle.rating.specs.Sheets.{RatedOr, split-ends, search-ends}
 use Rattle.rating.specs.declared.Outcome.{Outcome}
 use Rattle.rating.proofs.AnswerCases.{read-back}
@@ -130,8 +128,8 @@ module _ (a : List ℕ) (long : length a ≡ 14) (passed : refusalOf a ≡ 0) wh
         rw (choice-is, mix-is, n)
         (record { chosen = chosen a; few = omega (arith, million a long passed); inert = inert-million a long passed })
 
-    pub given-three : choice .count ≤ 3
-    given-three = rw choice-is (omega (arith, choice-choosable (mixOf a) .three))
+    pub given-room : 3 * choice .count ≤ RECORDS
+    given-room = rw choice-is (room a)
 
     pub split-in : (p : Split) (r : Answer) → r ≡ splitBy (choice .systems) (choice .count) mix n1 p → r ≡ splitAnswer a p (codeOf r)
     unfolding splitAnswer
@@ -147,8 +145,7 @@ module _ (a : List ℕ) (long : length a ≡ 14) (passed : refusalOf a ≡ 0) wh
       pub found-fit : FoundFit mix (choice .systems) (choice .count) found
       found-fit s r e =
           let b = find-balanced mix (choice .systems) (choice .count) 500000 16 most s r (ap (λ (x : Found). x .search) (sym f) ∙ e) in
-          let sharers : (c : ℕ) → c < 4 → 0 < sharersOf (choice .systems) c (choice .count) = λ c l. rw choice-is (shared a c l) in
-          rw f (record { sums = λ c l. b .sums c l (sharers c l); some = b .sound .some; near = spread-near LIMIT (numberAt (choice .systems) (findOf mix (choice .systems) (choice .count) 500000 16 most .cells)) (choice .count) (omega (arith, b .spread, b .within)) })
+          rw f (balance-fit mix (choice .systems) (choice .count) 500000 most (findOf mix (choice .systems) (choice .count) 500000 16 most .cells) s r b (λ c l. rw choice-is (shared a c l)))
 
       pub search-in : (r : Outcome) → r ≡ foundOutcome (choice .systems) (choice .count) n1 found → r ≡ searchOutcome a allowance (codeOf (r .answer))
       unfolding searchOutcome

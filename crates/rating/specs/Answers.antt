@@ -18,13 +18,11 @@ use Rattle.split.specs.Folds.{all-of}
 use Rattle.split.specs.Tables.{getD-table}
 use Rattle.split.specs.Split.{RECORDS, CELLS, cellsOf, amountsOf, numberAt}
 use Rattle.split.specs.Rating.{spreadOf, ratingOf, proposedOf}
-use Rattle.split.specs.Spread.{spread-near}
-use Rattle.split.specs.Fits.{Fit}
-use Rattle.split.specs.Rated.{IsRated, fit-rated}
-use Rattle.split.specs.Records.{cells-back}
+use Rattle.split.specs.Rated.{IsRated, rated-is}
 use Rattle.split.specs.Start.{startOf}
 use Rattle.split.specs.Search.{LEVEL, searchOf}
 use Rattle.split.specs.Finds.{Balance, input-fits, find-search, find-balanced}
+use Rattle.split.specs.PutBack.{put-back-records}
 use Rattle.split.specs.declared.Answer.{Answer}
 use Rattle.split.specs.declared.Answer.the-variants.{Rated, Refused}
 use Rattle.split.specs.declared.Search.{Search}
@@ -32,7 +30,7 @@ use Rattle.split.specs.declared.Search.the-variants.{Balanced, Unbalanced}
 use Rattle.split.specs.declared.Found.{Found}
 use Rattle.rating.specs.Records.{systemAt, codeAt, systemsOf, codesOf, matchesAt, fitsOf}
 use Rattle.rating.specs.Rate.{LIMIT, ROUNDS, mixOf, systemsFor, countFor, checkedBy, splitBy, splitAnswer, recordsOf, outcome, foundBy, foundOutcome, searched, searchOutcome, numberOf}
-use Rattle.rating.specs.Ready.{chosen, room, shared, input}
+use Rattle.rating.specs.Ready.{room, shared, input}
 use Rattle.rating.specs.declared.Outcome.{Outcome}
 
 -- the records expected of the chosen systems fit
@@ -74,6 +72,13 @@ split-rated a p code w s r is =
     go true false e h = absurd (subst IsRated (sym h) tt)
     go false f e h = absurd (subst IsRated (sym h) tt)
 
+-- a proposed split is rated with no rounds
+pub rated-zero : (a : List ℕ) (p : Split) (code : ℕ) (w : ℤ) (s r : ℕ) → splitAnswer a p code ≡ Rated w s r → splitAnswer a p code ≡ Rated w s 0
+rated-zero a p code w s r is =
+    let e = split-rated a p code w s r is .1 in
+    let z = rated-is LIMIT (systemsFor a) (countFor a) (mixOf a) (cellsOf (systemsFor a) (countFor a) (p .amounts)) (inertFirst a) w s r e .2 in
+    is ∙ ap (Rated w s) z
+
 -- ---- the search
 
 -- a rating by the search: the analysis is in range, and the search came to a balance
@@ -112,9 +117,7 @@ found-back a long allowance code code′ w s r is =
     let ch = systemsFor a in
     let k = countFor a in
     let cells = searched a allowance .cells in
-    let fit : Fit LIMIT ch k (mixOf a) cells = record { sums = λ c l. b .sums c l (shared a c l); some = b .sound .some; near = spread-near LIMIT (numberAt ch cells) k (omega (arith, b .spread, b .within)) } in
     ap (λ (p : Split). splitAnswer a p code′) f
     ∙ split-fits a (recordsOf ch k cells) code′ passed refl refl refl
-    ∙ ap (λ (l : List ℕ). proposedOf LIMIT ch k (mixOf a) l (inertFirst a)) (cells-back ch k (chosen a) (room a) cells (b .sound .stock .long) (b .clean))
-    ∙ fit-rated LIMIT ch k (mixOf a) cells (inertFirst a) fit
-    ∙ ap₂ (λ (x : ℤ) (y : ℕ). Rated x y 0) (sym e) (sym (b .spread))
+    ∙ put-back-records (mixOf a) ch k LIMIT (min allowance ROUNDS) cells s r b (shared a) (inertFirst a) (room a)
+    ∙ ap (λ (x : ℤ). Rated x s 0) (sym e)

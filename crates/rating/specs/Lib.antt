@@ -4,6 +4,7 @@ pub mod Given
 pub mod Ready
 pub mod Answers
 pub mod Sheets
+pub mod RatedSheets
 pub mod Demand
 pub mod Lasting
 pub mod Marked

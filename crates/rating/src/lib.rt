@@ -5,7 +5,7 @@
 mod records;
 
 ghost use mathlib.Core.Path.{_≡_};
-ghost use Prim.Native.Nat.{_≤_, min};
+ghost use Prim.Native.Nat.{_*_, _≤_, min};
 ghost use lib.Dec.{eqb};
 ghost use lib.ListN.{getD};
 ghost use Rattle.analysis.specs.Register.{ifElse};
@@ -13,16 +13,18 @@ ghost use Rattle.analysis.specs.Check.{refusalOf, AtFault};
 ghost use Rattle.sheet.specs.Split.{noSplit};
 ghost use Rattle.sheet.specs.Read.{FaultIn};
 ghost use Rattle.mixture.specs.Inert.{inertFirst};
+ghost use Rattle.split.specs.Split.{SYSTEMS, RECORDS};
 ghost use Rattle.split.specs.Rating.{ratingOf};
 ghost use Rattle.split.specs.Proposed.{Proposal};
 ghost use Rattle.split.specs.Fits.{Fit};
-ghost use Rattle.rating.specs.Rate.{splitBy, splitAnswer, recordsOf, outcome, foundOutcome, searchOutcome, sheetOutcome, numberOf, codeOf};
+ghost use Rattle.rating.specs.Rate.{LIMIT, ROUNDS, splitBy, splitAnswer, recordsOf, outcome, foundOutcome, searchOutcome, sheetOutcome, numberOf, codeOf};
 ghost use Rattle.rating.specs.Given.{FoundFit};
 use analysis::Analysis;
 use analysis::Checked;
 use mixture::InertMixture;
 use records::CELLS;
 use records::COMPONENTS;
+use records::RECORDS;
 use sheet::Reading;
 use sheet::Split;
 use split::Answer;
@@ -105,7 +107,7 @@ pub fn rate_sheet(s: &[u8]) -> Outcome
 // The rating of what was read, an analysis in range.
 fn rate_read(a: Analysis, p: Split) -> Outcome
     requires { ⌜ refusalOf (a .amounts) ≡ 0 ⌝ }
-    ensures { λ r. ⌜ r ≡ ifElse (eqb (p .count) 0) (searchOutcome (a .amounts) 4000 0) (outcome (splitAnswer (a .amounts) p 0) noSplit) ⌝ }
+    ensures { λ r. ⌜ r ≡ ifElse (eqb (p .count) 0) (searchOutcome (a .amounts) ROUNDS 0) (outcome (splitAnswer (a .amounts) p 0) noSplit) ⌝ }
 {
     let count = p.count;
     if count == 0 {
@@ -119,7 +121,7 @@ fn rate_read(a: Analysis, p: Split) -> Outcome
 
 // The answer to a split of chosen systems, a mixture and its inert part.
 fn split_by(choice: Choice, mix: [u32; COMPONENTS], n1: u32, p: Split) -> Answer
-    requires { ⌜ Proposal mix (choice .systems) (choice .count) n1 × (choice .count ≤ 3) ⌝ }
+    requires { ⌜ Proposal mix (choice .systems) (choice .count) n1 × (3 * choice .count ≤ RECORDS) ⌝ }
     ensures { λ r. ⌜ r ≡ splitBy (choice .systems) (choice .count) mix n1 p ⌝ }
 {
     let count = choice.count;
@@ -160,7 +162,7 @@ fn found_outcome(choice: Choice, mix: [u32; COMPONENTS], n1: u32, found: Found) 
 
 // The rating of cells that are fit.
 fn rating_of(choice: Choice, mix: [u32; COMPONENTS], cells: [u32; CELLS], n1: u32) -> i64
-    requires { ⌜ Proposal mix (choice .systems) (choice .count) n1 × Fit 500000 (choice .systems) (choice .count) mix cells ⌝ }
+    requires { ⌜ Proposal mix (choice .systems) (choice .count) n1 × Fit LIMIT (choice .systems) (choice .count) mix cells ⌝ }
     ensures { λ r. ⌜ r ≡ ratingOf (choice .systems) (choice .count) cells n1 ⌝ }
 {
     let answer = search::proposed(LIMIT, choice, mix, cells, n1);
@@ -179,7 +181,7 @@ fn rating_of(choice: Choice, mix: [u32; COMPONENTS], cells: [u32; CELLS], n1: u3
 
 // The split of the cells, as records.
 fn split_of(choice: Choice, cells: [u32; CELLS]) -> Split
-    requires { ⌜ choice .count ≤ 8 ⌝ }
+    requires { ⌜ choice .count ≤ SYSTEMS ⌝ }
     ensures { λ r. ⌜ r ≡ recordsOf (choice .systems) (choice .count) cells ⌝ }
 {
     let count = choice.count;
@@ -206,7 +208,7 @@ fn first_inert(a: Analysis) -> u32
 
 // The allowance, and no more than the most rounds.
 fn at_most(allowance: u32) -> u32
-    ensures { λ r. ⌜ r ≡ min allowance 4000 ⌝ }
+    ensures { λ r. ⌜ r ≡ min allowance ROUNDS ⌝ }
 {
     if allowance < ROUNDS {
         allowance
@@ -236,8 +238,8 @@ fn no_split() -> Split
 {
     Split {
         count: 0,
-        systems: [0; 9],
-        codes: [0; 9],
-        amounts: [0; 9],
+        systems: [0; RECORDS],
+        codes: [0; RECORDS],
+        amounts: [0; RECORDS],
     }
 }

@@ -4,7 +4,8 @@ ghost use mathlib.Core.Path.{_≡_};
 ghost use Prim.Native.Nat.{ℕ, _+_, _*_, _/_, _%_, _<_, _≤_};
 ghost use mathlib.Core.Bool.{cond};
 ghost use lib.ListN.{getD};
-ghost use Rattle.split.specs.Split.{rankOf, componentAt, heldOf, systemOf, cellsOf, amountsOf};
+ghost use Rattle.systems.specs.Systems.{COMPONENTS};
+ghost use Rattle.split.specs.Split.{SYSTEMS, RECORDS, rankOf, componentAt, heldOf, systemOf, cellsOf, amountsOf};
 ghost use Rattle.rating.specs.Records.{placedAt, codeOf, systemAt, codeAt, systemsOf, codesOf, amountAt, cellAt, matchesAt, fitsOf};
 
 pub const SYSTEMS: usize = 8;
@@ -46,7 +47,7 @@ fn placed(system: u8, j: usize, c: usize) -> bool
 
 // The component of the system's jth record, COMPONENTS where there is none.
 fn component_at(system: u8, j: usize) -> usize
-    ensures { λ r. ⌜ (r ≡ componentAt system j) × (r ≤ 4) ⌝ }
+    ensures { λ r. ⌜ (r ≡ componentAt system j) × (r ≤ COMPONENTS) ⌝ }
 {
     let mut c = 0;
     while c < COMPONENTS {
@@ -89,7 +90,7 @@ fn cell(cells: [u32; CELLS], i: usize) -> u32
 
 // The system of record r, 0 beyond the last.
 fn system_at(systems: [u8; SYSTEMS], count: usize, r: usize) -> u8
-    requires { ⌜ count ≤ 8 ⌝ }
+    requires { ⌜ count ≤ SYSTEMS ⌝ }
     ensures { λ x. ⌜ x ≡ systemAt systems count r ⌝ }
 {
     if r < 3 * count {
@@ -101,7 +102,7 @@ fn system_at(systems: [u8; SYSTEMS], count: usize, r: usize) -> u8
 
 // The code of record r, 0 beyond the last.
 fn code_at(systems: [u8; SYSTEMS], count: usize, r: usize) -> u8
-    requires { ⌜ count ≤ 8 ⌝ }
+    requires { ⌜ count ≤ SYSTEMS ⌝ }
     ensures { λ x. ⌜ x ≡ codeAt systems count r ⌝ }
 {
     if r < 3 * count {
@@ -113,7 +114,7 @@ fn code_at(systems: [u8; SYSTEMS], count: usize, r: usize) -> u8
 
 // The amount of record r in the cells, 0 beyond the last.
 fn amount_at(systems: [u8; SYSTEMS], count: usize, cells: [u32; CELLS], r: usize) -> u32
-    requires { ⌜ count ≤ 8 ⌝ }
+    requires { ⌜ count ≤ SYSTEMS ⌝ }
     ensures { λ x. ⌜ x ≡ amountAt systems count cells r ⌝ }
 {
     if r < 3 * count {
@@ -126,7 +127,7 @@ fn amount_at(systems: [u8; SYSTEMS], count: usize, cells: [u32; CELLS], r: usize
 
 // The amount of cell i in the records' amounts, 0 where no record has it.
 fn cell_at(systems: [u8; SYSTEMS], count: usize, amounts: [u32; RECORDS], i: usize) -> u32
-    requires { ⌜ count ≤ 8 ⌝ }
+    requires { ⌜ count ≤ SYSTEMS ⌝ }
     ensures { λ x. ⌜ x ≡ cellAt systems count amounts i ⌝ }
 {
     let s = i / COMPONENTS;
@@ -143,7 +144,7 @@ fn cell_at(systems: [u8; SYSTEMS], count: usize, amounts: [u32; RECORDS], i: usi
 
 // The systems of the records of so many chosen systems.
 pub(crate) fn systems_of(systems: [u8; SYSTEMS], count: usize) -> [u8; RECORDS]
-    requires { ⌜ count ≤ 8 ⌝ }
+    requires { ⌜ count ≤ SYSTEMS ⌝ }
     ensures { λ r. ⌜ r ≡ systemsOf systems count ⌝ }
 {
     let mut out = [0u8; RECORDS];
@@ -157,7 +158,7 @@ pub(crate) fn systems_of(systems: [u8; SYSTEMS], count: usize) -> [u8; RECORDS]
 
 // The codes of the records of so many chosen systems.
 pub(crate) fn codes_of(systems: [u8; SYSTEMS], count: usize) -> [u8; RECORDS]
-    requires { ⌜ count ≤ 8 ⌝ }
+    requires { ⌜ count ≤ SYSTEMS ⌝ }
     ensures { λ r. ⌜ r ≡ codesOf systems count ⌝ }
 {
     let mut out = [0u8; RECORDS];
@@ -175,7 +176,7 @@ pub(crate) fn amounts_of(
     count: usize,
     cells: [u32; CELLS],
 ) -> [u32; RECORDS]
-    requires { ⌜ count ≤ 8 ⌝ }
+    requires { ⌜ count ≤ SYSTEMS ⌝ }
     ensures { λ r. ⌜ r ≡ amountsOf systems count cells ⌝ }
 {
     let mut out = [0u32; RECORDS];
@@ -193,7 +194,7 @@ pub(crate) fn cells_of(
     count: usize,
     amounts: [u32; RECORDS],
 ) -> [u32; CELLS]
-    requires { ⌜ count ≤ 8 ⌝ }
+    requires { ⌜ count ≤ SYSTEMS ⌝ }
     ensures { λ r. ⌜ r ≡ cellsOf systems count amounts ⌝ }
 {
     let mut out = [0u32; CELLS];
@@ -213,7 +214,7 @@ fn matches(
     codes: [u8; RECORDS],
     r: usize,
 ) -> bool
-    requires { ⌜ (count ≤ 8) × (r < 9) ⌝ }
+    requires { ⌜ (count ≤ SYSTEMS) × (r < RECORDS) ⌝ }
     ensures { λ x. ⌜ x ≡ matchesAt systems count found codes r ⌝ }
 {
     if found[r] != system_at(systems, count, r) {
@@ -230,7 +231,7 @@ pub(crate) fn fits(
     found: [u8; RECORDS],
     codes: [u8; RECORDS],
 ) -> bool
-    requires { ⌜ count ≤ 3 ⌝ }
+    requires { ⌜ 3 * count ≤ RECORDS ⌝ }
     ensures { λ r. ⌜ r ≡ fitsOf systems count records found codes ⌝ }
 {
     if records != 3 * count {

@@ -1,13 +1,13 @@
 // The reader of a sheet: refusals 1 to 6, or the analysis and the split. No public function has a `requires`.
 ghost use mathlib.Core.Path.{_≡_};
 ghost use Prim.Native.Nat.{ℕ, _+_, _*_, _<_, _≤_};
-ghost use lib.ListN.{length, replicate};
+ghost use lib.ListN.{length, getD, replicate};
 ghost use Rattle.analysis.specs.Register.{CODES};
 ghost use Rattle.sheet.specs.Bytes.{number, numberAt};
 ghost use Rattle.sheet.specs.Components.{codeRefusal, codesReading, amountsFrom};
 ghost use Rattle.sheet.specs.Split.{RECORDS, splitAt};
 ghost use Rattle.sheet.specs.Sheet.{LISTED, sectionsOf};
-ghost use Rattle.sheet.specs.Read.{refusedSheet, ReadAs};
+ghost use Rattle.sheet.specs.Read.{refusedSheet, readOf, numberOf, codeOf, FaultIn};
 ghost use Rattle.reader.specs.Find.{ZeroRecord, AmountsRefused};
 use analysis::Analysis;
 use analysis::CODES;
@@ -232,7 +232,8 @@ fn amounts_refused(s: &[u8], n: usize, a: Analysis) -> Checked
 
 // The sheet that the bytes are, or the refusal.
 pub fn read(s: &[u8]) -> Sheet
-    ensures { λ r. ⌜ ReadAs (now (s .entry)) r ⌝ }
+    ensures { λ r. ⌜ r ≡ readOf (now (s .entry)) (codeOf (r .answer)) ⌝ }
+    ensures { λ r. ⌜ (numberOf (r .answer) ≡ 5 → FaultIn (getD (now (s .entry)) 0 0) (now (s .entry)) (codeOf (r .answer))) ⌝ }
 {
     let parts = sections(s);
     let Sections::Both {

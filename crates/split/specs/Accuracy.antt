@@ -39,9 +39,8 @@ module _ (ch : List ℕ) (k : ℕ) (mix a : List ℕ) (chosen : Chosen ch k) whe
     rating-is = rated-is limit ch k mix a n1 w s n is .0
 
     -- less than 40 units from the exact fraction at the same whole amounts
-    pub rated-within : Clean ch k a → totalOf mix ≡ 1000000 → n1 ≤ 1000000 → Within w (exactRating ch k a n1) 40
-    rated-within clean million l =
-        rw rating-is (rating-within ch k a n1 (fit .some) (fit-million clean million (fit .sums)) l)
+    pub rated-within : totalOf mix ≤ 1000000 → n1 ≤ 1000000 → Within w (exactRating ch k a n1) 40
+    rated-within few l = rw rating-is (rating-within ch k a n1 (fit .some) (fit-few few (fit .sums)) l)
 
     -- below 2 ^ 53 in magnitude
     pub rated-small : totalOf mix ≤ 1000000 → natAbs w < 9007199254740992

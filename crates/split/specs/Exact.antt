@@ -48,15 +48,19 @@ sum-close ch (suc k) a h =
     rw (N.mul-add 19 (sumTo (partsOf ch a) k) (partsOf ch a k))
     (close-plus (sum-close ch k a (λ s l. h s (omega arith))) (close-times (partsOf ch a k) (close (number-within ch a k (h k (omega arith))))))
 
-pub mean-within : (ch : List ℕ) (k : ℕ) (a : List ℕ) → NoneEmpty ch k a → sumTo (partsOf ch a) k ≡ 1000000 → Within (meanOf ch k a) (exactMean ch k a) 20
+-- at most u units is at most v, where u is at most v
+close-looser : {w : ℤ} {f : Fraction} {u v : ℕ} → Close w f u → u ≤ v → Close w f v
+close-looser {w} {f} {u} {v} h l = record { positive = h .positive; near = N.le-trans (h .near) (N.mul-le-mul-right (f .den) l) }
+
+pub mean-within : (ch : List ℕ) (k : ℕ) (a : List ℕ) → NoneEmpty ch k a → sumTo (partsOf ch a) k ≤ 1000000 → Within (meanOf ch k a) (exactMean ch k a) 20
 unfolding meanOf exactMean
-mean-within ch k a h t = within-over 1000000 (omega arith) (rw t at (sum-close ch k a h))
+mean-within ch k a h t = within-over 1000000 (omega arith) (close-looser (sum-close ch k a h) (omega arith))
 
 pub inert-within : (n1 : ℕ) → n1 ≤ 1000000 → Within (inertNumber n1) (exactInert n1) 19
 unfolding inertNumber exactInert
 inert-within n1 h = partial-within 20 n1 (1000000 - n1) 0 (omega arith)
 
-pub rating-within : (ch : List ℕ) (k : ℕ) (a : List ℕ) (n1 : ℕ) → NoneEmpty ch k a → sumTo (partsOf ch a) k ≡ 1000000 → n1 ≤ 1000000 → Within (ratingOf ch k a n1) (exactRating ch k a n1) 40
+pub rating-within : (ch : List ℕ) (k : ℕ) (a : List ℕ) (n1 : ℕ) → NoneEmpty ch k a → sumTo (partsOf ch a) k ≤ 1000000 → n1 ≤ 1000000 → Within (ratingOf ch k a n1) (exactRating ch k a n1) 40
 unfolding ratingOf exactRating
 rating-within ch k a n1 h t l =
     looser (within-plus (within-plus (mean-within ch k a h t) (close (inert-within n1 l))) (close-whole (negsuc 1000002999))) (omega arith)

@@ -2,13 +2,14 @@
 use mathlib.Core.Path.{_≡_, refl}
 use mathlib.Core.List.{List, [], _∷_}
 use Prim.Native.Nat.{ℕ}
-use lib.IntN.{ℤ, pos}
+use lib.IntN.{ℤ, pos, negsuc}
 use Rattle.ternary.specs.WorkingRule.{worked, rowsOf, horner, coefs}
 use Rattle.ternary.specs.Coefficients.{placeIn}
 use Rattle.ternary.specs.Partial.{partialNumber}
 use Rattle.systems.specs.Systems.{memberOf, hasOf}
 use Rattle.split.specs.Fold.{sumTo, sumToZ, greatestTo, leastTo, allTo, someTo, table}
 use Rattle.split.specs.Split.{partsOf, columnOf, numberAt, heldOf, rankOf, cellsOf}
+use Rattle.split.specs.Move.{squareOf}
 use Rattle.split.specs.Rating.{spreadOf, weightedOf, meanOf, inertNumber, ratingOf, resums, someEmpty, proposedOf}
 use Rattle.split.specs.declared.Answer.the-variants.{Rated}
 
@@ -18,6 +19,11 @@ chosen = 4 ∷ 7 ∷ 8 ∷ []
 -- the nine amounts, in record order
 abbrev pub amounts : List ℕ
 amounts = 310026 ∷ 8402 ∷ 1219 ∷ 201482 ∷ 1219 ∷ 765 ∷ 467721 ∷ 8401 ∷ 765 ∷ []
+
+-- numbers that differ below a thousandth of a methane number are cut to the same, also on either side of 0
+pub cut : (squareOf (pos 19999) (pos 10000) ≡ 0) × (squareOf (pos 9999) (negsuc 9998) ≡ 0) × (squareOf (pos 20000) (negsuc 9999) ≡ 9)
+unfolding squareOf
+cut = (refl, refl, refl)
 
 pub example : proposedOf 500000 chosen 3 (979229 ∷ 16803 ∷ 2438 ∷ 1530 ∷ []) (cellsOf chosen 3 amounts) 999468 ≡ Rated (pos 910787384) 369794 0
 unfolding worked rowsOf horner coefs placeIn partialNumber memberOf hasOf sumTo sumToZ greatestTo leastTo allTo someTo table partsOf columnOf numberAt heldOf rankOf cellsOf spreadOf weightedOf meanOf inertNumber ratingOf resums someEmpty proposedOf

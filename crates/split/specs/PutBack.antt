@@ -37,5 +37,5 @@ module _ (mix ch : List ℕ) (k limit allowance : ℕ) (a : List ℕ) (s r : ℕ
   pub put-back-records : (n1 : ℕ) → 3 * k ≤ RECORDS → proposedOf limit ch k mix (cellsOf ch k (amountsOf ch k a)) n1 ≡ Rated (ratingOf ch k a n1) s 0
   put-back-records n1 room = ap (λ (b : List ℕ). proposedOf limit ch k mix b n1) (cells-back ch k (balance .chosen) room a (balance .sound .stock .long) (balance .clean)) ∙ put-back n1
 
-  pub found-within : (n1 : ℕ) → totalOf mix ≡ 1000000 → n1 ≤ 1000000 → Within (ratingOf ch k a n1) (exactRating ch k a n1) 40
-  found-within n1 million l = rated-within ch k mix a (balance .chosen) limit n1 (ratingOf ch k a n1) s 0 (put-back n1) (balance .clean) million l
+  pub found-within : (n1 : ℕ) → totalOf mix ≤ 1000000 → n1 ≤ 1000000 → Within (ratingOf ch k a n1) (exactRating ch k a n1) 40
+  found-within n1 few l = rated-within ch k mix a (balance .chosen) limit n1 (ratingOf ch k a n1) s 0 (put-back n1) few l

@@ -82,7 +82,7 @@ pub record Chosen (ch : List ℕ) (k : ℕ) : Type 0 where
   pub most : k ≤ SYSTEMS
   pub known : (s : ℕ) → s < k → Candidate (systemOf ch s)
 
--- their cells: a million parts at most, and none of a component that its system lacks
+-- their cells: a million parts at most
 pub record Stock (ch : List ℕ) (k : ℕ) (a : List ℕ) : Type 0 where
   pub chosen : Chosen ch k
   pub long : length a ≡ CELLS

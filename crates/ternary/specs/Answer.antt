@@ -73,6 +73,11 @@ pub mixture-above : (d : ℕ) → 1000000 < d → isMixture d ≡ false
 mixture-above d h = beyond (ltb 0 d) (leb d 1000000) (λ t. N.not-le-of-lt h (leb→le d 1000000 t))
 
 module _ (system n1 n2 n3 : ℕ) where
+  -- no system of that number: 13, whatever the amounts are
+  pub partial-13 : isSystem system ≡ false → partialOf system n1 n2 n3 ≡ Refused 13
+  unfolding partialOf
+  partial-13 h = refused-13 (isSystem system) (isMixture (n1 + n2 + n3)) (Number (partialNumber system n1 n2 n3)) h
+
   -- a known system and a mixture: the number as worked out
   pub partial-is : isSystem system ≡ true → 0 < n1 + n2 + n3 → n1 + n2 + n3 ≤ 1000000 → partialOf system n1 n2 n3 ≡ Number (partialNumber system n1 n2 n3)
   unfolding partialOf
@@ -82,8 +87,3 @@ module _ (system n1 n2 n3 : ℕ) where
   pub partial-12 : isSystem system ≡ true → isMixture (n1 + n2 + n3) ≡ false → partialOf system n1 n2 n3 ≡ Refused 12
   unfolding partialOf
   partial-12 h k = refused-12 (isSystem system) (isMixture (n1 + n2 + n3)) (Number (partialNumber system n1 n2 n3)) h k
-
-  -- no system of that number: 13, whatever the amounts are
-  pub partial-13 : isSystem system ≡ false → partialOf system n1 n2 n3 ≡ Refused 13
-  unfolding partialOf
-  partial-13 h = refused-13 (isSystem system) (isMixture (n1 + n2 + n3)) (Number (partialNumber system n1 n2 n3)) h

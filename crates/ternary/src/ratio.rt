@@ -9,8 +9,8 @@ ghost use lib.IntN.{ℤ, pos, natAbs, _+ℤ_, _-ℤ_};
 ghost use Rattle.ternary.specs.WorkingRule.{stepZ};
 ghost use Rattle.ternary.specs.Precomputed.{Precomputed, Dividend, roundingOf};
 
-// A ratio n / d, at most 1, and what its steps use: 2^42 / d and 2^22 * n / d, rounded down, a multiple of d that no
-// accumulator exceeds, and n / d of that.
+// A ratio n / d, at most 1, and what its steps use: 2^42 / d rounded down, n times that over 2^20 rounded down (nearly
+// 2^22 * n / d), a multiple of d that no accumulator exceeds, and n / d of that.
 pub(crate) struct Ratio {
     pub n: u64,
     pub d: u64,
@@ -71,7 +71,7 @@ fn rounding(acc: i64, d: u64) -> u64
     if acc < 0 { d - 1 } else { 0 }
 }
 
-// (a * n + s) / d: an estimate from below by 2^22 * n / d, one of the rest by the reciprocal m, and one correction.
+// (a * n + s) / d: an estimate from below by nearly 2^22 * n / d, one of the rest by the reciprocal m, and one correction.
 fn quotient(a: u64, s: u64, n: u64, d: u64, m: u64, scaled: u64) -> u64
     requires { ⌜ Dividend a s n d m scaled ⌝ }
     ensures { λ r. ⌜ r ≡ (a * n + s) / d ⌝ }

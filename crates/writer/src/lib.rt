@@ -10,7 +10,8 @@ ghost use Rattle.sheet.specs.Bytes.{bytesOf};
 ghost use Rattle.sheet.specs.Components.{countOf, componentBytes};
 ghost use Rattle.sheet.specs.Split.{RECORDS, splitBytes};
 ghost use Rattle.sheet.specs.Sheet.{sheetOf};
-ghost use Rattle.sheet.specs.Write.{WrittenAs};
+ghost use Rattle.analysis.specs.Check.{AtFault};
+ghost use Rattle.sheet.specs.Write.{writtenOf, leftOf, numberOf, codeOf};
 ghost use Rattle.writer.specs.Answered.{Answered};
 use analysis::Analysis;
 use analysis::CODES;
@@ -147,7 +148,9 @@ fn put_sheet(a: [u32; CODES], p: Split, b: &mut [u8])
 
 // The sheet of the analysis and the split in the buffer, and its length; or a refusal, and the buffer as it was.
 pub fn write(a: Analysis, p: Split, b: &mut [u8]) -> Written
-    ensures { λ r. ⌜ WrittenAs (a .amounts) p (now (b .entry)) r (now (b .exit)) ⌝ }
+    ensures { λ r. ⌜ r ≡ writtenOf (a .amounts) p (length (now (b .entry))) (codeOf r) ⌝ }
+    ensures { λ _. ⌜ now (b .exit) ≡ leftOf (a .amounts) p (now (b .entry)) ⌝ }
+    ensures { λ r. ⌜ (numberOf r ≡ 5 → AtFault (a .amounts) (codeOf r)) ⌝ }
 {
     let answer = answer(a, p, b.len());
     let Written::Length(_) = answer else {

@@ -25,7 +25,8 @@ returns c =
     let s = c .before .before .before .total .ensures in
     let t = c .before .before .total-fits .ensures in
     let n = c .before .refusal .ensures in
-    answer-none _ _ f _ (rw s at t) _ n (c .if1 .taken)
+    let h = answer-none _ _ f _ (rw s at t) _ n (c .if1 .taken) in
+    (h .answer, h .code)
 
 cast-t8 : tie.Need-cast-t8
 cast-t8 c = search needs
@@ -36,7 +37,8 @@ returns-2 c =
     let s = c .before .before .before .before .total .ensures in
     let t = c .before .before .before .total-fits .ensures in
     let n = c .before .before .refusal .ensures in
-    answer-range _ _ f _ (rw s at t) _ n (c .if2 .taken)
+    let h = answer-range _ _ f _ (rw s at t) _ n (c .if2 .taken) in
+    (h .answer, h .code)
 
 returns-3 : tie.Need-returns-3
 returns-3 c =
@@ -44,7 +46,8 @@ returns-3 c =
     let s = c .before .before .before .before .total .ensures in
     let t = c .before .before .before .total-fits .ensures in
     let n = c .before .before .refusal .ensures in
-    answer-total _ _ f _ (rw s at t) _ n (c .before .if1 .left) (c .if2 .left)
+    let h = answer-total _ _ f _ (rw s at t) _ n (c .before .if1 .left) (c .if2 .left) in
+    (h .answer, h .code)
 
 pub check-spec : {M : Type 1} → statement M
 check-spec =

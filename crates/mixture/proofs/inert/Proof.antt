@@ -17,7 +17,7 @@ inert-first-requires c κs =
     let k = c .before .before .before in
     let a = k .before .before .args .a .amounts in
     let l : length a ≡ 14 = search needs in
-    tenths-positive a l (refusal-none a _ (k .check .ensures) (c .before .enum-told .given .1))
+    tenths-positive a l (refusal-none a _ (record { answer = k .check .ensures .0; code = k .check .ensures .1 }) (c .before .enum-told .given .1))
 
 sub-t9 : tie.Need-sub-t9
 sub-t9 c = search needs
@@ -29,14 +29,16 @@ returns : tie.Need-returns
 returns c =
     let k = c .before .before .before .before in
     let a = k .before .before .args .a .amounts in
-    let n = refusal-none a _ (k .check .ensures) (c .before .before .enum-told .given .1) in
-    inert-in-range a _ _ n (c .inert-first .ensures .0) refl
+    let n = refusal-none a _ (record { answer = k .check .ensures .0; code = k .check .ensures .1 }) (c .before .before .enum-told .given .1) in
+    let h = inert-in-range a _ _ n (c .inert-first .ensures .0) refl in
+    (h .answer, h .code)
 
 returns-2 : tie.Need-returns-2
 returns-2 c =
     let k = c .before .before .before in
     let a = k .before .before .args .a .amounts in
-    inert-refused a _ _ _ (k .check .ensures) (c .before .answer .given .1)
+    let h = inert-refused a _ _ _ (record { answer = k .check .ensures .0; code = k .check .ensures .1 }) (c .before .answer .given .1) in
+    (h .answer, h .code)
 
 pub inert-spec : {M : Type 1} → statement M
 inert-spec =

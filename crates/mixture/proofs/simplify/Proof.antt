@@ -21,7 +21,7 @@ scale-requires c κs =
     let start = k .before .before in
     let a = start .args .a .amounts in
     let l : length a ≡ 14 = search needs in
-    let p = tenths-positive a l (refusal-none a _ (k .check .ensures) (c .before .before .enum-told .given .1)) in
+    let p = tenths-positive a l (refusal-none a _ (record { answer = k .check .ensures .0; code = k .check .ensures .1 }) (c .before .before .enum-told .given .1)) in
     (c .tenths .ensures .1, rw (c .tenths .ensures .0) p)
 
 enum-told-2 : tie.Need-enum-told-2
@@ -31,20 +31,14 @@ returns : tie.Need-returns
 returns c =
     let k = c .before .before .before .before .before in
     let a = k .before .before .args .a .amounts in
-    let n = refusal-none a _ (k .check .ensures) (c .before .before .before .enum-told .given .1) in
-    record {
-      checking = k .check .ensures;
-      mixture = mixture-in-range a _ _ n (c .before .tenths .ensures .0) (c .scale .ensures);
-    }
+    let n = refusal-none a _ (record { answer = k .check .ensures .0; code = k .check .ensures .1 }) (c .before .before .before .enum-told .given .1) in
+    (k .check .ensures .0, (k .check .ensures .1, mixture-in-range a _ _ n (c .before .tenths .ensures .0) (c .scale .ensures)))
 
 returns-2 : tie.Need-returns-2
 returns-2 c =
     let k = c .before .before in
     let a = k .before .before .args .a .amounts in
-    record {
-      checking = k .check .ensures;
-      mixture = mixture-refused a (refusal-some a _ _ _ (k .check .ensures) (c .enum-told2 .given .1));
-    }
+    (k .check .ensures .0, (k .check .ensures .1, mixture-refused a (refusal-some a _ _ _ (record { answer = k .check .ensures .0; code = k .check .ensures .1 }) (c .enum-told2 .given .1))))
 
 pub simplify-spec : {M : Type 1} → statement M
 simplify-spec =

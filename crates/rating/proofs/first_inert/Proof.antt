@@ -21,11 +21,11 @@ enum-told c = search needs
 
 -- src/lib.rt:59:1
 returns : tie.Need-returns
-returns c = inert-first _ _ (c .before .before .before .inert .ensures) (c .before .before .before .before .pre) _ _ _ (c .before .inert2 .given .1)
+returns c = inert-first _ _ (record { answer = c .before .before .before .inert .ensures .0; code = c .before .before .before .inert .ensures .1 }) (c .before .before .before .before .pre) _ _ _ (c .before .inert2 .given .1)
 
 -- src/lib.rt:59:1
 returns-2 : tie.Need-returns-2
-returns-2 c = absurd (inert-refused _ _ (c .before .before .inert .ensures) (c .before .before .before .pre) _ _ (c .enum-told .given .1))
+returns-2 c = absurd (inert-refused _ _ (record { answer = c .before .before .inert .ensures .0; code = c .before .before .inert .ensures .1 }) (c .before .before .before .pre) _ _ (c .enum-told .given .1))
 
 pub first-inert-spec : {M : Type 1} → statement M
 first-inert-spec = tie.close (tie.spec inert-requires enum-known-inert enum-told returns returns-2)

@@ -46,7 +46,7 @@ find-requires c κs = search needs
 -- src/lib.rt:77:40
 first-inert-requires : tie.Need-first-inert-requires
 first-inert-requires c κs = let s = c .before .before .before .before .before .before .before .simplify .ensures in
-    in-range _ _ (s .checking) (c .before .before .before .enum-told .given .1)
+    in-range _ _ (record { answer = s .0; code = s .1 .0 }) (c .before .before .before .enum-told .given .1)
 
 -- src/lib.rt:77:13
 found-outcome-requires : tie.Need-found-outcome-requires
@@ -54,15 +54,15 @@ found-outcome-requires c κs = let b = c .before .before .before .before .before
     let a = b .before .args .a .amounts in
     let l : length a ≡ 14 = search needs in
     let s = b .simplify .ensures in
-    let p = in-range _ _ (s .checking) (c .before .before .before .before .enum-told .given .1) in (
-      given-proposal a l p _ _ _ (s .mixture) (c .before .before .before .choose .ensures) (c .first-inert .ensures),
-      found-fit a l p _ _ _ (s .mixture) (c .before .before .before .choose .ensures) (c .first-inert .ensures) (b .before .args .allowance) _ (c .before .before .at-most .ensures) _ (c .before .find .ensures),
+    let p = in-range _ _ (record { answer = s .0; code = s .1 .0 }) (c .before .before .before .before .enum-told .given .1) in (
+      given-proposal a l p _ _ _ (s .1 .1) (c .before .before .before .choose .ensures) (c .first-inert .ensures),
+      found-fit a l p _ _ _ (s .1 .1) (c .before .before .before .choose .ensures) (c .first-inert .ensures) (b .before .args .allowance) _ (c .before .before .at-most .ensures) _ (c .before .find .ensures),
     )
 
 -- src/lib.rt:64:1
 returns : tie.Need-returns
 returns c = let b = c .before .before .before .before .before .before in
-    search-away-is _ _ _ _ _ (turned-away _ _ (b .simplify .ensures .checking) _ _ (c .before .before .answer .given .1)) (c .refused .ensures)
+    search-away-is _ _ _ _ _ (turned-away _ _ (record { answer = b .simplify .ensures .0; code = b .simplify .ensures .1 .0 }) _ _ (c .before .before .answer .given .1)) (c .refused .ensures)
 
 -- src/lib.rt:64:1
 returns-2 : tie.Need-returns-2
@@ -70,8 +70,8 @@ returns-2 c = let b = c .before .before .before .before .before .before .before 
     let a = b .before .args .a .amounts in
     let l : length a ≡ 14 = search needs in
     let s = b .simplify .ensures in
-    let p = in-range _ _ (s .checking) (c .before .before .before .before .before .enum-told .given .1) in
-    let e = search-in a l p _ _ _ (s .mixture) (c .before .before .before .before .choose .ensures) (c .before .first-inert .ensures) (b .before .args .allowance) _ (c .before .before .before .at-most .ensures) _ (c .before .before .find .ensures) _ (c .found-outcome .ensures) in
+    let p = in-range _ _ (record { answer = s .0; code = s .1 .0 }) (c .before .before .before .before .before .enum-told .given .1) in
+    let e = search-in a l p _ _ _ (s .1 .1) (c .before .before .before .before .choose .ensures) (c .before .first-inert .ensures) (b .before .args .allowance) _ (c .before .before .before .at-most .ensures) _ (c .before .before .find .ensures) _ (c .found-outcome .ensures) in
     (e, λ z. absurd (search-not-five a l p _ _ _ e z))
 
 pub rate-by-search-spec : {M : Type 1} → statement M

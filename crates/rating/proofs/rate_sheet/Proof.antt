@@ -1,6 +1,7 @@
 -- `rating::rate_sheet` meets its contract. Assumes nothing.
 use Rattle.rating.proofs.SheetCases.{passed, sheet-refused-is, sheet-read, sheet-not-five}
 use mathlib.Core.Path.{_≡_, sym, ap, _∙_, subst}
+use Rattle.sheet.specs.Read.{ReadAs}
 use Rattle.rating.specs.Rate.{numberOf, codeOf}
 use borrow.Author.Needs.{needs}
 use Rattle.rating.proofs.rate_sheet.Statement.{statement}
@@ -34,16 +35,17 @@ enum-told c = search needs
 
 -- src/lib.rt:94:26
 rate-read-requires : tie.Need-rate-read-requires
-rate-read-requires c κs = passed _ _ (c .before .before .before .before .read .ensures) (c .enum-told .given .1)
+rate-read-requires c κs = passed _ _ (record { sheet = c .before .before .before .before .read .ensures .0; code = c .before .before .before .before .read .ensures .1 }) (c .enum-told .given .1)
 
 -- src/lib.rt:84:1
 returns : tie.Need-returns
-returns c = sheet-refused-is _ _ (c .before .before .before .before .before .before .before .read .ensures) _ _ _ (c .before .before .before .answer .given .1) _ _
+returns c = sheet-refused-is _ _ (record { sheet = c .before .before .before .before .before .before .before .read .ensures .0; code = c .before .before .before .before .before .before .before .read .ensures .1 }) _ _ _ (c .before .before .before .answer .given .1) _ _
     (c .before .carried .ensures) (c .refused .ensures)
 
 -- src/lib.rt:84:1
 returns-2 : tie.Need-returns-2
-returns-2 c = let h = c .before .before .before .before .before .read .ensures in
+returns-2 c = let e0 = c .before .before .before .before .before .read .ensures in
+    let h : ReadAs (c .before .before .before .before .before .before .before .args .s .now) (c .before .before .before .before .before .read .result) = record { sheet = e0 .0; code = e0 .1 } in
     let e = c .before .enum-told .given .1 in
     (sheet-read _ _ h e _ (c .rate-read .ensures), λ z. absurd (sheet-not-five _ _ h e _ (c .rate-read .ensures) z))
 

@@ -1,5 +1,5 @@
 -- `rating::rate_split` meets its contract. Assumes nothing.
-use Rattle.rating.proofs.CallCases.{in-range, turned-away, split-away, given-proposal, given-three, split-in, split-not-five}
+use Rattle.rating.proofs.CallCases.{in-range, turned-away, split-away, given-proposal, given-room, split-in, split-not-five}
 use mathlib.Core.Path.{_≡_, sym, ap, _∙_}
 use lib.ListN.{length}
 use borrow.Author.Needs.{needs}
@@ -31,22 +31,22 @@ choose-requires c κs = search needs
 -- src/lib.rt:58:65
 first-inert-requires : tie.Need-first-inert-requires
 first-inert-requires c κs = let s = c .before .before .before .before .before .simplify .ensures in
-    in-range _ _ (s .checking) (c .before .enum-told .given .1)
+    in-range _ _ (record { answer = s .0; code = s .1 .0 }) (c .before .enum-told .given .1)
 
 -- src/lib.rt:58:29
 split-by-requires : tie.Need-split-by-requires
 split-by-requires c κs = let a = c .before .before .before .before .before .before .before .args .a .amounts in
     let l : length a ≡ 14 = search needs in
     let s = c .before .before .before .before .before .before .simplify .ensures in
-    let p = in-range _ _ (s .checking) (c .before .before .enum-told .given .1) in (
-      given-proposal a l p _ _ _ (s .mixture) (c .before .choose .ensures) (c .first-inert .ensures),
-      given-three a l p _ _ _ (s .mixture) (c .before .choose .ensures) (c .first-inert .ensures),
+    let p = in-range _ _ (record { answer = s .0; code = s .1 .0 }) (c .before .before .enum-told .given .1) in (
+      given-proposal a l p _ _ _ (s .1 .1) (c .before .choose .ensures) (c .first-inert .ensures),
+      given-room a l p _ _ _ (s .1 .1) (c .before .choose .ensures) (c .first-inert .ensures),
     )
 
 -- src/lib.rt:48:1
 returns : tie.Need-returns
 returns c = let s = c .before .before .before .before .before .simplify .ensures in
-    let t = turned-away _ _ (s .checking) _ _ (c .before .answer .given .1) in
+    let t = turned-away _ _ (record { answer = s .0; code = s .1 .0 }) _ _ (c .before .answer .given .1) in
     (split-away _ _ _ _ t, t .fault)
 
 -- src/lib.rt:48:1
@@ -55,8 +55,8 @@ returns-2 c = let b = c .before .before .before .before .before .before .before 
     let a = b .before .args .a .amounts in
     let l : length a ≡ 14 = search needs in
     let s = b .simplify .ensures in
-    let p = in-range _ _ (s .checking) (c .before .before .before .enum-told .given .1) in
-    let e = split-in a l p _ _ _ (s .mixture) (c .before .before .choose .ensures) (c .before .first-inert .ensures) _ _ (c .split-by .ensures) in
+    let p = in-range _ _ (record { answer = s .0; code = s .1 .0 }) (c .before .before .before .enum-told .given .1) in
+    let e = split-in a l p _ _ _ (s .1 .1) (c .before .before .choose .ensures) (c .before .first-inert .ensures) _ _ (c .split-by .ensures) in
     (e, λ z. absurd (split-not-five a l p _ _ _ e z))
 
 pub rate-split-spec : {M : Type 1} → statement M

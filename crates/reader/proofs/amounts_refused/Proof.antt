@@ -29,7 +29,7 @@ check-requires : tie.Need-check-requires
 check-requires c κs = search needs
 
 returns-2 : tie.Need-returns-2
-returns-2 c = checked-found _ _ _ (c .before .before .zero-record .ensures) (c .before .if1 .left) _ (c .before .before .before .before .pre .1) _ (c .check .ensures)
+returns-2 c = checked-found _ _ _ (c .before .before .zero-record .ensures) (c .before .if1 .left) _ (c .before .before .before .before .pre .1) _ (record { answer = c .check .ensures .0; code = c .check .ensures .1 })
 
 pub amounts-refused-spec : {M : Type 1} → statement M
 amounts-refused-spec =

@@ -29,7 +29,9 @@ refused-with-requires : tie.Need-refused-with-requires
 refused-with-requires c κs = search needs
 
 returns : tie.Need-returns
-returns c = answer-torn _ _ (sym (c .before .before .before .sections .ensures) ∙ c .before .enum-told .given .1) (c .refused-with .ensures)
+returns c =
+    let h = answer-torn _ _ (sym (c .before .before .before .sections .ensures) ∙ c .before .enum-told .given .1) (c .refused-with .ensures) in
+    (h .sheet, h .code)
 
 codes-requires : tie.Need-codes-requires
 codes-requires c κs =
@@ -48,7 +50,8 @@ refused-requires c κs = search needs
 returns-2 : tie.Need-returns-2
 returns-2 c =
     let t = c .before .enum-told3 .given .1 in
-    answer-codes _ _ _ _ _ (both (c .before .before .before .before)) _ _ _ (sym (c .before .before .before .codes .ensures) ∙ t) (c .refused .ensures ∙ ap refusedSheet t)
+    let h = answer-codes _ _ _ _ _ (both (c .before .before .before .before)) _ _ _ (sym (c .before .before .before .codes .ensures) ∙ t) (c .refused .ensures ∙ ap refusedSheet t) in
+    (h .sheet, h .code)
 
 amounts-requires : tie.Need-amounts-requires
 amounts-requires c κs =
@@ -78,7 +81,8 @@ returns-3 : tie.Need-returns-3
 returns-3 c =
     let t = c .before .before .checked .given .1 in
     let d = sym (c .before .before .before .before .before .before .before .before .codes .ensures) ∙ c .before .before .before .before .before .before .enum-told2 .given .1 in
-    answer-amounts _ _ _ _ _ (both (c .before .before .before .before .before .before .before .before .before)) d _ _ _ (c .before .before .before .before .amounts-refused .ensures) t (c .refused-with2 .ensures)
+    let h = answer-amounts _ _ _ _ _ (both (c .before .before .before .before .before .before .before .before .before)) d _ _ _ (c .before .before .before .before .amounts-refused .ensures) t (c .refused-with2 .ensures) in
+    (h .sheet, h .code)
 
 returns-4 : tie.Need-returns-4
 returns-4 c =
@@ -86,7 +90,8 @@ returns-4 c =
     let d = sym (c .before .before .before .before .before .before .before .codes .ensures) ∙ c .before .before .before .before .before .enum-told2 .given .1 in
     let f = c .before .before .before .before .amounts .ensures in
     let p = c .split-at .ensures in
-    answer-good _ _ _ _ _ (both (c .before .before .before .before .before .before .before .before)) d _ (c .before .before .before .amounts-refused .ensures) t (λ i. record { answer = Read; analysis = record { amounts = f i }; split = p i })
+    let h = answer-good _ _ _ _ _ (both (c .before .before .before .before .before .before .before .before)) d _ (c .before .before .before .amounts-refused .ensures) t (λ i. record { answer = Read; analysis = record { amounts = f i }; split = p i }) in
+    (h .sheet, h .code)
 
 pub read-spec : {M : Type 1} → statement M
 read-spec =

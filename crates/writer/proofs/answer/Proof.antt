@@ -22,7 +22,7 @@ enum-known-checked : tie.Need-enum-known-checked
 enum-known-checked c = search needs
 
 returns-2 : tie.Need-returns-2
-returns-2 c = answer-check _ _ _ (sym (c .before .before .before .before .before .allowed-count .ensures) ∙ not-false _ (c .before .before .before .before .if1 .left)) _ _ _ (c .before .before .before .check .ensures) (c .before .checked .given .1)
+returns-2 c = answer-check _ _ _ (sym (c .before .before .before .before .before .allowed-count .ensures) ∙ not-false _ (c .before .before .before .before .if1 .left)) _ _ _ (record { answer = c .before .before .before .check .ensures .0; code = c .before .before .before .check .ensures .1 }) (c .before .checked .given .1)
 
 enum-told : tie.Need-enum-told
 enum-told c = search needs
@@ -43,10 +43,10 @@ add-len-2 : tie.Need-add-len-2
 add-len-2 c = let h = allowed-most _ (sym (c .before .before .before .before .before .before .allowed-count .ensures) ∙ not-false _ (c .before .before .before .before .before .if1 .left)) in omega arith
 
 returns-3 : tie.Need-returns-3
-returns-3 c = answer-short _ _ _ (sym (c .before .before .before .before .before .before .before .allowed-count .ensures) ∙ not-false _ (c .before .before .before .before .before .before .if1 .left)) _ (c .before .before .before .before .before .check .ensures) (c .before .before .before .enum-told .given .1) _ _ (c .before .listed .ensures .0) refl (c .if2 .taken)
+returns-3 c = answer-short _ _ _ (sym (c .before .before .before .before .before .before .before .allowed-count .ensures) ∙ not-false _ (c .before .before .before .before .before .before .if1 .left)) _ (record { answer = c .before .before .before .before .before .check .ensures .0; code = c .before .before .before .before .before .check .ensures .1 }) (c .before .before .before .enum-told .given .1) _ _ (c .before .listed .ensures .0) refl (c .if2 .taken)
 
 returns-4 : tie.Need-returns-4
-returns-4 c = answer-length _ _ _ (sym (c .before .before .before .before .before .before .before .allowed-count .ensures) ∙ not-false _ (c .before .before .before .before .before .before .if1 .left)) _ (c .before .before .before .before .before .check .ensures) (c .before .before .before .enum-told .given .1) _ _ (c .before .listed .ensures .0) refl (c .if2 .left)
+returns-4 c = answer-length _ _ _ (sym (c .before .before .before .before .before .before .before .allowed-count .ensures) ∙ not-false _ (c .before .before .before .before .before .before .if1 .left)) _ (record { answer = c .before .before .before .before .before .check .ensures .0; code = c .before .before .before .before .before .check .ensures .1 }) (c .before .before .before .enum-told .given .1) _ _ (c .before .listed .ensures .0) refl (c .if2 .left)
 
 pub answer-spec : {M : Type 1} → statement M
 answer-spec =

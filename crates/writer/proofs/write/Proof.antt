@@ -18,7 +18,9 @@ enum-told-2 : tie.Need-enum-told-2
 enum-told-2 c = search needs
 
 returns : tie.Need-returns
-returns c = left-alone _ _ _ _ (c .before .before .answer .ensures) _ _ (c .enum-told2 .given .1)
+returns c =
+    let h = left-alone _ _ _ _ (c .before .before .answer .ensures) _ _ (c .enum-told2 .given .1) in
+    (h .answer, (h .buffer, h .code))
 
 put-sheet-requires : tie.Need-put-sheet-requires
 put-sheet-requires c κs =
@@ -29,7 +31,9 @@ same-length : tie.Need-same-length
 same-length c = search needs
 
 returns-2 : tie.Need-returns-2
-returns-2 c = wrote _ _ _ _ (c .before .before .before .before .before .before .before .answer .ensures) _ (c .before .before .before .before .before .enum-told .given .1) _ (c .before .before .put-sheet .ensures)
+returns-2 c =
+    let h = wrote _ _ _ _ (c .before .before .before .before .before .before .before .answer .ensures) _ (c .before .before .before .before .before .enum-told .given .1) _ (c .before .before .put-sheet .ensures) in
+    (h .answer, (h .buffer, h .code))
 
 pub write-spec : {M : Type 1} → statement M
 write-spec =
