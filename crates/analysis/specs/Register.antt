@@ -21,23 +21,36 @@ pub record Entry : Type 0 where
 abbrev entry : ℕ → Status → Entry
 entry code status = record { code = code; status = status }
 
--- methane, ethane, propane, i-butane, n-butane, neo-pentane, i-pentane, n-pentane, a retired code, hexanes+,
--- carbon dioxide, nitrogen, a retired code, and the butanes of the simplified mixture
+-- every key ever given, rising
 abbrev pub register : List Entry
 register =
+    -- methane
     entry 1 (live 400000 999700 true) ∷
+    -- ethane
     entry 2 (live 100 150000 true) ∷
+    -- propane
     entry 3 (live 100 60000 true) ∷
+    -- i-butane
     entry 4 (live 10 40000 true) ∷
+    -- n-butane
     entry 5 (live 10 40000 true) ∷
+    -- neo-pentane
     entry 6 (live 10 500 false) ∷
+    -- i-pentane
     entry 7 (live 10 20000 false) ∷
+    -- n-pentane
     entry 8 (live 10 20000 false) ∷
+    -- retired
     entry 9 retired ∷
+    -- hexanes+
     entry 10 (live 10 15000 false) ∷
+    -- carbon dioxide
     entry 11 (live 50 100000 false) ∷
+    -- nitrogen
     entry 12 (live 50 150000 false) ∷
+    -- retired
     entry 13 retired ∷
+    -- butanes of the simplified mixture
     entry 14 splitsOnly ∷
     []
 
