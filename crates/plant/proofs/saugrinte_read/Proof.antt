@@ -2,6 +2,7 @@
 use mathlib.Core.Path.{_≡_, sym, ap, _∙_, subst}
 use native.Mathlib.Omega.{arith}
 use Prim.Native.Nat.{ℕ}
+use Rattle.sheet.specs.Read.{ReadAs}
 use Rattle.sheet.specs.declared.Sheet.{Sheet}
 use Rattle.plant.proofs.Sheets.{whole, read-done, column-read, count-read, read-refused, column-stays, count-stays, read-fault, place-five, place-other}
 use borrow.Author.Needs.{needs}
@@ -21,7 +22,8 @@ enum-known-answer : tie.Need-enum-known-answer
 enum-known-answer c = search needs
 
 returns : tie.Need-returns
-returns c = let h = c .before .before .before .before .before .before .before .before .read .ensures in
+returns c = let e0 = c .before .before .before .before .before .before .before .before .read .ensures in
+    let h : ReadAs (c .before .before .before .before .before .before .before .before .before .before .args .sheet .now) (c .before .before .before .before .before .before .before .before .read .result) = record { sheet = e0 .0; code = e0 .1 } in
     let e = c .enum-told .given .1 in
     let w = whole _ _ h e in (
       read-done _ _ h e,
@@ -45,7 +47,8 @@ returns c = let h = c .before .before .before .before .before .before .before .b
 
 returns-2 : tie.Need-returns-2
 returns-2 c = let x = c .before .before .before .before .before .before .before .before .before .before .before .before .args in
-    let h = c .before .before .before .before .before .before .before .before .before .before .read .ensures in
+    let e0 = c .before .before .before .before .before .before .before .before .before .before .read .ensures in
+    let h : ReadAs (c .before .before .before .before .before .before .before .before .before .before .before .before .args .sheet .now) (c .before .before .before .before .before .before .before .before .before .before .read .result) = record { sheet = e0 .0; code = e0 .1 } in
     let e = c .before .before .answer .given .1 in
     let q = place-five _ _ _ (c .if1 .taken) in (
       read-refused _ _ h _ _ _ e _ q,
@@ -69,7 +72,8 @@ returns-2 c = let x = c .before .before .before .before .before .before .before 
 
 returns-3 : tie.Need-returns-3
 returns-3 c = let x = c .before .before .before .before .before .before .before .before .before .before .before .before .args in
-    let h = c .before .before .before .before .before .before .before .before .before .before .read .ensures in
+    let e0 = c .before .before .before .before .before .before .before .before .before .before .read .ensures in
+    let h : ReadAs (c .before .before .before .before .before .before .before .before .before .before .before .before .args .sheet .now) (c .before .before .before .before .before .before .before .before .before .before .read .result) = record { sheet = e0 .0; code = e0 .1 } in
     let e = c .before .before .answer .given .1 in
     let q = place-other _ _ _ (c .if1 .left) in (
       read-refused _ _ h _ _ _ e _ q,

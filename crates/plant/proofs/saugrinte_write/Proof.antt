@@ -20,13 +20,13 @@ same-length : tie.Need-same-length
 same-length c = search needs
 
 returns : tie.Need-returns
-returns c = written-done _ _ _ _ _ (c .before .before .before .before .before .write .ensures) _ (c .before .written .given .1) _
+returns c = written-done _ _ _ _ _ (record { answer = c .before .before .before .before .before .write .ensures .0; buffer = c .before .before .before .before .before .write .ensures .1 .0; code = c .before .before .before .before .before .write .ensures .1 .1 }) _ (c .before .written .given .1) _
 
 same-length-2 : tie.Need-same-length-2
 same-length-2 c = search needs
 
 returns-2 : tie.Need-returns-2
-returns-2 c = written-refused _ _ _ _ _ (c .before .before .before .before .before .write .ensures) _ _ (c .before .written2 .given .1) _
+returns-2 c = written-refused _ _ _ _ _ (record { answer = c .before .before .before .before .before .write .ensures .0; buffer = c .before .before .before .before .before .write .ensures .1 .0; code = c .before .before .before .before .before .write .ensures .1 .1 }) _ _ (c .before .written2 .given .1) _
 
 pub saugrinte-write-spec : {M : Type 1} → statement M
 saugrinte-write-spec =
