@@ -18,7 +18,8 @@ const COMPONENTS: usize = 4;
 
 const SYSTEMS: usize = 8;
 
-const CELLS: usize = COMPONENTS * SYSTEMS;
+// A row of COMPONENTS cells for each of the SYSTEMS rows.
+const CELLS: usize = 32;
 
 // The level of the largest first stride, 65536.
 const LEVEL: usize = 16;

@@ -18,9 +18,13 @@ const COMPONENTS: usize = 4;
 
 const SYSTEMS: usize = 8;
 
-const CELLS: usize = COMPONENTS * SYSTEMS;
+// A row of COMPONENTS cells for each of the SYSTEMS rows.
+const CELLS: usize = 32;
 
-const MOVES: usize = COMPONENTS * SYSTEMS * SYSTEMS;
+// The pairs of a giver and a taker, and a move of each component for each pair.
+const PAIRS: usize = 64;
+
+const MOVES: usize = 256;
 
 // A thousandth of a methane number, in units.
 const THOUSANDTH: i64 = 10000;
@@ -69,7 +73,7 @@ fn between(ch: &[u8; SYSTEMS], k: usize, m: usize) -> bool
 {
     let f = m / SYSTEMS % SYSTEMS;
     let t = m % SYSTEMS;
-    let c = m / (SYSTEMS * SYSTEMS);
+    let c = m / PAIRS;
     if k <= f {
         return false;
     }
@@ -91,7 +95,7 @@ fn affords(ch: &[u8; SYSTEMS], k: usize, a: &[u32; CELLS], d: u32, m: usize) -> 
     ensures { λ r. ⌜ r ≡ affordsOf (now (ch .entry)) (now (a .entry)) d m ⌝ }
 {
     let f = m / SYSTEMS % SYSTEMS;
-    let c = m / (SYSTEMS * SYSTEMS);
+    let c = m / PAIRS;
     let i = f * COMPONENTS + c;
     if a[i] < d {
         return false;
@@ -106,7 +110,7 @@ pub(crate) fn moved(a: [u32; CELLS], m: usize, d: u32) -> [u32; CELLS]
 {
     let f = m / SYSTEMS % SYSTEMS;
     let t = m % SYSTEMS;
-    let c = m / (SYSTEMS * SYSTEMS);
+    let c = m / PAIRS;
     let i = f * COMPONENTS + c;
     let j = t * COMPONENTS + c;
     let x = a[i];
@@ -158,7 +162,7 @@ pub(crate) fn renumbered(
 {
     let f = m / SYSTEMS % SYSTEMS;
     let t = m % SYSTEMS;
-    let c = m / (SYSTEMS * SYSTEMS);
+    let c = m / PAIRS;
     let i = f * COMPONENTS + c;
     let j = t * COMPONENTS + c;
     let mut w = *v;
@@ -233,7 +237,7 @@ fn next_giver(k: usize, n: usize) -> usize
     if f < k {
         return n;
     }
-    n - n % (SYSTEMS * SYSTEMS) + SYSTEMS * SYSTEMS
+    n - n % PAIRS + PAIRS
 }
 
 // The first move that can be made and lowers the imbalance, or MOVES.

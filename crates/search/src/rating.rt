@@ -21,7 +21,8 @@ const COMPONENTS: usize = 4;
 
 const SYSTEMS: usize = 8;
 
-const CELLS: usize = COMPONENTS * SYSTEMS;
+// A row of COMPONENTS cells for each of the SYSTEMS rows.
+const CELLS: usize = 32;
 
 // All parts of a mixture.
 const MILLION: u32 = 1000000;

@@ -17,9 +17,10 @@ const COMPONENTS: usize = 4;
 
 const SYSTEMS: usize = 8;
 
-const CELLS: usize = COMPONENTS * SYSTEMS;
+// A row of COMPONENTS cells for each of the SYSTEMS rows.
+const CELLS: usize = 32;
 
-const MOVES: usize = COMPONENTS * SYSTEMS * SYSTEMS;
+const MOVES: usize = 256;
 
 // The stride of a level.
 fn stride(level: usize) -> u32

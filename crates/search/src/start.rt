@@ -12,7 +12,8 @@ const COMPONENTS: usize = 4;
 
 const SYSTEMS: usize = 8;
 
-const CELLS: usize = COMPONENTS * SYSTEMS;
+// A row of COMPONENTS cells for each of the SYSTEMS rows.
+const CELLS: usize = 32;
 
 fn one_if(b: bool) -> u32
     ensures { λ r. ⌜ (r ≡ cond b 1 0) × (r ≤ 1) ⌝ }

@@ -9,14 +9,6 @@ use Rattle.search.proofs.moves.affords.Reads as reads
 use Rattle.search.proofs.moves.affords.Lts as lts
 use Rattle.search.proofs.state.parts.Reads as parts-reads
 
--- src/moves.rt:94:18
-mul-c : tie.Need-mul-c
-mul-c c = search needs
-
--- src/moves.rt:94:13
-div-c : tie.Need-div-c
-div-c c = search needs
-
 -- src/moves.rt:95:13
 mul-i : tie.Need-mul-i
 mul-i c = search needs
@@ -49,8 +41,6 @@ pub affords-spec : {M : Type 1} → statement M
 affords-spec =
     tie.close
     (tie.spec
-    mul-c
-    div-c
     mul-i
     add-i
     mul-if1

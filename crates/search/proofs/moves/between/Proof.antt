@@ -10,14 +10,6 @@ use Rattle.search.proofs.moves.between.Reads as reads
 use Rattle.search.proofs.moves.between.Lts as lts
 use Rattle.systems.proofs.has.Reads as has-reads
 
--- src/moves.rt:72:18
-mul-c : tie.Need-mul-c
-mul-c c = search needs
-
--- src/moves.rt:72:13
-div-c : tie.Need-div-c
-div-c c = search needs
-
 -- src/moves.rt:74:9
 returns : tie.Need-returns
 returns c = no-giver _ _ _ (c .if1 .taken)
@@ -58,8 +50,6 @@ pub between-spec : {M : Type 1} → statement M
 between-spec =
     tie.close
     (tie.spec
-    mul-c
-    div-c
     returns
     returns-2
     returns-3

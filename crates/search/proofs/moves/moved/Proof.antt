@@ -8,14 +8,6 @@ use Rattle.search.proofs.moves.moved.Tie as tie
 use Rattle.search.proofs.moves.moved.Reads as reads
 use Rattle.search.proofs.moves.moved.Lts as lts
 
--- src/moves.rt:109:18
-mul-c : tie.Need-mul-c
-mul-c c = search needs
-
--- src/moves.rt:109:13
-div-c : tie.Need-div-c
-div-c c = search needs
-
 -- src/moves.rt:110:13
 mul-i : tie.Need-mul-i
 mul-i c = search needs
@@ -81,8 +73,6 @@ pub moved-spec : {M : Type 1} → statement M
 moved-spec =
     tie.close
     (tie.spec
-    mul-c
-    div-c
     mul-i
     add-i
     mul-j

@@ -10,14 +10,6 @@ use Rattle.search.proofs.moves.renumbered.Reads as reads
 use Rattle.search.proofs.moves.renumbered.Lts as lts
 use Rattle.search.proofs.moves.number_with.Reads as number-with-reads
 
--- src/moves.rt:161:18
-mul-c : tie.Need-mul-c
-mul-c c = search needs
-
--- src/moves.rt:161:13
-div-c : tie.Need-div-c
-div-c c = search needs
-
 -- src/moves.rt:162:13
 mul-i : tie.Need-mul-i
 mul-i c = search needs
@@ -90,8 +82,6 @@ pub renumbered-spec : {M : Type 1} → statement M
 renumbered-spec =
     tie.close
     (tie.spec
-    mul-c
-    div-c
     mul-i
     add-i
     mul-j
