@@ -9,3 +9,4 @@ pub mod Wholes
 pub mod Weights
 pub mod Answers
 pub mod Scanned
+pub mod Tries

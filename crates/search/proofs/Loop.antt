@@ -7,18 +7,20 @@ use native.Mathlib.Omega.{arith}
 use lib.Dec.{eqb, eqb→eq}
 use lib.IntN.{ℤ}
 use Rattle.systems.specs.Table.{eachTo}
-use Rattle.split.specs.Split.{cellOf, numberAt, Sound}
+use Rattle.split.specs.Split.{numberAt, Sound}
 use Rattle.split.specs.Rating.{spreadOf}
-use Rattle.split.specs.Move.{MOVES, componentOf, giverOf, takerOf, movedOf, firstOf}
+use Rattle.split.specs.Move.{giverOf, takerOf, movedOf, firstOf}
 use Rattle.split.specs.Search.{goOn, turnOf, stepOf, runOf}
 use Rattle.split.specs.declared.Turn.{Turn}
 use Rattle.split.specs.declared.Turn.the-variants.{Rate, Refuse, Move, Halve}
 use Rattle.split.specs.declared.Found.{Found}
 use Rattle.split.specs.Tests.{Fit}
-use Rattle.split.specs.Steps.{may-move}
-use Rattle.split.specs.Turns.{turn-rate, turn-refuse, turn-on, Moves, moves, sound-step, again-move}
+use Rattle.split.specs.Steps.{sound-moved}
+use Rattle.split.specs.Turns.{turn-rate, turn-refuse, turn-on, Moves, moves, again-move}
 use Rattle.search.specs.Carried.{listed, Small, Carried, Held}
+use Rattle.search.specs.Tried.{Tried, Forgot}
 use Rattle.search.proofs.Trials.{spread-same}
+use Rattle.search.proofs.Tries.{tried-after}
 
 -- the strides, each by one computed test
 abbrev right : ℕ → Bool
@@ -43,20 +45,22 @@ module _ (ch : List ℕ) (k limit allowance : ℕ) (a : List ℕ) (level rounds 
       let w : r ≡ goOn level (firstOf ch k a (2 ^ level)) = cc in
       w ∙ turn-on ch k limit allowance a level rounds (rw is-spread at h) u
 
+-- a move, made
+pub held-moved : (ch : List ℕ) (k : ℕ) (a : List ℕ) (d m : ℕ) (b : List ℕ) (v : List ℤ) → b ≡ movedOf a m d → Sound ch k a → Fit ch k a d m → Carried ch k (movedOf a m d) v × Small v k → Held ch k b v
+held-moved ch k a d m b v e so fit c = rw e (record { sound = sound-moved ch k a d m so fit; carried = c .0; small = c .1 })
+
+pub tried-moved : (ch : List ℕ) (k : ℕ) (a : List ℕ) (d m : ℕ) (b : List ℕ) (t u v : List ℤ) → b ≡ movedOf a m d → Sound ch k a → Fit ch k a d m → Tried ch k a d t → Forgot t (giverOf m) u → Forgot u (takerOf m) v
+    → Tried ch k b d v
+tried-moved ch k a d m b t u v e so fit kt fu fv = rw e (tried-after ch k a d m so fit t u v kt fu fv)
+
 -- the arm that moves
 module _ (ch : List ℕ) (k limit allowance : ℕ) (a : List ℕ) (level rounds m d : ℕ) (p : d ≡ 2 ^ level) (t : turnOf ch k limit allowance a level rounds ≡ Move m) where
   pub fit-is : Fit ch k a d m
   fit-is = rw p (moves ch k limit allowance a level rounds m t .fit)
 
-  pub may-step : Sound ch k a → (m < MOVES) × (d ≤ cellOf a (giverOf m) (componentOf m)) × (cellOf a (takerOf m) (componentOf m) + d ≤ 1000000)
-  may-step so = may-move ch k a d m so fit-is
-
   module _ (b : List ℕ) (e : b ≡ movedOf a m d) where
     step-is : b ≡ stepOf a m level
     step-is = e ∙ ap (movedOf a m) p
-
-    pub held-next : (w : List ℤ) → Held ch k a w → (v : List ℤ) → Carried ch k (movedOf a m d) v × Small v k → Held ch k b v
-    held-next w h v c = rw e (record { sound = rw p (sound-step ch k limit allowance a level rounds m (h .sound) t); carried = c .0; small = c .1 })
 
     pub step-next : (S : Found) → rounds ≤ allowance → S ≡ runOf ch k limit allowance (suc (allowance - rounds + level)) a level rounds
         → (rounds + 1 ≤ allowance) × (S ≡ runOf ch k limit allowance (suc (allowance - (rounds + 1) + level)) b level (rounds + 1))

@@ -5,6 +5,7 @@ mod rating;
 mod rounds;
 mod start;
 mod state;
+mod tried;
 
 ghost use mathlib.Core.Path.{_≡_};
 ghost use Rattle.split.specs.Find.{findOf};

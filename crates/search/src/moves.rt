@@ -3,16 +3,15 @@ ghost use mathlib.Core.Path.{_≡_};
 ghost use mathlib.Core.Bool.{true};
 ghost use Prim.Native.Nat.{ℕ, _+_, _*_, _-_, _<_, _≤_};
 ghost use lib.IntN.{ℤ, natAbs};
-ghost use Rattle.systems.specs.Systems.{memberOf, Candidate};
 ghost use Rattle.split.specs.Fold.{sumTo};
 ghost use Rattle.split.specs.Split.{SYSTEMS, cellOf, numberAt, Chosen, Sound};
 ghost use Rattle.split.specs.Move.{MOVES, squareOf, imbalanceOf, componentOf, giverOf, takerOf, movedOf, betweenOf, affordsOf, lowersOf, canOf, firstOf};
 ghost use Rattle.split.specs.Tests.{Fit};
-ghost use Rattle.split.specs.Steps.{insteadOf, numberWith};
-ghost use Rattle.search.specs.Carried.{listed, LARGEST, Small, Carried, Held, Workable};
-use super::state::number;
+ghost use Rattle.search.specs.Carried.{listed, LARGEST, Small, Carried, Held};
+ghost use Rattle.search.specs.Tried.{Tried};
 use super::state::parts;
 use super::state::size;
+use super::tried::number_tried;
 
 const COMPONENTS: usize = 4;
 
@@ -25,6 +24,9 @@ const CELLS: usize = 32;
 const PAIRS: usize = 64;
 
 const MOVES: usize = 256;
+
+// Room for a number for each cell less a stride, and for each cell and a stride more.
+const TRIES: usize = 64;
 
 // A thousandth of a methane number, in units.
 const THOUSANDTH: i64 = 10000;
@@ -103,71 +105,39 @@ fn affords(ch: &[u8; SYSTEMS], k: usize, a: &[u32; CELLS], d: u32, m: usize) -> 
     d < parts(ch, k, a, f)
 }
 
-// The cells after move m of the stride d.
-pub(crate) fn moved(a: [u32; CELLS], m: usize, d: u32) -> [u32; CELLS]
-    requires { ⌜ (m < MOVES) × (d ≤ cellOf a (giverOf m) (componentOf m)) × (cellOf a (takerOf m) (componentOf m) + d ≤ 1000000) ⌝ }
-    ensures { λ r. ⌜ r ≡ movedOf a m d ⌝ }
+// Move m of the stride d, made.
+pub(crate) fn moved(a: &mut [u32; CELLS], m: usize, d: u32)
+    requires { ⌜ (m < MOVES) × (d ≤ cellOf (now a) (giverOf m) (componentOf m)) × (cellOf (now a) (takerOf m) (componentOf m) + d ≤ 1000000) ⌝ }
+    ensures { λ _. ⌜ now (a .exit) ≡ movedOf (now (a .entry)) m d ⌝ }
 {
-    let f = m / SYSTEMS % SYSTEMS;
-    let t = m % SYSTEMS;
     let c = m / PAIRS;
-    let i = f * COMPONENTS + c;
-    let j = t * COMPONENTS + c;
+    let i = m / SYSTEMS % SYSTEMS * COMPONENTS + c;
+    let j = m % SYSTEMS * COMPONENTS + c;
     let x = a[i];
     let y = a[j];
-    let mut b = a;
-    b[i] = x - d;
-    b[j] = y + d;
-    b
+    a[i] = x - d;
+    a[j] = y + d;
 }
 
-// The amount in row s of the system's component j, where that of component c were n.
-fn instead(a: &[u32; CELLS], system: u8, s: usize, c: usize, n: u32, j: usize) -> u32
-    requires { ⌜ Candidate system × (s < SYSTEMS) × (j < 3) ⌝ }
-    ensures { λ r. ⌜ r ≡ insteadOf (now (a .entry)) s c n (memberOf system j) ⌝ }
-{
-    let e = systems::member(system, j);
-    if e == c {
-        return n;
-    }
-    let i = s * COMPONENTS + e;
-    a[i]
-}
-
-// Row s's partial number where its amount of component c were n.
-fn number_with(ch: &[u8; SYSTEMS], a: &[u32; CELLS], s: usize, c: usize, n: u32) -> i64
-    requires { ⌜ Workable (now ch) (now a) s c n ⌝ }
-    ensures { λ r. ⌜ (r ≡ numberWith (now (ch .entry)) (now (a .entry)) s c n) × (natAbs r ≤ LARGEST) ⌝ }
-{
-    let system = ch[s];
-    number(
-        system,
-        instead(a, system, s, c, n, 0),
-        instead(a, system, s, c, n, 1),
-        instead(a, system, s, c, n, 2),
-    )
-}
-
-// The partial numbers after move m: those of its two rows are worked out, the others carried.
+// The partial numbers after move m: those of its two rows are taken from the tried ones, the others carried.
 pub(crate) fn renumbered(
     ch: &[u8; SYSTEMS],
     k: usize,
     a: &[u32; CELLS],
     v: &[i64; SYSTEMS],
+    tried: &mut [i64; TRIES],
     d: u32,
     m: usize,
 ) -> [i64; SYSTEMS]
-    requires { ⌜ Held (now ch) k (now a) (now v) × Fit (now ch) k (now a) d m ⌝ }
-    ensures { λ r. ⌜ Carried (now (ch .entry)) k (movedOf (now (a .entry)) m d) r × Small r k ⌝ }
+    requires { ⌜ Held (now ch) k (now a) (now v) × Fit (now ch) k (now a) d m × Tried (now ch) k (now a) d (now tried) ⌝ }
+    ensures { λ r. ⌜ Carried (now (ch .entry)) k (movedOf (now (a .entry)) m d) r × Small r k × Tried (now (ch .entry)) k (now (a .entry)) d (now (tried .exit)) ⌝ }
 {
     let f = m / SYSTEMS % SYSTEMS;
     let t = m % SYSTEMS;
     let c = m / PAIRS;
-    let i = f * COMPONENTS + c;
-    let j = t * COMPONENTS + c;
     let mut w = *v;
-    w[f] = number_with(ch, a, f, c, a[i] - d);
-    w[t] = number_with(ch, a, t, c, a[j] + d);
+    w[f] = number_tried(ch, k, a, tried, d, f * COMPONENTS + c);
+    w[t] = number_tried(ch, k, a, tried, d, CELLS + t * COMPONENTS + c);
     w
 }
 
@@ -177,14 +147,15 @@ fn lowers(
     k: usize,
     a: &[u32; CELLS],
     v: &[i64; SYSTEMS],
+    tried: &mut [i64; TRIES],
     d: u32,
     m: usize,
     was: u64,
 ) -> bool
-    requires { ⌜ Held (now ch) k (now a) (now v) × Fit (now ch) k (now a) d m × (was ≡ imbalanceOf (numberAt (now ch) (now a)) k) ⌝ }
-    ensures { λ r. ⌜ r ≡ lowersOf (now (ch .entry)) k (now (a .entry)) d m ⌝ }
+    requires { ⌜ Held (now ch) k (now a) (now v) × Fit (now ch) k (now a) d m × (was ≡ imbalanceOf (numberAt (now ch) (now a)) k) × Tried (now ch) k (now a) d (now tried) ⌝ }
+    ensures { λ r. ⌜ (r ≡ lowersOf (now (ch .entry)) k (now (a .entry)) d m) × Tried (now (ch .entry)) k (now (a .entry)) d (now (tried .exit)) ⌝ }
 {
-    let w = renumbered(ch, k, a, v, d, m);
+    let w = renumbered(ch, k, a, v, tried, d, m);
     imbalance(&w, k) < was
 }
 
@@ -194,12 +165,13 @@ fn can(
     k: usize,
     a: &[u32; CELLS],
     v: &[i64; SYSTEMS],
+    tried: &mut [i64; TRIES],
     d: u32,
     m: usize,
     was: u64,
 ) -> bool
-    requires { ⌜ Held (now ch) k (now a) (now v) × (m < MOVES) × (was ≡ imbalanceOf (numberAt (now ch) (now a)) k) ⌝ }
-    ensures { λ r. ⌜ r ≡ canOf (now (ch .entry)) k (now (a .entry)) d m ⌝ }
+    requires { ⌜ Held (now ch) k (now a) (now v) × (m < MOVES) × (was ≡ imbalanceOf (numberAt (now ch) (now a)) k) × Tried (now ch) k (now a) d (now tried) ⌝ }
+    ensures { λ r. ⌜ (r ≡ canOf (now (ch .entry)) k (now (a .entry)) d m) × Tried (now (ch .entry)) k (now (a .entry)) d (now (tried .exit)) ⌝ }
 {
     if !between(ch, k, m) {
         return false;
@@ -207,7 +179,7 @@ fn can(
     if !affords(ch, k, a, d, m) {
         return false;
     }
-    lowers(ch, k, a, v, d, m, was)
+    lowers(ch, k, a, v, tried, d, m, was)
 }
 
 // The next number from n on whose taker is a row.
@@ -246,16 +218,17 @@ pub(crate) fn first_move(
     k: usize,
     a: &[u32; CELLS],
     v: &[i64; SYSTEMS],
+    tried: &mut [i64; TRIES],
     d: u32,
 ) -> usize
-    requires { ⌜ Held (now ch) k (now a) (now v) ⌝ }
-    ensures { λ r. ⌜ r ≡ firstOf (now (ch .entry)) k (now (a .entry)) d ⌝ }
+    requires { ⌜ Held (now ch) k (now a) (now v) × Tried (now ch) k (now a) d (now tried) ⌝ }
+    ensures { λ r. ⌜ (r ≡ firstOf (now (ch .entry)) k (now (a .entry)) d) × Tried (now (ch .entry)) k (now (a .entry)) d (now (tried .exit)) ⌝ }
 {
     let was = imbalance(v, k);
     let mut best = MOVES;
     let mut m = 0;
     while m < best {
-        if can(ch, k, a, v, d, m, was) {
+        if can(ch, k, a, v, tried, d, m, was) {
             best = m;
         }
         m = next_giver(k, next_taker(k, m + 1));

@@ -2,13 +2,18 @@
 ghost use mathlib.Core.Path.{_≡_};
 ghost use Prim.Native.Nat.{_<_, _≤_, _^_};
 ghost use Rattle.split.specs.Split.{Sound};
+ghost use Rattle.split.specs.Move.{movedOf};
+ghost use Rattle.split.specs.Tests.{Fit};
 ghost use Rattle.split.specs.Search.{LEVEL, goOn, turnOf, searchOf};
 ghost use Rattle.search.specs.Carried.{Held};
+ghost use Rattle.search.specs.Tried.{Tried};
 use super::moves::first_move;
 use super::moves::moved;
 use super::moves::renumbered;
 use super::state::numbers;
 use super::state::spread;
+use super::tried::forget;
+use super::tried::none_known;
 use split::Found;
 use split::Search;
 use split::Turn;
@@ -21,6 +26,9 @@ const SYSTEMS: usize = 8;
 const CELLS: usize = 32;
 
 const MOVES: usize = 256;
+
+// Room for a number for each cell less a stride, and for each cell and a stride more.
+const TRIES: usize = 64;
 
 // The stride of a level.
 fn stride(level: usize) -> u32
@@ -51,11 +59,12 @@ fn next_turn(
     allowance: u32,
     a: &[u32; CELLS],
     v: &[i64; SYSTEMS],
+    tried: &mut [i64; TRIES],
     level: usize,
     rounds: u32,
 ) -> Turn
-    requires { ⌜ Held (now ch) k (now a) (now v) × (level ≤ LEVEL) ⌝ }
-    ensures { λ r. ⌜ r ≡ turnOf (now (ch .entry)) k limit allowance (now (a .entry)) level rounds ⌝ }
+    requires { ⌜ Held (now ch) k (now a) (now v) × (level ≤ LEVEL) × Tried (now ch) k (now a) (2 ^ level) (now tried) ⌝ }
+    ensures { λ r. ⌜ (r ≡ turnOf (now (ch .entry)) k limit allowance (now (a .entry)) level rounds) × Tried (now (ch .entry)) k (now (a .entry)) (2 ^ level) (now (tried .exit)) ⌝ }
 {
     let s = spread(v, k);
     if s <= limit {
@@ -65,8 +74,27 @@ fn next_turn(
         return Turn::Refuse;
     }
     let d = stride(level);
-    let m = first_move(ch, k, a, v, d);
+    let m = first_move(ch, k, a, v, tried, d);
     go_on(level, m)
+}
+
+// Move m of the stride d made: the cells after it, with their partial numbers and what is still known of tries.
+fn make(
+    ch: &[u8; SYSTEMS],
+    k: usize,
+    a: &mut [u32; CELLS],
+    v: &mut [i64; SYSTEMS],
+    tried: &mut [i64; TRIES],
+    d: u32,
+    m: usize,
+)
+    requires { ⌜ Held (now ch) k (now a) (now v) × Fit (now ch) k (now a) d m × Tried (now ch) k (now a) d (now tried) ⌝ }
+    ensures { λ _. ⌜ (now (a .exit) ≡ movedOf (now (a .entry)) m d) × Held (now (ch .entry)) k (now (a .exit)) (now (v .exit)) × Tried (now (ch .entry)) k (now (a .exit)) d (now (tried .exit)) ⌝ }
+{
+    *v = renumbered(ch, k, a, v, tried, d, m);
+    forget(tried, m / SYSTEMS % SYSTEMS);
+    forget(tried, m % SYSTEMS);
+    moved(a, m, d);
 }
 
 // The search from a split: a move counts a round, halving the stride does not.
@@ -83,10 +111,11 @@ pub(crate) fn search(
 {
     let mut a = start;
     let mut v = numbers(ch, k, &a);
+    let mut tried = none_known();
     let mut level = first;
     let mut rounds: u32 = 0;
     loop {
-        let t = next_turn(ch, k, limit, allowance, &a, &v, level, rounds);
+        let t = next_turn(ch, k, limit, allowance, &a, &v, &mut tried, level, rounds);
         match t {
             Turn::Rate(s) => {
                 return Found {
@@ -102,12 +131,12 @@ pub(crate) fn search(
             }
             Turn::Move(m) => {
                 let d = stride(level);
-                v = renumbered(ch, k, &a, &v, d, m);
-                a = moved(a, m, d);
+                make(ch, k, &mut a, &mut v, &mut tried, d, m);
                 rounds += 1;
             }
             Turn::Halve => {
                 level -= 1;
+                tried = none_known();
             }
         }
     }

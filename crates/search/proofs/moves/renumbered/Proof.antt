@@ -1,101 +1,76 @@
-use native.Mathlib.Omega.{arith}
-use Prim.Native.Nat.{ℕ, zero, suc, _+_, _*_, _-_, _/_, _%_, _^_, _≤_, _<_}
+use Rattle.search.proofs.Trials.{renumber-ok}
+use Rattle.search.proofs.Tries.{giver-triable, giver-wanted, taker-triable, taker-wanted}
 use mathlib.Core.Path.{_≡_, refl, sym, ap, ap₂, _∙_}
+use Prim.Native.Nat.{ℕ, zero, suc, _+_, _*_, _-_, _/_, _%_, _^_, _≤_, _<_}
+use native.Mathlib.Omega.{arith}
 use borrow.Author.Needs.{needs}
-use Rattle.search.proofs.Trials.{giver-workable, taker-workable, renumber-ok}
-use Rattle.split.specs.Steps.{may-move}
 use Rattle.search.proofs.moves.renumbered.Statement.{statement}
 use Rattle.search.proofs.moves.renumbered.Tie as tie
 use Rattle.search.proofs.moves.renumbered.Reads as reads
 use Rattle.search.proofs.moves.renumbered.Lts as lts
-use Rattle.search.proofs.moves.number_with.Reads as number-with-reads
+use Rattle.search.proofs.tried.number_tried.Reads as number-tried-reads
 
--- src/moves.rt:162:13
-mul-i : tie.Need-mul-i
-mul-i c = search needs
+-- src/moves.rt:143:45
+mul-number-tried : tie.Need-mul-number-tried
+mul-number-tried c = search needs
 
--- src/moves.rt:162:13
-add-i : tie.Need-add-i
-add-i c = search needs
+-- src/moves.rt:143:45
+add-number-tried : tie.Need-add-number-tried
+add-number-tried c = search needs
 
--- src/moves.rt:163:13
-mul-j : tie.Need-mul-j
-mul-j c = search needs
+-- src/moves.rt:143:12
+number-tried-requires : tie.Need-number-tried-requires
+number-tried-requires c κs = (giver-triable _ _ _ _ _ (c .before .before .pre .0 .sound) (c .before .before .pre .1), c .before .before .pre .2)
 
--- src/moves.rt:163:13
-add-j : tie.Need-add-j
-add-j c = search needs
-
--- src/moves.rt:165:37
-mul-number-with : tie.Need-mul-number-with
-mul-number-with c = search needs
-
--- src/moves.rt:165:37
-element-copy-out-number-with : tie.Need-element-copy-out-number-with
-element-copy-out-number-with c = search needs
-
--- src/moves.rt:165:37
-sub-number-with : tie.Need-sub-number-with
-sub-number-with c = may-move _ _ _ _ _ (c .before .before .pre .0 .sound) (c .before .before .pre .1) .1
-
--- src/moves.rt:165:12
-number-with-requires : tie.Need-number-with-requires
-number-with-requires c κs = giver-workable _ _ _ _ _ (c .before .before .pre .0 .sound) (c .before .before .pre .1)
-
--- src/moves.rt:165:5
+-- src/moves.rt:143:5
 mul-w : tie.Need-mul-w
 mul-w c = search needs
 
--- src/moves.rt:165:5
+-- src/moves.rt:143:5
 array-set-from-w : tie.Need-array-set-from-w
 array-set-from-w c = search needs
 
--- src/moves.rt:166:37
-mul-number-with-2 : tie.Need-mul-number-with-2
-mul-number-with-2 c = search needs
+-- src/moves.rt:144:53
+mul-number-tried-2 : tie.Need-mul-number-tried-2
+mul-number-tried-2 c = search needs
 
--- src/moves.rt:166:37
-element-copy-out-number-with-2 : tie.Need-element-copy-out-number-with-2
-element-copy-out-number-with-2 c = search needs
+-- src/moves.rt:144:45
+add-number-tried-2 : tie.Need-add-number-tried-2
+add-number-tried-2 c = search needs
 
--- src/moves.rt:166:37
-add-number-with : tie.Need-add-number-with
-add-number-with c = omega (arith, may-move _ _ _ _ _ (c .before .before .before .before .pre .0 .sound) (c .before .before .before .before .pre .1) .2)
+-- src/moves.rt:144:45
+add-number-tried-3 : tie.Need-add-number-tried-3
+add-number-tried-3 c = search needs
 
--- src/moves.rt:166:12
-number-with-requires-2 : tie.Need-number-with-requires-2
-number-with-requires-2 c κs = taker-workable _ _ _ _ _ (c .before .before .before .before .pre .0 .sound) (c .before .before .before .before .pre .1)
+-- src/moves.rt:144:12
+number-tried-requires-2 : tie.Need-number-tried-requires-2
+number-tried-requires-2 c κs = (taker-triable _ _ _ _ _ (c .before .before .before .before .pre .0 .sound) (c .before .before .before .before .pre .1), c .before .number-tried .ensures .2)
 
--- src/moves.rt:166:5
+-- src/moves.rt:144:5
 mul-w-2 : tie.Need-mul-w-2
 mul-w-2 c = search needs
 
--- src/moves.rt:166:5
+-- src/moves.rt:144:5
 array-set-from-w-2 : tie.Need-array-set-from-w-2
 array-set-from-w-2 c = search needs
 
--- src/moves.rt:148:1
+-- src/moves.rt:127:1
 returns : tie.Need-returns
-returns c = renumber-ok _ _ _ _ (c .before .before .before .before .before .args .m) (c .before .before .before .before .before .pre .0 .sound) (c .before .before .before .before .before .pre .1) (c .before .before .before .before .before .args .v .now) _ _ (c .before .before .before .before .before .pre .0 .carried) (c .before .before .before .before .before .pre .0 .small) (c .before .before .number-with .ensures) (c .number-with2 .ensures)
+returns c = let x = c .before .before .number-tried .ensures in let y = c .number-tried2 .ensures in let r = renumber-ok _ _ _ _ (c .before .before .before .before .before .args .m) (c .before .before .before .before .before .pre .0 .sound) (c .before .before .before .before .before .pre .1) (c .before .before .before .before .before .args .v .now) _ _ (c .before .before .before .before .before .pre .0 .carried) (c .before .before .before .before .before .pre .0 .small) (giver-wanted _ _ _ _ (c .before .before .before .before .before .args .m) (c .before .before .before .before .before .pre .0 .sound) (c .before .before .before .before .before .pre .1) _ (x .0, x .1)) (taker-wanted _ _ _ _ (c .before .before .before .before .before .args .m) (c .before .before .before .before .before .pre .0 .sound) (c .before .before .before .before .before .pre .1) _ (y .0, y .1)) in (r .0, r .1, y .2)
 
 pub renumbered-spec : {M : Type 1} → statement M
 renumbered-spec =
     tie.close
     (tie.spec
-    mul-i
-    add-i
-    mul-j
-    add-j
-    mul-number-with
-    element-copy-out-number-with
-    sub-number-with
-    number-with-requires
+    mul-number-tried
+    add-number-tried
+    number-tried-requires
     mul-w
     array-set-from-w
-    mul-number-with-2
-    element-copy-out-number-with-2
-    add-number-with
-    number-with-requires-2
+    mul-number-tried-2
+    add-number-tried-2
+    add-number-tried-3
+    number-tried-requires-2
     mul-w-2
     array-set-from-w-2
     returns)

@@ -4,11 +4,11 @@ use mathlib.Core.Path.{_≡_, refl, sym, ap, ap₂, _∙_}
 use borrow.Author.Needs.{needs}
 use Rattle.search.proofs.Trials.{number-picked, may-pick}
 use Rattle.search.proofs.Machine.{pass}
-use Rattle.search.proofs.moves.number_with.Statement.{statement}
-use Rattle.search.proofs.moves.number_with.Tie as tie
-use Rattle.search.proofs.moves.number_with.Reads as reads
-use Rattle.search.proofs.moves.number_with.Lts as lts
-use Rattle.search.proofs.moves.instead.Reads as instead-reads
+use Rattle.search.proofs.tried.number_with.Statement.{statement}
+use Rattle.search.proofs.tried.number_with.Tie as tie
+use Rattle.search.proofs.tried.number_with.Reads as reads
+use Rattle.search.proofs.tried.number_with.Lts as lts
+use Rattle.search.proofs.tried.instead.Reads as instead-reads
 use Rattle.search.proofs.state.number.Reads as number-reads
 
 -- src/moves.rt:138:18

@@ -4,10 +4,10 @@ use mathlib.Core.Path.{_≡_, refl, sym, ap, ap₂, _∙_}
 use borrow.Author.Needs.{needs}
 use Rattle.systems.specs.Members.{member-lt}
 use Rattle.search.proofs.Trials.{instead-here, instead-there}
-use Rattle.search.proofs.moves.instead.Statement.{statement}
-use Rattle.search.proofs.moves.instead.Tie as tie
-use Rattle.search.proofs.moves.instead.Reads as reads
-use Rattle.search.proofs.moves.instead.Lts as lts
+use Rattle.search.proofs.tried.instead.Statement.{statement}
+use Rattle.search.proofs.tried.instead.Tie as tie
+use Rattle.search.proofs.tried.instead.Reads as reads
+use Rattle.search.proofs.tried.instead.Lts as lts
 use Rattle.systems.proofs.member.Reads as member-reads
 
 -- src/moves.rt:125:9

@@ -1,0 +1,231 @@
+-- The numbers that tries lead to: worked out, kept, forgotten.
+use Prim.Native.Nat.{ℕ, zero, suc, _+_, _*_, _-_, _/_, _%_, _≤_, _<_}
+use mathlib.Core.Path.{_≡_, refl, sym, ap, ap₂, _∙_}
+use mathlib.Core.Bool.{Bool, true, false, cond}
+use mathlib.Core.List.{List}
+use native.Mathlib.Nat as N
+use native.Mathlib.Omega.{arith}
+use lib.Dec.{eqb, ltb, lit≤}
+use lib.IntN.{ℤ, pos, natAbs}
+use lib.ListN.{length, getD, set, length-set, replicate, length-replicate, getD-replicate}
+use lib.Seq.{getD-set-same, getD-set-other}
+use mir.Syntax.{w64}
+use mir.Val.{toZ, ofZ}
+use borrow.Author.Tests.{eqb-true, eqb-false, lt-ltb, le-ltb, ltb-true, ltb-false}
+use Rattle.systems.specs.Systems.{COMPONENTS, memberOf}
+use Rattle.split.specs.Split.{SYSTEMS, CELLS, cellOf, systemOf, Sound}
+use Rattle.split.specs.Move.{MOVES, componentOf, giverOf, takerOf, shift, movedOf}
+use Rattle.split.specs.Members.{Three, three}
+use Rattle.split.specs.Moves.{cell-row}
+use Rattle.split.specs.Tests.{Fit, Between, Affords}
+use Rattle.split.specs.Steps.{insteadOf, numberWith, bt, af, component-low, may-move}
+use Rattle.search.specs.Carried.{listed, LARGEST, Workable}
+use Rattle.search.specs.Tried.{TRIES, UNKNOWN, rowOf, columnIn, triedOf, wantedOf, Tried, Triable, Forgot}
+use Rattle.search.proofs.Machine.{back, pass}
+use Rattle.search.proofs.Trials.{giver-workable, taker-workable}
+
+-- the amount that a try leads to
+pub less-is : (a : List ℕ) (d i : ℕ) → i < CELLS → getD a i 0 - d ≡ triedOf a d i
+unfolding triedOf
+less-is a d i h = rw (lt-ltb i CELLS h)
+
+pub more-is : (a : List ℕ) (d i : ℕ) → CELLS ≤ i → getD a (i - CELLS) 0 + d ≡ triedOf a d i
+unfolding triedOf
+more-is a d i h = rw (le-ltb i CELLS h)
+
+-- its number, worked out
+module _ (ch : List ℕ) (k : ℕ) (a : List ℕ) (d i n : ℕ) (e : n ≡ triedOf a d i) where
+  pub may-work : Triable ch k a d i → Workable ch a (rowOf i) (columnIn i) n
+  may-work h = rw e (h .workable)
+
+  pub worked : (z : ℤ) → (z ≡ numberWith ch a (rowOf i) (columnIn i) n) × (natAbs z ≤ LARGEST) → (toZ w64 (ofZ w64 z) ≡ wantedOf ch a d i) × (natAbs (toZ w64 (ofZ w64 z)) ≤ LARGEST)
+  unfolding wantedOf
+  worked z p = pass z (wantedOf ch a d i) (p .0 ∙ ap (numberWith ch a (rowOf i) (columnIn i)) e) (p .1)
+
+-- a number that is known, and one that is put
+module _ (ch : List ℕ) (k : ℕ) (a : List ℕ) (d : ℕ) (t : List ℤ) (kt : Tried ch k a d t) (i : ℕ) (h : Triable ch k a d i) where
+  pub known-is : (ofZ w64 (listed t i) ≡ 4000000000000 → ⊥)
+      → (toZ w64 (ofZ w64 (listed t i)) ≡ wantedOf ch a d i) × (natAbs (toZ w64 (ofZ w64 (listed t i))) ≤ LARGEST) × Tried ch k a d t
+  known-is u =
+      let p = kt .known i (h .below) (h .row) (λ e. u (ap (ofZ w64) e)) in
+      let q = pass (listed t i) (wantedOf ch a d i) (p .0) (p .1) in
+      (q .0, q .1, kt)
+
+  module _ (y : ℤ) (p : (y ≡ wantedOf ch a d i) × (natAbs y ≤ LARGEST)) where
+    put-known : (j : ℕ) → j < TRIES → rowOf j < k → (listed (set t i y) j ≡ UNKNOWN → ⊥) → (listed (set t i y) j ≡ wantedOf ch a d j) × (natAbs (listed (set t i y) j) ≤ LARGEST)
+    put-known j l r u = go (eqb j i) refl
+      where
+        go : (b : Bool) → eqb j i ≡ b → (listed (set t i y) j ≡ wantedOf ch a d j) × (natAbs (listed (set t i y) j) ≤ LARGEST)
+        go true e = rw (eqb-true j i e, getD-set-same t i y (pos 0) (omega (arith, kt .long, h .below))) p
+        go false e =
+            let o = getD-set-other t i j y (pos 0) (eqb-false j i e) in
+            rw o (kt .known j l r (λ v. u (o ∙ v)))
+
+    put-tried : Tried ch k a d (set t i y)
+    put-tried = record { long = simp length-set (kt .long); known = put-known }
+
+    pub put-is : (toZ w64 (ofZ w64 y) ≡ wantedOf ch a d i) × (natAbs (toZ w64 (ofZ w64 y)) ≤ LARGEST) × Tried ch k a d (set t i (toZ w64 (ofZ w64 y)))
+    put-is =
+        let b : toZ w64 (ofZ w64 y) ≡ y = back y (N.le-trans (p .1) (lit≤ tt)) in
+        rw b (p .0, p .1, put-tried)
+
+-- the stride under another name
+pub tried-as : (ch : List ℕ) (k : ℕ) (a : List ℕ) (d e : ℕ) (t : List ℤ) → d ≡ e → Tried ch k a e t → Tried ch k a d t
+tried-as ch k a d e t p h = rw p h
+
+-- nothing is known yet
+pub none-tried : (ch : List ℕ) (k : ℕ) (a : List ℕ) (d : ℕ) → Tried ch k a d (replicate TRIES UNKNOWN)
+none-tried ch k a d = record {
+  long = length-replicate TRIES UNKNOWN;
+  known = λ i h r u. absurd (u (getD-replicate TRIES i UNKNOWN (pos 0) h));
+}
+
+pub none-is : (ch : List ℕ) (k : ℕ) (a : List ℕ) (d : ℕ) (t : List ℤ) → t ≡ replicate TRIES UNKNOWN → Tried ch k a d t
+none-is ch k a d t e = rw e (none-tried ch k a d)
+
+-- the two tries of a move that may be made
+module _ (ch : List ℕ) (k : ℕ) (a : List ℕ) (d m : ℕ) (so : Sound ch k a) (fit : Fit ch k a d m) where
+  low : componentOf m < COMPONENTS
+  low = component-low ch k a d m so fit
+
+  giver-row : rowOf (giverOf m * COMPONENTS + componentOf m) ≡ giverOf m
+  giver-row = omega (arith, low)
+
+  giver-column : columnIn (giverOf m * COMPONENTS + componentOf m) ≡ componentOf m
+  giver-column = omega (arith, low)
+
+  giver-below : giverOf m * COMPONENTS + componentOf m < CELLS
+  giver-below = omega (arith, low)
+
+  pub giver-triable : Triable ch k a d (giverOf m * COMPONENTS + componentOf m)
+  giver-triable = record {
+    below = omega (arith, giver-below);
+    row = rw giver-row (bt ch k a d m so fit .from);
+    had = λ l. may-move ch k a d m so fit .1;
+    room = λ l. absurd (omega (arith, giver-below));
+    workable = rw (giver-row, giver-column, sym (less-is a d (giverOf m * COMPONENTS + componentOf m) giver-below)) (giver-workable ch k a d m so fit);
+  }
+
+  pub giver-wanted : (x : ℤ) → (x ≡ wantedOf ch a d (giverOf m * COMPONENTS + componentOf m)) × (natAbs x ≤ LARGEST)
+      → (x ≡ numberWith ch a (giverOf m) (componentOf m) (cellOf a (giverOf m) (componentOf m) - d)) × (natAbs x ≤ LARGEST)
+  unfolding wantedOf
+  giver-wanted x p = (p .0 ∙ rw (giver-row, giver-column, sym (less-is a d (giverOf m * COMPONENTS + componentOf m) giver-below)), p .1)
+
+  taker-row : rowOf (CELLS + takerOf m * COMPONENTS + componentOf m) ≡ takerOf m
+  taker-row = omega (arith, low)
+
+  taker-column : columnIn (CELLS + takerOf m * COMPONENTS + componentOf m) ≡ componentOf m
+  taker-column = omega (arith, low)
+
+  taker-cell : CELLS + takerOf m * COMPONENTS + componentOf m - CELLS ≡ takerOf m * COMPONENTS + componentOf m
+  taker-cell = omega arith
+
+  taker-amount : triedOf a d (CELLS + takerOf m * COMPONENTS + componentOf m) ≡ cellOf a (takerOf m) (componentOf m) + d
+  taker-amount = sym (more-is a d (CELLS + takerOf m * COMPONENTS + componentOf m) (omega arith)) ∙ ap (λ i. getD a i 0 + d) taker-cell
+
+  pub taker-triable : Triable ch k a d (CELLS + takerOf m * COMPONENTS + componentOf m)
+  taker-triable = record {
+    below = omega (arith, low);
+    row = rw taker-row (bt ch k a d m so fit .to);
+    had = λ l. absurd (omega (arith, l));
+    room = λ l. rw taker-cell (may-move ch k a d m so fit .2);
+    workable = rw (taker-row, taker-column, taker-amount) (taker-workable ch k a d m so fit);
+  }
+
+  pub taker-wanted : (x : ℤ) → (x ≡ wantedOf ch a d (CELLS + takerOf m * COMPONENTS + componentOf m)) × (natAbs x ≤ LARGEST)
+      → (x ≡ numberWith ch a (takerOf m) (componentOf m) (cellOf a (takerOf m) (componentOf m) + d)) × (natAbs x ≤ LARGEST)
+  unfolding wantedOf
+  taker-wanted x p = (p .0 ∙ rw (taker-row, taker-column, taker-amount), p .1)
+
+  -- the tries of the other rows lead to the same numbers after the move
+  module _ (s : ℕ) (l : s < k) (p : s ≡ giverOf m → ⊥) (q : s ≡ takerOf m → ⊥) where
+    other : (e : ℕ) → e < COMPONENTS → cellOf (movedOf a m d) s e ≡ cellOf a s e
+    unfolding movedOf
+    other e h = cell-row a (giverOf m) (takerOf m) (componentOf m) d (so .stock .long) (omega arith) (omega arith) low (bt ch k a d m so fit .apart) s e h p q
+
+    with-other : (c n : ℕ) → numberWith ch (movedOf a m d) s c n ≡ numberWith ch a s c n
+    unfolding numberWith
+    with-other c n =
+        let w = three (systemOf ch s) (so .stock .chosen .known s l) in
+        rw (other (memberOf (systemOf ch s) 0) (w .low0), other (memberOf (systemOf ch s) 1) (w .low1), other (memberOf (systemOf ch s) 2) (w .low2))
+
+  module _ (i : ℕ) (h : i < TRIES) (l : rowOf i < k) (p : rowOf i ≡ giverOf m → ⊥) (q : rowOf i ≡ takerOf m → ⊥) where
+    same-cell : cellOf (movedOf a m d) (rowOf i) (columnIn i) ≡ cellOf a (rowOf i) (columnIn i)
+    same-cell = other (rowOf i) l p q (columnIn i) (omega arith)
+
+    same-amount : triedOf (movedOf a m d) d i ≡ triedOf a d i
+    unfolding triedOf
+    same-amount = go (ltb i CELLS) refl
+      where
+        go : (b : Bool) → ltb i CELLS ≡ b → triedOf (movedOf a m d) d i ≡ triedOf a d i
+        go true e =
+            let z : rowOf i * COMPONENTS + columnIn i ≡ i = omega (arith, ltb-true i CELLS e) in
+            rw e (ap (λ x. x - d) (rw z at same-cell))
+        go false e =
+            let z : rowOf i * COMPONENTS + columnIn i ≡ i - CELLS = omega (arith, h, ltb-false i CELLS e) in
+            rw e (ap (λ x. x + d) (rw z at same-cell))
+
+    pub same-wanted : wantedOf ch (movedOf a m d) d i ≡ wantedOf ch a d i
+    unfolding wantedOf
+    same-wanted = with-other (rowOf i) l p q (columnIn i) (triedOf (movedOf a m d) d i) ∙ ap (numberWith ch a (rowOf i) (columnIn i)) same-amount
+
+  -- after a move, with its two rows forgotten
+  module _ (t u v : List ℤ) (kt : Tried ch k a d t) (fu : Forgot t (giverOf m) u) (fv : Forgot u (takerOf m) v) where
+    pub tried-after : Tried ch k (movedOf a m d) d v
+    tried-after = record { long = fv .long; known = known }
+      where
+        known : (i : ℕ) → i < TRIES → rowOf i < k → (listed v i ≡ UNKNOWN → ⊥) → (listed v i ≡ wantedOf ch (movedOf a m d) d i) × (natAbs (listed v i) ≤ LARGEST)
+        known i h l z = go (eqb (rowOf i) (takerOf m)) (eqb (rowOf i) (giverOf m)) refl refl
+          where
+            go : (x y : Bool) → eqb (rowOf i) (takerOf m) ≡ x → eqb (rowOf i) (giverOf m) ≡ y → (listed v i ≡ wantedOf ch (movedOf a m d) d i) × (natAbs (listed v i) ≤ LARGEST)
+            go true y e f = absurd (z (fv .gone i h (eqb-true _ _ e)))
+            go false true e f = absurd (z (fv .kept i h (eqb-false _ _ e) ∙ fu .gone i h (eqb-true _ _ f)))
+            go false false e f =
+                let o = fv .kept i h (eqb-false _ _ e) ∙ fu .kept i h (eqb-false _ _ f) in
+                let p = kt .known i h l (λ w. z (o ∙ w)) in
+                (o ∙ p .0 ∙ sym (same-wanted i h l (eqb-false _ _ f) (eqb-false _ _ e)), rw o (p .1))
+
+-- forgetting a row, component by component
+abbrev pub Going : List ℤ → ℕ → List ℤ → ℕ → Type 0
+Going t s u c =
+    (length u ≡ TRIES) × (c ≤ COMPONENTS) × ((i : ℕ) → i < TRIES → rowOf i ≡ s → columnIn i < c → listed u i ≡ UNKNOWN) × ((i : ℕ) → i < TRIES → (rowOf i ≡ s → ⊥) → listed u i ≡ listed t i)
+
+module _ (t : List ℤ) (s : ℕ) (low : s < SYSTEMS) where
+  pub going-starts : length t ≡ TRIES → Going t s t 0
+  going-starts h = (h, omega arith, λ i l r x. absurd (omega arith), λ i l r. refl)
+
+  pub going-ends : (u : List ℤ) (c : ℕ) → Going t s u c → COMPONENTS ≤ c → Forgot t s u
+  going-ends u c g h = record { long = g .0; gone = λ i l r. g .2 i l r (omega arith); kept = g .3 }
+
+  module _ (u : List ℤ) (c : ℕ) (g : Going t s u c) (h : c < COMPONENTS) where
+    abbrev first : ℕ
+    first = s * COMPONENTS + c
+
+    abbrev second : ℕ
+    second = CELLS + (s * COMPONENTS + c)
+
+    abbrev next : List ℤ
+    next = set (set u first UNKNOWN) second UNKNOWN
+
+    long-first : length (set u first UNKNOWN) ≡ TRIES
+    long-first = simp length-set (g .0)
+
+    at-second : listed next second ≡ UNKNOWN
+    at-second = getD-set-same (set u first UNKNOWN) second UNKNOWN (pos 0) (omega (arith, long-first, low, h))
+
+    at-first : listed next first ≡ UNKNOWN
+    at-first = getD-set-other (set u first UNKNOWN) second first UNKNOWN (pos 0) (λ e. absurd (omega (arith, e))) ∙ getD-set-same u first UNKNOWN (pos 0) (omega (arith, g .0, low, h))
+
+    at-other : (i : ℕ) → (i ≡ first → ⊥) → (i ≡ second → ⊥) → listed next i ≡ listed u i
+    at-other i p q = getD-set-other (set u first UNKNOWN) second i UNKNOWN (pos 0) q ∙ getD-set-other u first i UNKNOWN (pos 0) p
+
+    pub going-on : Going t s next (c + 1)
+    going-on = (simp length-set (g .0), omega arith, gone, λ i l r. at-other i (λ e. r (omega (arith, low, h, e))) (λ e. r (omega (arith, low, h, e))) ∙ g .3 i l r)
+      where
+        gone : (i : ℕ) → i < TRIES → rowOf i ≡ s → columnIn i < c + 1 → listed next i ≡ UNKNOWN
+        gone i l r x = go (eqb i second) (eqb i first) refl refl
+          where
+            go : (y z : Bool) → eqb i second ≡ y → eqb i first ≡ z → listed next i ≡ UNKNOWN
+            go true z e f = rw (eqb-true i second e) at-second
+            go false true e f = rw (eqb-true i first f) at-first
+            go false false e f = at-other i (eqb-false i first f) (eqb-false i second e) ∙ g .2 i l r (omega (arith, eqb-false i first f, eqb-false i second e, low, h, x, r, l))
