@@ -33,3 +33,5 @@ pub mod Records
 pub mod Proposed
 pub mod PutBack
 pub mod Example
+pub mod Downs
+pub mod Candidates

@@ -1,4 +1,4 @@
--- Signed numbers and their bits.
+-- Signed numbers and their bits. Assumes nothing.
 use mathlib.Core.Path.{_≡_, refl, sym, ap, ap₂, _∙_, subst}
 use mathlib.Core.Bool.{Bool, true, false}
 use Prim.Native.Nat.{ℕ, zero, suc, _+_, _*_, _/_, _^_, _≤_, _<_}
@@ -14,7 +14,7 @@ use mir.ValLaws.{toZ-ofZ, toZ-pos}
 use Rattle.integer.specs.Ring.{mag-le, natAbs--, natAbs-quot}
 use mathlib.Core.List.{List}
 use Rattle.split.specs.Move.{squareOf}
-use Rattle.search.specs.Carried.{listed, Small}
+use Rattle.rows.specs.Rows.{listed, Small}
 
 pub sfits-small : (z : ℤ) → natAbs z ≤ 2000000000000000000 → SFits w64 z
 sfits-small z h = record { sfits = N.lt-of-le-of-lt (N.le-trans (mag-le z) h) (lit< tt) }

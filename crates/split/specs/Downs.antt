@@ -1,0 +1,43 @@
+-- Tests of each number below n, made from the last down. Assumes nothing.
+use Prim.Native.Nat.{ℕ, zero, suc, _+_, _-_, _≤_, _<_}
+use mathlib.Core.Path.{_≡_, refl, sym, ap, _∙_}
+use mathlib.Core.Bool.{Bool, true, false}
+use native.Mathlib.Omega.{arith}
+use Rattle.split.specs.Fold.{allTo, someTo}
+
+module _ (p : ℕ → Bool) (n i : ℕ) where
+  pub all-next : 0 < i → p (i - 1) ≡ true → allTo p n ≡ allTo p i → allTo p n ≡ allTo p (i - 1)
+  unfolding allTo
+  all-next h e z =
+      let q : i ≡ suc (i - 1) = omega arith in
+      z ∙ ap (allTo p) q ∙ rw e
+
+  pub all-false : 0 < i → p (i - 1) ≡ false → allTo p n ≡ allTo p i → false ≡ allTo p n
+  unfolding allTo
+  all-false h e z =
+      let q : i ≡ suc (i - 1) = omega arith in
+      sym (z ∙ ap (allTo p) q ∙ rw e)
+
+  pub all-end : i ≤ 0 → allTo p n ≡ allTo p i → true ≡ allTo p n
+  unfolding allTo
+  all-end h z =
+      let q : i ≡ 0 = omega arith in
+      sym (z ∙ ap (allTo p) q)
+
+  pub some-next : 0 < i → p (i - 1) ≡ false → someTo p n ≡ someTo p i → someTo p n ≡ someTo p (i - 1)
+  unfolding someTo
+  some-next h e z =
+      let q : i ≡ suc (i - 1) = omega arith in
+      z ∙ ap (someTo p) q ∙ rw e
+
+  pub some-true : 0 < i → p (i - 1) ≡ true → someTo p n ≡ someTo p i → true ≡ someTo p n
+  unfolding someTo
+  some-true h e z =
+      let q : i ≡ suc (i - 1) = omega arith in
+      sym (z ∙ ap (someTo p) q ∙ rw e)
+
+  pub some-end : i ≤ 0 → someTo p n ≡ someTo p i → false ≡ someTo p n
+  unfolding someTo
+  some-end h z =
+      let q : i ≡ 0 = omega arith in
+      sym (z ∙ ap (someTo p) q)
