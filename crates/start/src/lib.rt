@@ -1,0 +1,167 @@
+// Whether an input can be worked on, and the split that a search begins with. No public function has a `requires`.
+ghost use mathlib.Core.Path.{_≡_};
+ghost use mathlib.Core.Bool.{cond};
+ghost use Prim.Native.Nat.{_+_, _/_, _%_, _<_, _≤_, max, min};
+ghost use lib.Dec.{ltb};
+ghost use lib.ListN.{getD};
+ghost use Rattle.systems.specs.Systems.{COMPONENTS, candidates, elem, hasOf};
+ghost use Rattle.split.specs.Fold.{sumTo, allTo};
+ghost use Rattle.split.specs.Split.{SYSTEMS, systemOf, both};
+ghost use Rattle.split.specs.Start.{sharersOf, startOf};
+ghost use Rattle.split.specs.Find.{chosenFit, mixtureFit};
+ghost use Rattle.start.specs.Column.{partOf, columnTo, sharedOf};
+use systems::Choice;
+
+const COMPONENTS: usize = 4;
+
+const SYSTEMS: usize = 8;
+
+// A row of COMPONENTS cells for each of the SYSTEMS rows.
+const CELLS: usize = 32;
+
+// The most parts that a mixture has.
+const MILLION: u64 = 1000000;
+
+// System numbers are below this one.
+const NUMBERS: u8 = 9;
+
+// The components that a system contains: a hexadecimal digit for each system number, from the right, a bit for each component.
+const CONTAINED: u64 = 0xbd0070e00;
+
+fn wide(x: u32) -> u64
+    ensures { λ r. ⌜ (r ≡ x) × (r ≤ 4294967295) ⌝ }
+{
+    x as u64
+}
+
+// The parts of a mixture.
+fn total(mix: &[u32; COMPONENTS]) -> u64
+    ensures { λ r. ⌜ r ≡ sumTo (λ c. getD (now (mix .entry)) c 0) COMPONENTS ⌝ }
+{
+    wide(mix[0]) + wide(mix[1]) + wide(mix[2]) + wide(mix[3])
+}
+
+// Whether a system can be chosen: those and no others have components.
+fn is_candidate(system: u8) -> bool
+    ensures { λ r. ⌜ r ≡ elem system candidates ⌝ }
+{
+    systems::member(system, 0) < COMPONENTS
+}
+
+// Whether each of the first k systems can be chosen.
+fn all_candidates(ch: &[u8; SYSTEMS], k: usize) -> bool
+    requires { ⌜ k ≤ SYSTEMS ⌝ }
+    ensures { λ r. ⌜ r ≡ allTo (λ s. elem (systemOf (now (ch .entry)) s) candidates) k ⌝ }
+{
+    let mut s = k;
+    while 0 < s {
+        s -= 1;
+        if !is_candidate(ch[s]) {
+            return false;
+        }
+    }
+    true
+}
+
+// Whether a mixture has a million parts at most and its chosen systems are candidates that there is room for.
+pub fn fit(mix: [u32; COMPONENTS], choice: Choice) -> bool
+    ensures { λ r. ⌜ r ≡ both (mixtureFit mix) (chosenFit (choice .systems) (choice .count)) ⌝ }
+{
+    if MILLION < total(&mix) {
+        return false;
+    }
+    let k = choice.count;
+    if k == 0 {
+        return false;
+    }
+    if SYSTEMS < k {
+        return false;
+    }
+    let ch = choice.systems;
+    all_candidates(&ch, k)
+}
+
+// One where the system contains component c, else none.
+fn contains(system: u8, c: usize) -> u32
+    requires { ⌜ c < COMPONENTS ⌝ }
+    ensures { λ r. ⌜ (r ≡ cond (hasOf system c) 1 0) × (r ≤ 1) ⌝ }
+{
+    if system >= NUMBERS {
+        return 0;
+    }
+    ((CONTAINED >> (system as u64 * 4 + c as u64)) % 2) as u32
+}
+
+// Among how many of the first k chosen systems component c is shared: those that contain it, or 1 where none does.
+fn sharers(ch: &[u8; SYSTEMS], k: usize, c: usize) -> u32
+    requires { ⌜ (k ≤ SYSTEMS) × (c < COMPONENTS) ⌝ }
+    ensures { λ r. ⌜ (r ≡ max 1 (sharersOf (now (ch .entry)) c k)) × (1 ≤ r) ⌝ }
+{
+    let mut r: u32 = 0;
+    let mut s = 0;
+    while s < k {
+        r += contains(ch[s], c);
+        s += 1;
+    }
+    if r == 0 { 1 } else { r }
+}
+
+// What a row gets: nothing where it does not share, else its share, and 1 more where its rank is below the odd parts.
+fn part(here: u32, share: u32, odd: u32, rank: u32) -> u32
+    requires { ⌜ share + odd ≤ 4294967295 ⌝ }
+    ensures { λ r. ⌜ r ≡ partOf here share odd rank ⌝ }
+{
+    if here == 0 {
+        return 0;
+    }
+    if rank < odd {
+        return share + 1;
+    }
+    share
+}
+
+// The cells of component c in the first k rows.
+fn column(a: &mut [u32; CELLS], ch: &[u8; SYSTEMS], k: usize, c: usize, share: u32, odd: u32)
+    requires { ⌜ (k ≤ SYSTEMS) × (c < COMPONENTS) × (share + odd ≤ 4294967295) ⌝ }
+    ensures { λ _. ⌜ now (a .exit) ≡ columnTo (now (ch .entry)) c share odd (now (a .entry)) k ⌝ }
+{
+    let mut rank: u32 = 0;
+    let mut s = 0;
+    while s < k {
+        let here = contains(ch[s], c);
+        a[s * COMPONENTS + c] = part(here, share, odd, rank);
+        rank += here;
+        s += 1;
+    }
+}
+
+// The t parts of component c shared among the first k rows.
+fn shared(a: &mut [u32; CELLS], ch: &[u8; SYSTEMS], k: usize, c: usize, t: u32)
+    requires { ⌜ (k ≤ SYSTEMS) × (c < COMPONENTS) ⌝ }
+    ensures { λ _. ⌜ now (a .exit) ≡ sharedOf (now (ch .entry)) k c t (now (a .entry)) ⌝ }
+{
+    let n = sharers(ch, k, c);
+    column(a, ch, k, c, t / n, t % n);
+}
+
+// So many rows as there are chosen systems and room for.
+fn rows(count: usize) -> usize
+    ensures { λ r. ⌜ r ≡ min SYSTEMS count ⌝ }
+{
+    if SYSTEMS < count { SYSTEMS } else { count }
+}
+
+// The start: each component shared equally among the chosen systems that contain it, odd parts to the lower numbers.
+pub fn start(mix: [u32; COMPONENTS], choice: Choice) -> [u32; CELLS]
+    ensures { λ r. ⌜ r ≡ startOf mix (choice .systems) (choice .count) ⌝ }
+{
+    let ch = choice.systems;
+    let k = rows(choice.count);
+    let mut a = [0u32; CELLS];
+    let mut c = 0;
+    while c < COMPONENTS {
+        shared(&mut a, &ch, k, c, mix[c]);
+        c += 1;
+    }
+    a
+}
