@@ -170,7 +170,10 @@ pub done-more : (mix ch : List ℕ) (k : ℕ) (a b : List ℕ) (n : ℕ) → n <
 unfolding sharedTo
 done-more mix ch k a b n h z e = record { most = omega arith; cells = rw (add-one n) (e ∙ ap (sharedOf ch k n (getD mix n 0)) (z .cells)) }
 
-pub done-all : (mix ch : List ℕ) (k r : ℕ) (a : List ℕ) (n : ℕ) → length ch ≤ SYSTEMS → r ≡ min SYSTEMS k → COMPONENTS ≤ n → Done mix ch r a n → a ≡ startOf mix ch k
-done-all mix ch k r a n long e h z =
+pub done-all : (mix ch : List ℕ) (k : ℕ) (a : List ℕ) (n : ℕ) → COMPONENTS ≤ n → Done mix ch k a n → a ≡ sharedTo mix ch k (replicate CELLS 0) COMPONENTS
+done-all mix ch k a n h z =
     let q : n ≡ COMPONENTS = omega (arith, z .most) in
-    z .cells ∙ ap₂ (λ x y. sharedTo mix ch x (replicate CELLS 0) y) e q ∙ all-shared mix ch k long
+    z .cells ∙ ap (sharedTo mix ch k (replicate CELLS 0)) q
+
+pub start-is : (mix ch : List ℕ) (k r : ℕ) (a : List ℕ) → length ch ≤ SYSTEMS → r ≡ min SYSTEMS k → a ≡ sharedTo mix ch r (replicate CELLS 0) COMPONENTS → a ≡ startOf mix ch k
+start-is mix ch k r a long e z = z ∙ ap (λ x. sharedTo mix ch x (replicate CELLS 0) COMPONENTS) e ∙ all-shared mix ch k long

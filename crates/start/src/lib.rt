@@ -2,14 +2,12 @@
 ghost use mathlib.Core.Path.{_≡_};
 ghost use mathlib.Core.Bool.{cond};
 ghost use Prim.Native.Nat.{_+_, _/_, _%_, _<_, _≤_, max, min};
-ghost use lib.Dec.{ltb};
-ghost use lib.ListN.{getD};
-ghost use Rattle.systems.specs.Systems.{COMPONENTS, candidates, elem, hasOf};
-ghost use Rattle.split.specs.Fold.{sumTo, allTo};
-ghost use Rattle.split.specs.Split.{SYSTEMS, systemOf, both};
+ghost use lib.ListN.{replicate};
+ghost use Rattle.systems.specs.Systems.{COMPONENTS, hasOf};
+ghost use Rattle.split.specs.Split.{SYSTEMS, CELLS, both};
 ghost use Rattle.split.specs.Start.{sharersOf, startOf};
 ghost use Rattle.split.specs.Find.{chosenFit, mixtureFit};
-ghost use Rattle.start.specs.Column.{partOf, columnTo, sharedOf};
+ghost use Rattle.start.specs.Column.{partOf, columnTo, sharedOf, sharedTo};
 use systems::Choice;
 
 const COMPONENTS: usize = 4;
@@ -34,29 +32,33 @@ fn wide(x: u32) -> u64
     x as u64
 }
 
-// The parts of a mixture.
-fn total(mix: &[u32; COMPONENTS]) -> u64
-    ensures { λ r. ⌜ r ≡ sumTo (λ c. getD (now (mix .entry)) c 0) COMPONENTS ⌝ }
+// Whether a mixture has a million parts at most.
+fn mixture_fit(mix: &[u32; COMPONENTS]) -> bool
+    ensures { λ r. ⌜ r ≡ mixtureFit (now (mix .entry)) ⌝ }
 {
-    wide(mix[0]) + wide(mix[1]) + wide(mix[2]) + wide(mix[3])
+    let mut sum: u64 = 0;
+    let mut c = 0;
+    while c < COMPONENTS {
+        sum += wide(mix[c]);
+        c += 1;
+    }
+    sum <= MILLION
 }
 
-// Whether a system can be chosen: those and no others have components.
-fn is_candidate(system: u8) -> bool
-    ensures { λ r. ⌜ r ≡ elem system candidates ⌝ }
+// Whether the first k systems are chosen systems that there is room for: those and no others have components.
+fn chosen_fit(ch: &[u8; SYSTEMS], k: usize) -> bool
+    ensures { λ r. ⌜ r ≡ chosenFit (now (ch .entry)) k ⌝ }
 {
-    systems::member(system, 0) < COMPONENTS
-}
-
-// Whether each of the first k systems can be chosen.
-fn all_candidates(ch: &[u8; SYSTEMS], k: usize) -> bool
-    requires { ⌜ k ≤ SYSTEMS ⌝ }
-    ensures { λ r. ⌜ r ≡ allTo (λ s. elem (systemOf (now (ch .entry)) s) candidates) k ⌝ }
-{
+    if k == 0 {
+        return false;
+    }
+    if SYSTEMS < k {
+        return false;
+    }
     let mut s = k;
     while 0 < s {
         s -= 1;
-        if !is_candidate(ch[s]) {
+        if systems::member(ch[s], 0) == COMPONENTS {
             return false;
         }
     }
@@ -67,18 +69,11 @@ fn all_candidates(ch: &[u8; SYSTEMS], k: usize) -> bool
 pub fn fit(mix: [u32; COMPONENTS], choice: Choice) -> bool
     ensures { λ r. ⌜ r ≡ both (mixtureFit mix) (chosenFit (choice .systems) (choice .count)) ⌝ }
 {
-    if MILLION < total(&mix) {
-        return false;
-    }
-    let k = choice.count;
-    if k == 0 {
-        return false;
-    }
-    if SYSTEMS < k {
+    if !mixture_fit(&mix) {
         return false;
     }
     let ch = choice.systems;
-    all_candidates(&ch, k)
+    chosen_fit(&ch, choice.count)
 }
 
 // One where the system contains component c, else none.
@@ -151,17 +146,24 @@ fn rows(count: usize) -> usize
     if SYSTEMS < count { SYSTEMS } else { count }
 }
 
+// The cells of the components shared among the first k rows.
+fn cells(mix: &[u32; COMPONENTS], ch: &[u8; SYSTEMS], k: usize) -> [u32; CELLS]
+    requires { ⌜ k ≤ SYSTEMS ⌝ }
+    ensures { λ r. ⌜ r ≡ sharedTo (now (mix .entry)) (now (ch .entry)) k (replicate CELLS 0) COMPONENTS ⌝ }
+{
+    let mut a = [0u32; CELLS];
+    let mut c = 0;
+    while c < COMPONENTS {
+        shared(&mut a, ch, k, c, mix[c]);
+        c += 1;
+    }
+    a
+}
+
 // The start: each component shared equally among the chosen systems that contain it, odd parts to the lower numbers.
 pub fn start(mix: [u32; COMPONENTS], choice: Choice) -> [u32; CELLS]
     ensures { λ r. ⌜ r ≡ startOf mix (choice .systems) (choice .count) ⌝ }
 {
     let ch = choice.systems;
-    let k = rows(choice.count);
-    let mut a = [0u32; CELLS];
-    let mut c = 0;
-    while c < COMPONENTS {
-        shared(&mut a, &ch, k, c, mix[c]);
-        c += 1;
-    }
-    a
+    cells(&mix, &ch, rows(choice.count))
 }
