@@ -1,0 +1,179 @@
+-- The components' columns, one after the other, are the start.
+use Prim.Native.Nat.{ℕ, zero, suc, _+_, _*_, _-_, _/_, _%_, _≤_, _<_, max, min}
+use mathlib.Core.Path.{_≡_, refl, sym, ap, ap₂, _∙_}
+use mathlib.Core.Bool.{Bool, true, false, cond}
+use mathlib.Core.List.{List}
+use native.Mathlib.Nat.{not-suc-le-zero, add-zero}
+use native.Mathlib.Numerals.{add-one}
+use native.Mathlib.Omega.{arith}
+use lib.Dec.{ltb, eqb}
+use lib.ListN.{getD, length, set, replicate, length-set, length-replicate, getD-replicate, List·getD-eq-default}
+use lib.Seq.{getD-set-same, getD-set-other, ext-getD}
+use borrow.Author.Tests.{ltb-true, ltb-false, eqb-true, eqb-false}
+use Rattle.systems.specs.Systems.{COMPONENTS, hasOf}
+use Rattle.split.specs.Fold.{sumTo, table}
+use Rattle.split.specs.Tables.{length-table, getD-table}
+use Rattle.split.specs.Split.{SYSTEMS, CELLS, systemOf}
+use Rattle.split.specs.Start.{sharersOf, shareOf, givenOf, startCell, startOf}
+use Rattle.split.specs.Starts.{cell-past, cell-off, cell-on, some-sharer}
+use Rattle.start.specs.Column.{partOf, rowOf, columnTo, sharedOf, sharedTo}
+use Rattle.start.proofs.Contained.{zero-none}
+
+-- ---- one column
+
+module _ (ch : List ℕ) (c share odd : ℕ) (a : List ℕ) where
+  column-length : (n : ℕ) → length (columnTo ch c share odd a n) ≡ length a
+  unfolding columnTo
+  column-length zero = refl
+  column-length (suc n) = length-set (columnTo ch c share odd a n) (n * COMPONENTS + c) (rowOf ch c share odd n) ∙ column-length n
+
+  -- the other cells stay
+  column-other : (n j : ℕ) → ((i : ℕ) → i < n → j ≡ i * COMPONENTS + c → ⊥) → getD (columnTo ch c share odd a n) j 0 ≡ getD a j 0
+  unfolding columnTo
+  column-other zero j h = refl
+  column-other (suc n) j h =
+      getD-set-other (columnTo ch c share odd a n) (n * COMPONENTS + c) j (rowOf ch c share odd n) 0 (h n (omega arith))
+      ∙ column-other n j (λ i l. h i (omega arith))
+
+  -- each of the rows has its part
+  column-row : (n s : ℕ) → s < n → c < COMPONENTS → n * COMPONENTS ≤ length a → getD (columnTo ch c share odd a n) (s * COMPONENTS + c) 0 ≡ rowOf ch c share odd s
+  unfolding columnTo
+  column-row zero s h l m = absurd (not-suc-le-zero h)
+  column-row (suc n) s h l m = go (eqb s n) refl (λ h′. column-row n s h′ l (omega arith))
+    where
+      go : (b : Bool) → eqb s n ≡ b → (s < n → getD (columnTo ch c share odd a n) (s * COMPONENTS + c) 0 ≡ rowOf ch c share odd s)
+          → getD (columnTo ch c share odd a (suc n)) (s * COMPONENTS + c) 0 ≡ rowOf ch c share odd s
+      go true e next =
+          rw (eqb-true s n e) (getD-set-same (columnTo ch c share odd a n) (n * COMPONENTS + c) (rowOf ch c share odd n) 0 (omega (arith, column-length n)))
+      go false e next =
+          let d = eqb-false s n e in
+          getD-set-other (columnTo ch c share odd a n) (n * COMPONENTS + c) (s * COMPONENTS + c) (rowOf ch c share odd n) 0 (λ q. d (omega arith)) ∙ next (omega arith)
+
+-- ---- the columns
+
+-- row s's part of component c
+abbrev share-of : List ℕ → List ℕ → ℕ → ℕ → ℕ → ℕ
+share-of mix ch k c s = rowOf ch c (getD mix c 0 / max 1 (sharersOf ch c k)) (getD mix c 0 % max 1 (sharersOf ch c k)) s
+
+module _ (mix ch : List ℕ) (k : ℕ) (a : List ℕ) where
+  shared-length : (n : ℕ) → length (sharedTo mix ch k a n) ≡ length a
+  unfolding sharedTo sharedOf
+  shared-length zero = refl
+  shared-length (suc n) = column-length ch n _ _ (sharedTo mix ch k a n) k ∙ shared-length n
+
+  module _ (s c : ℕ) (low : c < COMPONENTS) where
+    -- cells of later components, and of rows past the k, stay
+    shared-other : (n : ℕ) → n ≤ COMPONENTS → ((i d : ℕ) → i < k → d < n → d < COMPONENTS → s * COMPONENTS + c ≡ i * COMPONENTS + d → ⊥)
+        → getD (sharedTo mix ch k a n) (s * COMPONENTS + c) 0 ≡ getD a (s * COMPONENTS + c) 0
+    unfolding sharedTo sharedOf
+    shared-other zero m h = refl
+    shared-other (suc n) m h =
+        column-other ch n _ _ (sharedTo mix ch k a n) k (s * COMPONENTS + c) (λ i l. h i n l (omega arith) (omega arith))
+        ∙ shared-other n (omega arith) (λ i d l u. h i d l (omega arith))
+
+    shared-past : (n : ℕ) → n ≤ COMPONENTS → k ≤ s → getD (sharedTo mix ch k a n) (s * COMPONENTS + c) 0 ≡ getD a (s * COMPONENTS + c) 0
+    shared-past n m h = shared-other n m (λ i d l u v e. omega arith)
+
+    shared-row : (n : ℕ) → n ≤ COMPONENTS → c < n → s < k → k * COMPONENTS ≤ length a → getD (sharedTo mix ch k a n) (s * COMPONENTS + c) 0 ≡ share-of mix ch k c s
+    unfolding sharedTo sharedOf
+    shared-row zero m l h z = absurd (not-suc-le-zero l)
+    shared-row (suc n) m l h z = go (eqb c n) refl (λ l′. shared-row n (omega arith) l′ h z)
+      where
+        go : (b : Bool) → eqb c n ≡ b → (c < n → getD (sharedTo mix ch k a n) (s * COMPONENTS + c) 0 ≡ share-of mix ch k c s)
+            → getD (sharedTo mix ch k a (suc n)) (s * COMPONENTS + c) 0 ≡ share-of mix ch k c s
+        go true e next =
+            rw (eqb-true c n e) (column-row ch n _ _ (sharedTo mix ch k a n) k s h (omega arith) (omega (arith, shared-length n)))
+        go false e next =
+            let d = eqb-false c n e in
+            column-other ch n _ _ (sharedTo mix ch k a n) k (s * COMPONENTS + c) (λ i u q. d (omega arith)) ∙ next (omega arith)
+
+-- ---- rows beyond those that there is room for hold system 0, which contains no component
+
+module _ (ch : List ℕ) (long : length ch ≤ SYSTEMS) (c : ℕ) (low : c < COMPONENTS) where
+  past-none : (n : ℕ) → SYSTEMS ≤ n → sharersOf ch c n ≡ sharersOf ch c (suc n)
+  unfolding sharersOf sumTo
+  past-none n h = rw (List·getD-eq-default ch 0 {n = n} (omega arith), zero-none c low, add-zero)
+
+  sharers-room : (k : ℕ) → sharersOf ch c (min SYSTEMS k) ≡ sharersOf ch c k
+  sharers-room zero =
+      let q : min SYSTEMS 0 ≡ 0 = omega arith in
+      ap (sharersOf ch c) q
+  sharers-room (suc k) = go (ltb k SYSTEMS) refl (sharers-room k)
+    where
+      go : (b : Bool) → ltb k SYSTEMS ≡ b → sharersOf ch c (min SYSTEMS k) ≡ sharersOf ch c k → sharersOf ch c (min SYSTEMS (suc k)) ≡ sharersOf ch c (suc k)
+      go true e ih =
+          let l = ltb-true k SYSTEMS e in
+          let q : min SYSTEMS (suc k) ≡ suc k = omega arith in
+          ap (sharersOf ch c) q
+      go false e ih =
+          let l = ltb-false k SYSTEMS e in
+          let q : min SYSTEMS (suc k) ≡ min SYSTEMS k = omega arith in
+          ap (sharersOf ch c) q ∙ ih ∙ past-none k l
+
+-- ---- the start
+
+module _ (mix ch : List ℕ) (k : ℕ) (long : length ch ≤ SYSTEMS) where
+  -- a row's part is what the start gives it
+  given-is : (s c : ℕ) → s < k → c < COMPONENTS → share-of mix ch (min SYSTEMS k) c s ≡ givenOf mix ch k s c
+  unfolding rowOf partOf shareOf
+  given-is s c h l = go (hasOf (systemOf ch s) c) refl
+    where
+      go : (b : Bool) → hasOf (systemOf ch s) c ≡ b → share-of mix ch (min SYSTEMS k) c s ≡ givenOf mix ch k s c
+      go false e = rw e (cell-off mix ch k s c h (systemOf ch s) false refl (sym e) refl)
+      go true e =
+          let some : 0 < sharersOf ch c k = some-sharer mix ch k s c h (systemOf ch s) true refl (sym e) (sharersOf ch c k) refl refl in
+          let n : max 1 (sharersOf ch c (min SYSTEMS k)) ≡ sharersOf ch c k = omega (arith, sharers-room ch long c l k) in
+          rw (e, n) (cell-on mix ch k s c h (systemOf ch s) true refl (sym e) _ (sharersOf ch c k) (sharersOf ch c s) refl refl refl refl)
+
+  abbrev zeros : List ℕ
+  zeros = replicate CELLS 0
+
+  cell-is : (s c : ℕ) → s < SYSTEMS → c < COMPONENTS → getD (sharedTo mix ch (min SYSTEMS k) zeros COMPONENTS) (s * COMPONENTS + c) 0 ≡ givenOf mix ch k s c
+  cell-is s c h l = go (ltb s k) refl
+    where
+      go : (b : Bool) → ltb s k ≡ b → getD (sharedTo mix ch (min SYSTEMS k) zeros COMPONENTS) (s * COMPONENTS + c) 0 ≡ givenOf mix ch k s c
+      go true e =
+          let u = ltb-true s k e in
+          shared-row mix ch (min SYSTEMS k) zeros s c l COMPONENTS (omega arith) l (omega arith) (omega (arith, length-replicate {A = ℕ} CELLS 0)) ∙ given-is s c u l
+      go false e =
+          let u = ltb-false s k e in
+          shared-past mix ch (min SYSTEMS k) zeros s c l COMPONENTS (omega arith) (omega arith)
+          ∙ getD-replicate {A = ℕ} CELLS (s * COMPONENTS + c) 0 0 (omega arith)
+          ∙ cell-past mix ch k s c u
+
+  all-shared : sharedTo mix ch (min SYSTEMS k) zeros COMPONENTS ≡ startOf mix ch k
+  unfolding startOf
+  all-shared =
+      ext-getD 0 (sharedTo mix ch (min SYSTEMS k) zeros COMPONENTS) (table (startCell mix ch k) CELLS 0)
+      (wide ∙ sym (length-table (startCell mix ch k) CELLS 0))
+      (λ j l.
+      let b : j < CELLS = omega (arith, wide) in
+      let p : j ≡ j / COMPONENTS * COMPONENTS + j % COMPONENTS = omega arith in
+      let q : 0 + j ≡ j = omega arith in
+      ap (λ x. getD (sharedTo mix ch (min SYSTEMS k) zeros COMPONENTS) x 0) p
+      ∙ cell-is (j / COMPONENTS) (j % COMPONENTS) (omega arith) (omega arith)
+      ∙ sym (getD-table (startCell mix ch k) CELLS 0 j b ∙ ap (startCell mix ch k) q))
+    where
+      wide : length (sharedTo mix ch (min SYSTEMS k) zeros COMPONENTS) ≡ CELLS
+      wide = shared-length mix ch (min SYSTEMS k) zeros COMPONENTS ∙ length-replicate {A = ℕ} CELLS 0
+
+-- the components before n are shared
+pub record Done (mix ch : List ℕ) (k : ℕ) (a : List ℕ) (n : ℕ) : Type 0 where
+  pub most : n ≤ COMPONENTS
+  pub cells : a ≡ sharedTo mix ch k (replicate CELLS 0) n
+
+pub done-none : (mix ch : List ℕ) (k : ℕ) → Done mix ch k (replicate CELLS 0) 0
+unfolding sharedTo
+done-none mix ch k = record { most = omega arith; cells = refl }
+
+pub done-more : (mix ch : List ℕ) (k : ℕ) (a b : List ℕ) (n : ℕ) → n < COMPONENTS → Done mix ch k a n → b ≡ sharedOf ch k n (getD mix n 0) a → Done mix ch k b (n + 1)
+unfolding sharedTo
+done-more mix ch k a b n h z e = record { most = omega arith; cells = rw (add-one n) (e ∙ ap (sharedOf ch k n (getD mix n 0)) (z .cells)) }
+
+pub done-all : (mix ch : List ℕ) (k : ℕ) (a : List ℕ) (n : ℕ) → COMPONENTS ≤ n → Done mix ch k a n → a ≡ sharedTo mix ch k (replicate CELLS 0) COMPONENTS
+done-all mix ch k a n h z =
+    let q : n ≡ COMPONENTS = omega (arith, z .most) in
+    z .cells ∙ ap (sharedTo mix ch k (replicate CELLS 0)) q
+
+pub start-is : (mix ch : List ℕ) (k r : ℕ) (a : List ℕ) → length ch ≤ SYSTEMS → r ≡ min SYSTEMS k → a ≡ sharedTo mix ch r (replicate CELLS 0) COMPONENTS → a ≡ startOf mix ch k
+start-is mix ch k r a long e z = z ∙ ap (λ x. sharedTo mix ch x (replicate CELLS 0) COMPONENTS) e ∙ all-shared mix ch k long

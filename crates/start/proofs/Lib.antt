@@ -1,0 +1,4 @@
+pub mod Contained
+pub mod Tests
+pub mod Shares
+pub mod Columns

@@ -1,0 +1,31 @@
+-- A component's cells in a split, written row by row. Assumes nothing.
+use Prim.Native.Nat.{ℕ, zero, suc, _+_, _*_, _/_, _%_, max}
+use mathlib.Core.List.{List}
+use mathlib.Core.Bool.{cond}
+use lib.Dec.{ltb, eqb}
+use lib.ListN.{getD, set}
+use Rattle.systems.specs.Systems.{COMPONENTS, hasOf}
+use Rattle.split.specs.Split.{systemOf}
+use Rattle.split.specs.Start.{sharersOf}
+
+-- what a row gets: nothing where it does not share, else its share, and 1 more where its rank is below the odd parts
+unfoldable pub partOf : ℕ → ℕ → ℕ → ℕ → ℕ
+partOf here share odd rank = cond (eqb here 0) 0 (share + cond (ltb rank odd) 1 0)
+
+-- row s's part of component c
+unfoldable pub rowOf : List ℕ → ℕ → ℕ → ℕ → ℕ → ℕ
+rowOf ch c share odd s = partOf (cond (hasOf (systemOf ch s) c) 1 0) share odd (sharersOf ch c s)
+
+-- the cells a with component c's parts in the first n rows
+unfoldable pub columnTo : List ℕ → ℕ → ℕ → ℕ → List ℕ → ℕ → List ℕ
+columnTo ch c share odd a zero = a
+columnTo ch c share odd a (suc n) = set (columnTo ch c share odd a n) (n * COMPONENTS + c) (rowOf ch c share odd n)
+
+-- the cells a with t parts of component c shared among the k rows
+unfoldable pub sharedOf : List ℕ → ℕ → ℕ → ℕ → List ℕ → List ℕ
+sharedOf ch k c t a = columnTo ch c (t / max 1 (sharersOf ch c k)) (t % max 1 (sharersOf ch c k)) a k
+
+-- the same of the first n components of a mixture
+unfoldable pub sharedTo : List ℕ → List ℕ → ℕ → List ℕ → ℕ → List ℕ
+sharedTo mix ch k a zero = a
+sharedTo mix ch k a (suc n) = sharedOf ch k n (getD mix n 0) (sharedTo mix ch k a n)

@@ -1,0 +1,169 @@
+// Whether an input can be worked on, and the split that a search begins with. No public function has a `requires`.
+ghost use mathlib.Core.Path.{_≡_};
+ghost use mathlib.Core.Bool.{cond};
+ghost use Prim.Native.Nat.{_+_, _/_, _%_, _<_, _≤_, max, min};
+ghost use lib.ListN.{replicate};
+ghost use Rattle.systems.specs.Systems.{COMPONENTS, hasOf};
+ghost use Rattle.split.specs.Split.{SYSTEMS, CELLS, both};
+ghost use Rattle.split.specs.Start.{sharersOf, startOf};
+ghost use Rattle.split.specs.Find.{chosenFit, mixtureFit};
+ghost use Rattle.start.specs.Column.{partOf, columnTo, sharedOf, sharedTo};
+use systems::Choice;
+
+const COMPONENTS: usize = 4;
+
+const SYSTEMS: usize = 8;
+
+// A row of COMPONENTS cells for each of the SYSTEMS rows.
+const CELLS: usize = 32;
+
+// The most parts that a mixture has.
+const MILLION: u64 = 1000000;
+
+// System numbers are below this one.
+const NUMBERS: u8 = 9;
+
+// The components that a system contains: a hexadecimal digit for each system number, from the right, a bit for each component.
+const CONTAINED: u64 = 0xbd0070e00;
+
+fn wide(x: u32) -> u64
+    ensures { λ r. ⌜ (r ≡ x) × (r ≤ 4294967295) ⌝ }
+{
+    x as u64
+}
+
+// Whether a mixture has a million parts at most.
+fn mixture_fit(mix: &[u32; COMPONENTS]) -> bool
+    ensures { λ r. ⌜ r ≡ mixtureFit (now (mix .entry)) ⌝ }
+{
+    let mut sum: u64 = 0;
+    let mut c = 0;
+    while c < COMPONENTS {
+        sum += wide(mix[c]);
+        c += 1;
+    }
+    sum <= MILLION
+}
+
+// Whether the first k systems are chosen systems that there is room for: those and no others have components.
+fn chosen_fit(ch: &[u8; SYSTEMS], k: usize) -> bool
+    ensures { λ r. ⌜ r ≡ chosenFit (now (ch .entry)) k ⌝ }
+{
+    if k == 0 {
+        return false;
+    }
+    if SYSTEMS < k {
+        return false;
+    }
+    let mut s = k;
+    while 0 < s {
+        s -= 1;
+        if systems::member(ch[s], 0) == COMPONENTS {
+            return false;
+        }
+    }
+    true
+}
+
+// Whether a mixture has a million parts at most and its chosen systems are candidates that there is room for.
+pub fn fit(mix: [u32; COMPONENTS], choice: Choice) -> bool
+    ensures { λ r. ⌜ r ≡ both (mixtureFit mix) (chosenFit (choice .systems) (choice .count)) ⌝ }
+{
+    if !mixture_fit(&mix) {
+        return false;
+    }
+    let ch = choice.systems;
+    chosen_fit(&ch, choice.count)
+}
+
+// One where the system contains component c, else none.
+fn contains(system: u8, c: usize) -> u32
+    requires { ⌜ c < COMPONENTS ⌝ }
+    ensures { λ r. ⌜ (r ≡ cond (hasOf system c) 1 0) × (r ≤ 1) ⌝ }
+{
+    if system >= NUMBERS {
+        return 0;
+    }
+    ((CONTAINED >> (system as u64 * 4 + c as u64)) % 2) as u32
+}
+
+// Among how many of the first k chosen systems component c is shared: those that contain it, or 1 where none does.
+fn sharers(ch: &[u8; SYSTEMS], k: usize, c: usize) -> u32
+    requires { ⌜ (k ≤ SYSTEMS) × (c < COMPONENTS) ⌝ }
+    ensures { λ r. ⌜ (r ≡ max 1 (sharersOf (now (ch .entry)) c k)) × (1 ≤ r) ⌝ }
+{
+    let mut r: u32 = 0;
+    let mut s = 0;
+    while s < k {
+        r += contains(ch[s], c);
+        s += 1;
+    }
+    if r == 0 { 1 } else { r }
+}
+
+// What a row gets: nothing where it does not share, else its share, and 1 more where its rank is below the odd parts.
+fn part(here: u32, share: u32, odd: u32, rank: u32) -> u32
+    requires { ⌜ share + odd ≤ 4294967295 ⌝ }
+    ensures { λ r. ⌜ r ≡ partOf here share odd rank ⌝ }
+{
+    if here == 0 {
+        return 0;
+    }
+    if rank < odd {
+        return share + 1;
+    }
+    share
+}
+
+// The cells of component c in the first k rows.
+fn column(a: &mut [u32; CELLS], ch: &[u8; SYSTEMS], k: usize, c: usize, share: u32, odd: u32)
+    requires { ⌜ (k ≤ SYSTEMS) × (c < COMPONENTS) × (share + odd ≤ 4294967295) ⌝ }
+    ensures { λ _. ⌜ now (a .exit) ≡ columnTo (now (ch .entry)) c share odd (now (a .entry)) k ⌝ }
+{
+    let mut rank: u32 = 0;
+    let mut s = 0;
+    while s < k {
+        let here = contains(ch[s], c);
+        a[s * COMPONENTS + c] = part(here, share, odd, rank);
+        rank += here;
+        s += 1;
+    }
+}
+
+// The t parts of component c shared among the first k rows.
+fn shared(a: &mut [u32; CELLS], ch: &[u8; SYSTEMS], k: usize, c: usize, t: u32)
+    requires { ⌜ (k ≤ SYSTEMS) × (c < COMPONENTS) ⌝ }
+    ensures { λ _. ⌜ now (a .exit) ≡ sharedOf (now (ch .entry)) k c t (now (a .entry)) ⌝ }
+{
+    let n = sharers(ch, k, c);
+    column(a, ch, k, c, t / n, t % n);
+}
+
+// So many rows as there are chosen systems and room for.
+fn rows(count: usize) -> usize
+    ensures { λ r. ⌜ r ≡ min SYSTEMS count ⌝ }
+{
+    if SYSTEMS < count { SYSTEMS } else { count }
+}
+
+// The cells of the components shared among the first k rows.
+fn cells(mix: &[u32; COMPONENTS], ch: &[u8; SYSTEMS], k: usize) -> [u32; CELLS]
+    requires { ⌜ k ≤ SYSTEMS ⌝ }
+    ensures { λ r. ⌜ r ≡ sharedTo (now (mix .entry)) (now (ch .entry)) k (replicate CELLS 0) COMPONENTS ⌝ }
+{
+    let mut a = [0u32; CELLS];
+    let mut c = 0;
+    while c < COMPONENTS {
+        shared(&mut a, ch, k, c, mix[c]);
+        c += 1;
+    }
+    a
+}
+
+// The start: each component shared equally among the chosen systems that contain it, odd parts to the lower numbers.
+pub fn start(mix: [u32; COMPONENTS], choice: Choice) -> [u32; CELLS]
+    ensures { λ r. ⌜ r ≡ startOf mix (choice .systems) (choice .count) ⌝ }
+{
+    let ch = choice.systems;
+    cells(&mix, &ch, rows(choice.count))
+}
