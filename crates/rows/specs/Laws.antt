@@ -29,6 +29,7 @@ use Rattle.split.specs.Rating.{someEmpty}
 use Rattle.split.specs.Rows.{parts-few}
 use Rattle.split.specs.Fits.{empty-no}
 use Rattle.rows.specs.Rows.{listed, LARGEST, partsIn, answerIn, rowFit, rowsFit, upTo, none, rowsOf, Small}
+use Rattle.rows.specs.Carried.{Carried, Held}
 use Rattle.rows.specs.declared.Rows.{Rows}
 
 -- ---- a list whose first places have the values of f, and the rest d
@@ -272,3 +273,6 @@ module _ (ch : List ℕ) (k : ℕ) (a : List ℕ) where
         pub numbers-small : Small (r .numbers) k
         unfolding numberAt
         numbers-small = record { most = st .chosen .most; each = λ s l. rw (number-of s l) (partial-small (systemOf ch s) (cellOf a s (memberOf (systemOf ch s) 0)) (cellOf a s (memberOf (systemOf ch s) 1)) (cellOf a s (memberOf (systemOf ch s) 2))) }
+
+        pub fit-held : Held ch k a (r .numbers)
+        fit-held = record { sound = fit-sound; carried = record { long = numbers-long; are = number-of }; small = numbers-small }

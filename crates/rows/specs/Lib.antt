@@ -1,4 +1,5 @@
 pub mod Rows
+pub mod Carried
 pub mod Machine
 pub mod Laws
 pub mod Walks

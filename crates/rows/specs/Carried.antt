@@ -2,24 +2,12 @@
 use Prim.Native.Nat.{ℕ, _+_, _≤_, _<_}
 use mathlib.Core.List.{List}
 use mathlib.Core.Path.{_≡_}
-use lib.IntN.{ℤ, pos, natAbs}
-use lib.ListN.{getD, length}
+use lib.IntN.{ℤ}
+use lib.ListN.{length}
 use Rattle.systems.specs.Systems.{memberOf, Candidate}
 use Rattle.split.specs.Split.{SYSTEMS, systemOf, numberAt, Sound}
 use Rattle.split.specs.Steps.{insteadOf}
-
--- a list of numbers as a function
-abbrev pub listed : List ℤ → ℕ → ℤ
-listed v i = getD v i (pos 0)
-
--- the largest magnitude of a partial number
-abbrev pub LARGEST : ℕ
-LARGEST = 2000000000000
-
--- each of the k numbers is small enough
-pub record Small (v : List ℤ) (k : ℕ) : Type 0 where
-  pub most : k ≤ SYSTEMS
-  pub each : (i : ℕ) → i < k → natAbs (listed v i) ≤ LARGEST
+use Rattle.rows.specs.Rows.{listed, LARGEST, Small}
 
 -- v has the partial numbers of the k rows
 pub record Carried (ch : List ℕ) (k : ℕ) (a : List ℕ) (v : List ℤ) : Type 0 where

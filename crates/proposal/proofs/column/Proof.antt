@@ -4,8 +4,8 @@ use mathlib.Core.Path.{_≡_, refl, _∙_}
 use native.Mathlib.Omega.{arith}
 use Rattle.split.specs.Split.{cellOf, columnOf}
 use Rattle.split.specs.Folds.{sum-none, sum-more}
-use Rattle.search.proofs.rating.column.Statement.{statement}
-use Rattle.search.proofs.rating.column.Tie as tie
+use Rattle.proposal.proofs.column.Statement.{statement}
+use Rattle.proposal.proofs.column.Tie as tie
 
 abbrev Inv-loop : tie.InvT-loop
 Inv-loop a k c sum₀ s₀ sum s = (s ≤ k) × (sum ≡ columnOf s a c) × (sum ≤ 4294967295 * s)

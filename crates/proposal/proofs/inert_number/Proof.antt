@@ -1,8 +1,8 @@
 -- `search::rating::inert_number` meets its contract. Assumes nothing.
-use Rattle.search.proofs.Wholes.{inert-ok, inert-never}
+use Rattle.proposal.proofs.Wholes.{inert-ok, inert-never}
 use borrow.Author.Needs.{needs}
-use Rattle.search.proofs.rating.inert_number.Statement.{statement}
-use Rattle.search.proofs.rating.inert_number.Tie as tie
+use Rattle.proposal.proofs.inert_number.Statement.{statement}
+use Rattle.proposal.proofs.inert_number.Tie as tie
 
 sub-partial-number : tie.Need-sub-partial-number
 sub-partial-number c = search needs

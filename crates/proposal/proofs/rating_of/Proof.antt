@@ -1,8 +1,8 @@
 -- `search::rating::rating_of` meets its contract. Assumes nothing.
 use lib.Dec.{lit<}
-use Rattle.search.proofs.Wholes.{rating-div, rating-add, rating-sub, rating-is}
-use Rattle.search.proofs.rating.rating_of.Statement.{statement}
-use Rattle.search.proofs.rating.rating_of.Tie as tie
+use Rattle.proposal.proofs.Wholes.{rating-div, rating-add, rating-sub, rating-is}
+use Rattle.proposal.proofs.rating_of.Statement.{statement}
+use Rattle.proposal.proofs.rating_of.Tie as tie
 
 div-result : tie.Need-div-result
 div-result c = (lit< tt, rating-div (c .args .sum) (c .args .inert) (c .fits .sum) (c .fits .inert) (c .pre .0) (c .pre .1))

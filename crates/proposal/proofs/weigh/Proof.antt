@@ -1,8 +1,8 @@
 -- `search::rating::weigh` meets its contract. Assumes nothing.
-use Rattle.search.proofs.Wholes.{weigh-mul, weigh-add, weigh-is}
+use Rattle.proposal.proofs.Wholes.{weigh-mul, weigh-add, weigh-is}
 use borrow.Author.Needs.{needs}
-use Rattle.search.proofs.rating.weigh.Statement.{statement}
-use Rattle.search.proofs.rating.weigh.Tie as tie
+use Rattle.proposal.proofs.weigh.Statement.{statement}
+use Rattle.proposal.proofs.weigh.Tie as tie
 
 cast-result : tie.Need-cast-result
 cast-result c = search needs

@@ -3,9 +3,9 @@ use Prim.Native.Nat.{ℕ, _+_, _*_, _-_, _≤_, _<_}
 use mathlib.Core.Path.{_≡_, sym, ap, _∙_}
 use native.Mathlib.Omega.{arith}
 use borrow.Author.Needs.{needs}
-use Rattle.search.proofs.Checks.{Summed, summed-none, summed-more, unsummed, summed-all}
-use Rattle.search.proofs.rating.resums.Statement.{statement}
-use Rattle.search.proofs.rating.resums.Tie as tie
+use Rattle.proposal.proofs.Checks.{Summed, summed-none, summed-more, unsummed, summed-all}
+use Rattle.proposal.proofs.resums.Statement.{statement}
+use Rattle.proposal.proofs.resums.Tie as tie
 
 abbrev Inv-loop : tie.InvT-loop
 Inv-loop mix k a c₀ c = (c ≤ 4) × Summed mix k a c

@@ -1,0 +1,123 @@
+-- The answer to proposed cells, case by case, from what its tests came to.
+use mathlib.Core.Path.{_≡_, refl, sym, ap, ap₂, _∙_}
+use mathlib.Core.Bool.{Bool, true, false, not}
+use mathlib.Core.List.{List}
+use Prim.Native.Nat.{ℕ, zero, suc, _+_, _*_, _≤_, _<_}
+use native.Mathlib.Nat as N
+use native.Mathlib.Omega.{arith}
+use lib.Dec.{ltb, leb}
+use lib.IntN.{ℤ, pos, negsuc, natAbs, _+ℤ_, _-ℤ_, _*ℤ_}
+use lib.ListN.{length, getD}
+use lib.Signed.{quotZ}
+use borrow.Author.Tests.{not-true, not-false, lt-leb, le-leb}
+use Rattle.split.specs.Fold.{sumTo, sumToZ}
+use Rattle.split.specs.Folds.{sum-same, greatest-same, least-same}
+use Rattle.split.specs.Split.{CELLS, partsOf, numberAt, both, Stock, Sound}
+use Rattle.split.specs.Rating.{resums, someEmpty, spreadOf, weightedOf, meanOf, inertNumber, ratingOf}
+use Rattle.split.specs.Find.{chosenFit, mixtureFit}
+use Rattle.split.specs.Members.{both-left, both-right}
+use Rattle.split.specs.Sums.{resummed, parts-le}
+use Rattle.split.specs.Fits.{resums-yes, no-empty}
+use Rattle.split.specs.Proposed.{proposalFit, answerOf, ratedOf, Proposal, proposal-of, answer-misfit, answer-unsummed, answer-empty, answer-rated}
+use Rattle.split.specs.declared.Answer.{Answer}
+use Rattle.split.specs.declared.Answer.the-variants.{Rated, Refused}
+use Rattle.rows.specs.Rows.{listed, rowsOf}
+use Rattle.rows.specs.Carried.{Held}
+use Rattle.rows.specs.Laws.{unfit-empty, fit-held, parts-of}
+use Rattle.rows.specs.declared.Rows.{Rows}
+use Rattle.proposal.specs.Weighing.{Weighable, weighedTo, ratedBy, weighedOf}
+
+sumZ-same : (f g : ℕ → ℤ) (n : ℕ) → ((i : ℕ) → i < n → f i ≡ g i) → sumToZ f n ≡ sumToZ g n
+unfolding sumToZ
+sumZ-same f g zero h = refl
+sumZ-same f g (suc n) h = ap₂ _+ℤ_ (sumZ-same f g n (λ i l. h i (omega arith))) (h n (omega arith))
+
+-- ---- cells that re-sum, from their rows
+
+module _ (limit : ℕ) (ch : List ℕ) (k : ℕ) (a : List ℕ) (n1 : ℕ) (st : Stock ch k a) (r : Rows) (q : r ≡ rowsOf ch k a) where
+  pub empty-weighed : r .fit ≡ false → Refused 9 0 ≡ weighedOf limit ch k a n1
+  unfolding weighedOf
+  empty-weighed e = sym (rw (unfit-empty ch k a r q st e, weighedOf))
+
+  module _ (e : r .fit ≡ true) where
+    held : Held ch k a (r .numbers)
+    held = fit-held ch k a r q st e
+
+    parts-same : sumTo (λ s. getD (r .parts) s 0) k ≡ sumTo (partsOf ch a) k
+    parts-same = sum-same (λ s. getD (r .parts) s 0) (partsOf ch a) k (parts-of ch k a r q st e)
+
+    pub weighable : Weighable (r .numbers) (r .parts) k
+    weighable = record {
+      small = held .small;
+      some = st .chosen .some;
+      few = rw parts-same (N.le-trans (parts-le ch k a (st .chosen)) (st .few));
+    }
+
+    weighed-same : weighedTo (r .numbers) (r .parts) k ≡ weightedOf ch k a
+    unfolding weighedTo weightedOf
+    weighed-same = sumZ-same (λ s. listed (r .numbers) s *ℤ pos (getD (r .parts) s 0)) (λ s. numberAt ch a s *ℤ pos (partsOf ch a s)) k (λ s l. ap₂ (λ x n. x *ℤ pos n) (held .carried .are s l) (parts-of ch k a r q st e s l))
+
+    spread-same : spreadOf (listed (r .numbers)) k ≡ spreadOf (numberAt ch a) k
+    unfolding spreadOf
+    spread-same =
+        ap₂ (λ (x y : ℤ). natAbs (x -ℤ y))
+        (greatest-same (listed (r .numbers)) (numberAt ch a) k k (st .chosen .some) (N.le-refl k) (held .carried .are))
+        (least-same (listed (r .numbers)) (numberAt ch a) k k (st .chosen .some) (N.le-refl k) (held .carried .are))
+
+    rated-same : ratedBy limit (r .numbers) (r .parts) k n1 ≡ ratedOf limit ch k a n1
+    unfolding ratedBy ratedOf ratingOf meanOf
+    rated-same = ap₂ (λ (s : ℕ) (w : ℤ). elim (ltb limit s) as (λ _. Answer) [ true ↦ Refused 10 0 | false ↦ Rated (quotZ w (pos 1000000) +ℤ inertNumber n1 +ℤ negsuc 1000002999) s 0 ]) spread-same weighed-same
+
+    pub rated-weighed : (x : Answer) → x ≡ ratedBy limit (r .numbers) (r .parts) k n1 → x ≡ weighedOf limit ch k a n1
+    unfolding weighedOf
+    rated-weighed x u = u ∙ rated-same ∙ sym (rw (no-empty ch k a (held .sound .some), weighedOf))
+
+-- ---- the answer
+
+module _ (limit : ℕ) (ch : List ℕ) (k : ℕ) (mix a : List ℕ) (n1 : ℕ) (b : Bool) (p : b ≡ both (mixtureFit mix) (chosenFit ch k)) where
+  fits-not : both (mixtureFit mix) (chosenFit ch k) ≡ false → proposalFit mix ch k n1 ≡ false
+  unfolding proposalFit
+  fits-not e = go (mixtureFit mix) (chosenFit ch k) refl refl
+    where
+      clash : true ≡ false → _≡_ {A = ℕ} 1 0
+      clash u = ap (λ x. elim x [ true ↦ 1 | false ↦ 0 ]) u
+
+      go : (x y : Bool) → mixtureFit mix ≡ x → chosenFit ch k ≡ y → both (chosenFit ch k) (both (mixtureFit mix) (leb n1 1000000)) ≡ false
+      go x false f g = rw g
+      go false true f g = rw (g, f)
+      go true true f g = absurd (let w : 1 ≡ 0 = clash (rw (f, g) at e) in omega arith)
+
+  pub misfit : not b ≡ true → Refused 7 0 ≡ answerOf limit ch k mix a n1
+  misfit h = sym (answer-misfit mix ch k n1 limit a (fits-not (sym p ∙ not-true b h)))
+
+  module _ (l : not b ≡ false) where
+    both-fit : both (mixtureFit mix) (chosenFit ch k) ≡ true
+    both-fit = sym p ∙ not-false b l
+
+    pub much-inert : 1000000 < n1 → Refused 7 0 ≡ answerOf limit ch k mix a n1
+    unfolding proposalFit
+    much-inert h = sym (answer-misfit mix ch k n1 limit a (rw (both-right (mixtureFit mix) _ both-fit, both-left (mixtureFit mix) _ both-fit) (lt-leb n1 1000000 h)))
+
+    module _ (m : n1 ≤ 1000000) where
+      pub proposal : Proposal mix ch k n1
+      unfolding proposalFit
+      proposal = proposal-of mix ch k n1 (rw (both-right (mixtureFit mix) _ both-fit, both-left (mixtureFit mix) _ both-fit) (le-leb n1 1000000 m))
+
+      module _ (d : Bool) (q : d ≡ resums mix k a) where
+        pub unsummed : not d ≡ true → Refused 8 0 ≡ answerOf limit ch k mix a n1
+        unsummed h = sym (answer-unsummed mix ch k n1 limit a proposal (sym q ∙ not-true d h))
+
+        module _ (y : not d ≡ false) where
+          yes : resums mix k a ≡ true
+          yes = sym q ∙ not-false d y
+
+          pub stock : length a ≡ CELLS → Stock ch k a
+          stock long = record { chosen = proposal .chosen; long = long; few = rw (resummed mix k a (resums-yes mix k a yes)) (proposal .few) }
+
+          pub answered : (x : Answer) → x ≡ weighedOf limit ch k a n1 → x ≡ answerOf limit ch k mix a n1
+          unfolding weighedOf
+          answered x u = u ∙ go (someEmpty ch k a) refl
+            where
+              go : (e : Bool) → someEmpty ch k a ≡ e → weighedOf limit ch k a n1 ≡ answerOf limit ch k mix a n1
+              go true e = rw (e, weighedOf) (sym (answer-empty mix ch k n1 limit a proposal yes e))
+              go false e = rw (e, weighedOf) (sym (answer-rated mix ch k n1 limit a proposal yes e))

@@ -1,0 +1,194 @@
+// What cells proposed as a split come to: refused 7 to 10, or rated. No public function has a `requires`.
+ghost use mathlib.Core.Path.{_≡_};
+ghost use Prim.Native.Nat.{ℕ, _+_, _*_, _<_, _≤_};
+ghost use lib.IntN.{ℤ, pos, negsuc, natAbs, _+ℤ_, _*ℤ_};
+ghost use lib.Signed.{quotZ};
+ghost use Rattle.systems.specs.Systems.{COMPONENTS};
+ghost use Rattle.split.specs.Split.{SYSTEMS, columnOf, Stock};
+ghost use Rattle.split.specs.Rating.{resums, spreadOf, inertNumber};
+ghost use Rattle.split.specs.Proposed.{answerOf};
+ghost use Rattle.rows.specs.Rows.{LARGEST, listed, Small};
+ghost use Rattle.proposal.specs.Weighing.{Weighable, weighedTo, ratedBy, weighedOf};
+use split::Answer;
+use systems::Choice;
+
+const COMPONENTS: usize = 4;
+
+const SYSTEMS: usize = 8;
+
+// A row of COMPONENTS cells for each of the SYSTEMS rows.
+const CELLS: usize = 32;
+
+// All parts of a mixture.
+const MILLION: u32 = 1000000;
+
+// The system of the inert mixture.
+const INERT: u32 = 20;
+
+fn wide(x: u32) -> u64
+    ensures { λ r. ⌜ r ≡ x ⌝ }
+{
+    x as u64
+}
+
+// One more amount, added as a whole number: nothing wraps.
+fn added(sum: u64, x: u32) -> u64
+    requires { ⌜ sum ≤ 34359738360 ⌝ }
+    ensures { λ r. ⌜ (r ≡ sum + x) × (r ≤ sum + 4294967295) ⌝ }
+{
+    sum + wide(x)
+}
+
+// The amounts of component c in the k rows, added.
+fn column(a: &[u32; CELLS], k: usize, c: usize) -> u64
+    requires { ⌜ (k ≤ SYSTEMS) × (c < COMPONENTS) ⌝ }
+    ensures { λ r. ⌜ r ≡ columnOf k (now (a .entry)) c ⌝ }
+{
+    let mut sum: u64 = 0;
+    let mut s = 0;
+    while s < k {
+        sum = added(sum, a[s * COMPONENTS + c]);
+        s += 1;
+    }
+    sum
+}
+
+// Whether each component's amounts add up to the mixture's.
+fn resums(mix: &[u32; COMPONENTS], k: usize, a: &[u32; CELLS]) -> bool
+    requires { ⌜ k ≤ SYSTEMS ⌝ }
+    ensures { λ r. ⌜ r ≡ resums (now (mix .entry)) k (now (a .entry)) ⌝ }
+{
+    let mut c = 0;
+    while c < COMPONENTS {
+        if column(a, k, c) != wide(mix[c]) {
+            return false;
+        }
+        c += 1;
+    }
+    true
+}
+
+// One more partial number, times its system's parts.
+fn weigh(sum: i64, v: i64, p: u32) -> i64
+    requires { ⌜ (natAbs v ≤ LARGEST) × (natAbs sum + LARGEST * p ≤ LARGEST * 1000000) ⌝ }
+    ensures { λ r. ⌜ r ≡ sum +ℤ v *ℤ pos p ⌝ }
+{
+    sum + v * (p as i64)
+}
+
+// Each number times its system's parts, added.
+fn weighted(v: &[i64; SYSTEMS], p: &[u32; SYSTEMS], k: usize) -> i64
+    requires { ⌜ Weighable (now v) (now p) k ⌝ }
+    ensures { λ r. ⌜ (r ≡ weighedTo (now (v .entry)) (now (p .entry)) k) × (natAbs r ≤ LARGEST * 1000000) ⌝ }
+{
+    let mut sum: i64 = 0;
+    let mut s = 0;
+    while s < k {
+        sum = weigh(sum, v[s], p[s]);
+        s += 1;
+    }
+    sum
+}
+
+// The spread of k numbers: the greatest less the least.
+fn spread(v: &[i64; SYSTEMS], k: usize) -> u64
+    requires { ⌜ Small (now v) k × (0 < k) ⌝ }
+    ensures { λ r. ⌜ r ≡ spreadOf (listed (now (v .entry))) k ⌝ }
+{
+    let mut low = v[0];
+    let mut high = low;
+    let mut i = 0;
+    while i < k {
+        let x = v[i];
+        if x < low {
+            low = x;
+        }
+        if high < x {
+            high = x;
+        }
+        i += 1;
+    }
+    (high - low) as u64
+}
+
+// The inert number: system 20 at n1 and the rest.
+fn inert_number(n1: u32) -> i64
+    requires { ⌜ n1 ≤ 1000000 ⌝ }
+    ensures { λ r. ⌜ (r ≡ inertNumber n1) × (natAbs r ≤ LARGEST) ⌝ }
+{
+    let p = ternary::partial_number(INERT, n1, MILLION - n1, 0);
+    match p {
+        ternary::Partial::Number(x) => x,
+        ternary::Partial::Refused(_) => 0,
+    }
+}
+
+// The mean, divided once, and the inert number less 100.0003.
+fn rating_of(sum: i64, inert: i64) -> i64
+    requires { ⌜ (natAbs sum ≤ LARGEST * 1000000) × (natAbs inert ≤ LARGEST) ⌝ }
+    ensures { λ r. ⌜ r ≡ quotZ sum (pos 1000000) +ℤ inert +ℤ negsuc 1000002999 ⌝ }
+{
+    sum / 1000000 + inert - 1000003000
+}
+
+fn refused(number: u32) -> Answer
+    ensures { λ r. ⌜ r ≡ Answer.Refused number 0 ⌝ }
+{
+    Answer::Refused { number, place: 0 }
+}
+
+// The answer to the numbers and parts of k rows: refused 10 where the spread is above the limit, else rated.
+fn rated(limit: u64, v: &[i64; SYSTEMS], p: &[u32; SYSTEMS], k: usize, n1: u32) -> Answer
+    requires { ⌜ Weighable (now v) (now p) k × (n1 ≤ 1000000) ⌝ }
+    ensures { λ r. ⌜ r ≡ ratedBy limit (now (v .entry)) (now (p .entry)) k n1 ⌝ }
+{
+    let spread = spread(v, k);
+    if limit < spread {
+        return refused(10);
+    }
+    let rating = rating_of(weighted(v, p, k), inert_number(n1));
+    Answer::Rated {
+        rating,
+        spread,
+        rounds: 0,
+    }
+}
+
+// The answer to cells that re-sum: 9 where a system is empty, else as their rows are rated.
+fn weighed(limit: u64, choice: Choice, cells: [u32; CELLS], n1: u32) -> Answer
+    requires { ⌜ Stock (choice .systems) (choice .count) cells × (n1 ≤ 1000000) ⌝ }
+    ensures { λ r. ⌜ r ≡ weighedOf limit (choice .systems) (choice .count) cells n1 ⌝ }
+{
+    let rows = rows::evaluate(choice, cells);
+    let fit = rows.fit;
+    if !fit {
+        return refused(9);
+    }
+    let v = rows.numbers;
+    let p = rows.parts;
+    rated(limit, &v, &p, choice.count, n1)
+}
+
+// The answer to cells proposed as a split of a mixture among its chosen systems: refused 8 where they do not re-sum,
+// 9 where a system is empty, 10 where the spread is above the limit, else rated with the inert mixture's n1.
+// Systems that are no candidates, and a mixture or an n1 above a million parts, are refused 7.
+pub fn proposed(
+    limit: u64,
+    choice: Choice,
+    mix: [u32; COMPONENTS],
+    cells: [u32; CELLS],
+    n1: u32,
+) -> Answer
+    ensures { λ r. ⌜ r ≡ answerOf limit (choice .systems) (choice .count) mix cells n1 ⌝ }
+{
+    if !start::fit(mix, choice) {
+        return refused(7);
+    }
+    if MILLION < n1 {
+        return refused(7);
+    }
+    if !resums(&mix, choice.count, &cells) {
+        return refused(8);
+    }
+    weighed(limit, choice, cells, n1)
+}
