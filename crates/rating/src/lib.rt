@@ -137,7 +137,7 @@ fn split_by(choice: Choice, mix: [u32; COMPONENTS], n1: u32, p: Split) -> Answer
         };
     }
     let cells = records::cells_of(systems, count, amounts);
-    search::proposed(LIMIT, choice, mix, cells, n1)
+    proposal::proposed(LIMIT, choice, mix, cells, n1)
 }
 
 // What the search came to: a rating with its split, or 11.
@@ -165,7 +165,7 @@ fn rating_of(choice: Choice, mix: [u32; COMPONENTS], cells: [u32; CELLS], n1: u3
     requires { ⌜ Proposal mix (choice .systems) (choice .count) n1 × Fit LIMIT (choice .systems) (choice .count) mix cells ⌝ }
     ensures { λ r. ⌜ r ≡ ratingOf (choice .systems) (choice .count) cells n1 ⌝ }
 {
-    let answer = search::proposed(LIMIT, choice, mix, cells, n1);
+    let answer = proposal::proposed(LIMIT, choice, mix, cells, n1);
     match answer {
         Answer::Rated {
             rating,

@@ -1,12 +1,7 @@
-pub mod Machine
 pub mod Amounts
 pub mod Numbers
 pub mod Trials
+pub mod Tries
 pub mod Fit
 pub mod Loop
-pub mod Checks
-pub mod Wholes
-pub mod Weights
-pub mod Answers
 pub mod Scanned
-pub mod Tries

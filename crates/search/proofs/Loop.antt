@@ -17,7 +17,8 @@ use Rattle.split.specs.declared.Found.{Found}
 use Rattle.split.specs.Tests.{Fit}
 use Rattle.split.specs.Steps.{sound-moved}
 use Rattle.split.specs.Turns.{turn-rate, turn-refuse, turn-on, Moves, moves, again-move}
-use Rattle.search.specs.Carried.{listed, Small, Carried, Held}
+use Rattle.rows.specs.Rows.{listed, Small}
+use Rattle.rows.specs.Carried.{Carried, Held}
 use Rattle.search.specs.Tried.{Tried, Forgot}
 use Rattle.search.proofs.Trials.{spread-same}
 use Rattle.search.proofs.Tries.{tried-after}

@@ -22,8 +22,9 @@ use Rattle.split.specs.Members.{Three, three}
 use Rattle.split.specs.Rows.{parts-few}
 use Rattle.split.specs.Tests.{Fit, Between}
 use Rattle.split.specs.Steps.{insteadOf, numberWith, Changed, instead-is, number-with, bt, sound-moved, rest-same, giver-changed, taker-changed}
-use Rattle.search.specs.Carried.{listed, Small, Carried, Held, partsWith, Workable}
-use Rattle.search.proofs.Machine.{back}
+use Rattle.rows.specs.Rows.{listed, Small}
+use Rattle.rows.specs.Carried.{Carried, Held, partsWith, Workable}
+use Rattle.rows.specs.Machine.{back}
 
 -- the imbalance and the spread depend on the k numbers alone
 pub imbalance-same : (u v : ℕ → ℤ) (k : ℕ) → ((i : ℕ) → i < k → u i ≡ v i) → imbalanceOf u k ≡ imbalanceOf v k

@@ -19,9 +19,10 @@ use Rattle.split.specs.Members.{Three, three}
 use Rattle.split.specs.Moves.{cell-row}
 use Rattle.split.specs.Tests.{Fit, Between, Affords}
 use Rattle.split.specs.Steps.{insteadOf, numberWith, bt, af, component-low, may-move}
-use Rattle.search.specs.Carried.{listed, LARGEST, Workable}
+use Rattle.rows.specs.Rows.{listed, LARGEST}
+use Rattle.rows.specs.Carried.{Workable}
 use Rattle.search.specs.Tried.{TRIES, UNKNOWN, rowOf, columnIn, triedOf, wantedOf, Tried, Triable, Forgot}
-use Rattle.search.proofs.Machine.{back, pass}
+use Rattle.rows.specs.Machine.{back, pass}
 use Rattle.search.proofs.Trials.{giver-workable, taker-workable}
 
 -- the amount that a try leads to

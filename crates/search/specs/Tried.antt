@@ -9,7 +9,8 @@ use lib.ListN.{getD, length}
 use Rattle.systems.specs.Systems.{COMPONENTS}
 use Rattle.split.specs.Split.{SYSTEMS, CELLS}
 use Rattle.split.specs.Steps.{numberWith}
-use Rattle.search.specs.Carried.{listed, LARGEST, Workable}
+use Rattle.rows.specs.Rows.{listed, LARGEST}
+use Rattle.rows.specs.Carried.{Workable}
 
 -- a try for each cell less the stride, then one for each cell with the stride more
 abbrev pub TRIES : ℕ

@@ -1,16 +1,14 @@
 // The rounds of the search.
 ghost use mathlib.Core.Path.{_≡_};
 ghost use Prim.Native.Nat.{_<_, _≤_, _^_};
-ghost use Rattle.split.specs.Split.{Sound};
 ghost use Rattle.split.specs.Move.{movedOf};
 ghost use Rattle.split.specs.Tests.{Fit};
 ghost use Rattle.split.specs.Search.{LEVEL, goOn, turnOf, searchOf};
-ghost use Rattle.search.specs.Carried.{Held};
+ghost use Rattle.rows.specs.Carried.{Held};
 ghost use Rattle.search.specs.Tried.{Tried};
 use super::moves::first_move;
 use super::moves::moved;
 use super::moves::renumbered;
-use super::state::numbers;
 use super::state::spread;
 use super::tried::forget;
 use super::tried::none_known;
@@ -97,7 +95,7 @@ fn make(
     moved(a, m, d);
 }
 
-// The search from a split: a move counts a round, halving the stride does not.
+// The search from a split with its partial numbers: a move counts a round, halving the stride does not.
 pub(crate) fn search(
     ch: &[u8; SYSTEMS],
     k: usize,
@@ -105,12 +103,13 @@ pub(crate) fn search(
     first: usize,
     allowance: u32,
     start: [u32; CELLS],
+    numbers: [i64; SYSTEMS],
 ) -> Found
-    requires { ⌜ Sound (now ch) k start × (first ≤ LEVEL) ⌝ }
+    requires { ⌜ Held (now ch) k start numbers × (first ≤ LEVEL) ⌝ }
     ensures { λ r. ⌜ r ≡ searchOf (now (ch .entry)) k limit first allowance start ⌝ }
 {
     let mut a = start;
-    let mut v = numbers(ch, k, &a);
+    let mut v = numbers;
     let mut tried = none_known();
     let mut level = first;
     let mut rounds: u32 = 0;

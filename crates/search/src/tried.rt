@@ -6,7 +6,8 @@ ghost use lib.ListN.{getD, length, replicate};
 ghost use Rattle.systems.specs.Systems.{memberOf, Candidate};
 ghost use Rattle.split.specs.Split.{SYSTEMS, CELLS};
 ghost use Rattle.split.specs.Steps.{insteadOf, numberWith};
-ghost use Rattle.search.specs.Carried.{listed, LARGEST, Workable};
+ghost use Rattle.rows.specs.Rows.{listed, LARGEST};
+ghost use Rattle.rows.specs.Carried.{Workable};
 ghost use Rattle.search.specs.Tried.{TRIES, UNKNOWN, triedOf, wantedOf, Triable, Tried, Forgot};
 use super::state::number;
 

@@ -6,7 +6,7 @@ use Rattle.rating.proofs.rating_of.Statement.{statement}
 use Rattle.rating.proofs.rating_of.Tie as tie
 use Rattle.rating.proofs.rating_of.Reads as reads
 use Rattle.rating.proofs.rating_of.Lts as lts
-use Rattle.search.proofs.proposed.Reads as proposed-reads
+use Rattle.proposal.proofs.proposed.Reads as proposed-reads
 
 -- src/lib.rt:155:9
 proposed-requires : tie.Need-proposed-requires

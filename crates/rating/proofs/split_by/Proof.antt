@@ -9,7 +9,7 @@ use Rattle.rating.proofs.split_by.Reads as reads
 use Rattle.rating.proofs.split_by.Lts as lts
 use Rattle.rating.proofs.records.cells_of.Reads as cells-of-reads
 use Rattle.rating.proofs.records.fits.Reads as fits-reads
-use Rattle.search.proofs.proposed.Reads as proposed-reads
+use Rattle.proposal.proofs.proposed.Reads as proposed-reads
 
 -- src/lib.rt:123:9
 fits-requires : tie.Need-fits-requires

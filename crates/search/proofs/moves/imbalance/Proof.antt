@@ -4,7 +4,7 @@ use mathlib.Core.Path.{_≡_, refl, sym, ap, ap₂, _∙_}
 use borrow.Author.Needs.{needs}
 use Rattle.split.specs.Folds.{sum-none, sum-more}
 use Rattle.split.specs.Fold.{sumTo}
-use Rattle.search.specs.Carried.{listed}
+use Rattle.rows.specs.Rows.{listed}
 use Rattle.split.specs.Move.{squareOf, imbalanceOf}
 use Rattle.search.proofs.moves.imbalance.Statement.{statement}
 use Rattle.search.proofs.moves.imbalance.Tie as tie

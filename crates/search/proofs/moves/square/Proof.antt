@@ -2,7 +2,7 @@ use native.Mathlib.Omega.{arith}
 use Prim.Native.Nat.{ℕ, zero, suc, _+_, _*_, _-_, _/_, _%_, _^_, _≤_, _<_}
 use mathlib.Core.Path.{_≡_, refl, sym, ap, ap₂, _∙_}
 use borrow.Author.Needs.{needs}
-use Rattle.search.proofs.Machine.{cut-fits, square-sub, square-size, square-mul, square-is}
+use Rattle.rows.specs.Machine.{cut-fits, square-sub, square-size, square-mul, square-is}
 use Rattle.search.proofs.moves.square.Statement.{statement}
 use Rattle.search.proofs.moves.square.Tie as tie
 use Rattle.search.proofs.moves.square.Reads as reads

@@ -3,9 +3,9 @@ use Prim.Native.Nat.{ℕ, zero, suc, _+_, _*_, _-_, _/_, _%_, _^_, _≤_, _<_}
 use mathlib.Core.Path.{_≡_, refl, sym, ap, ap₂, _∙_}
 use borrow.Author.Needs.{needs}
 use Rattle.split.specs.Folds.{sum-none, sum-more}
-use Rattle.search.proofs.Machine.{at-small, square-at}
+use Rattle.rows.specs.Machine.{at-small, square-at}
 use Rattle.split.specs.Fold.{sumTo}
-use Rattle.search.specs.Carried.{listed}
+use Rattle.rows.specs.Rows.{listed}
 use Rattle.split.specs.Move.{squareOf}
 use Rattle.search.proofs.moves.squares.Statement.{statement}
 use Rattle.search.proofs.moves.squares.Tie as tie

@@ -15,7 +15,7 @@ use Rattle.search.proofs.state.spread.Reads as spread-reads
 
 -- src/rounds.rt:69:9
 spread-requires : tie.Need-spread-requires
-spread-requires c κs = search needs
+spread-requires c κs = (c .pre .0 .small, c .pre .0 .sound .stock .chosen .some)
 
 -- src/rounds.rt:71:9
 returns : tie.Need-returns

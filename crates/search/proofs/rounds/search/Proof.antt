@@ -2,7 +2,7 @@ use Rattle.split.specs.Turns.{again-halve, run-rate, run-refuse, search-starts}
 use Rattle.search.proofs.Tries.{tried-as, none-is}
 use Rattle.search.proofs.Loop.{fit-is, step-next}
 use Rattle.search.specs.Tried.{Tried}
-use Rattle.search.specs.Carried.{Held}
+use Rattle.rows.specs.Carried.{Held}
 use Rattle.split.specs.Search.{searchOf, runOf, turnOf}
 use borrow.Author.Needs.{needs}
 use mathlib.Core.Path.{_≡_, refl, sym, ap, ap₂, _∙_}
@@ -15,7 +15,6 @@ use Rattle.search.proofs.rounds.search.Lts as lts
 use Rattle.search.proofs.rounds.make.Reads as make-reads
 use Rattle.search.proofs.rounds.next_turn.Reads as next-turn-reads
 use Rattle.search.proofs.rounds.stride.Reads as stride-reads
-use Rattle.search.proofs.state.numbers.Reads as numbers-reads
 use Rattle.search.proofs.tried.none_known.Reads as none-known-reads
 
 abbrev Inv-loop : tie.InvT-loop
@@ -24,17 +23,13 @@ Inv-loop ch k limit first allowance a₀ v₀ tried₀ level₀ rounds₀ a v tr
 abbrev μ-loop : tie.MeasureT-loop
 μ-loop ch k limit first allowance a₀ v₀ tried₀ level₀ rounds₀ a v tried level rounds = allowance - rounds + level
 
--- src/rounds.rt:113:17
-numbers-requires : tie.Need-numbers-requires Inv-loop μ-loop
-numbers-requires c κs = c .before .pre .0
-
 -- src/rounds.rt:114:21
 none-known-requires : tie.Need-none-known-requires Inv-loop μ-loop
 none-known-requires c κs = search needs
 
 -- src/rounds.rt:117:5
 loop-holds : tie.Need-loop-holds Inv-loop μ-loop
-loop-holds c = (c .before .numbers .ensures, c .before .before .before .pre .1, omega arith, search-starts _ _ _ _ _ _, none-is _ _ _ _ _ (c .none-known .ensures))
+loop-holds c = (c .before .pre .0, c .before .pre .1, omega arith, search-starts _ _ _ _ _ _, none-is _ _ _ _ _ (c .none-known .ensures))
 
 -- src/rounds.rt:118:13
 next-turn-requires : tie.Need-next-turn-requires Inv-loop μ-loop
@@ -70,15 +65,15 @@ make-requires c κs = (c .before .before .before .before .before .before .before
 
 -- src/rounds.rt:135:17
 add-rounds : tie.Need-add-rounds Inv-loop μ-loop
-add-rounds c = omega (arith, step-next _ _ _ (c .before .before .before .before .before .before .before .before .before .before .before .before .before .before .before .before .args .allowance) _ _ _ _ _ (c .before .before .before .before .stride .ensures) (sym (c .before .before .before .before .before .before .before .before .next-turn .ensures .0) ∙ c .before .before .before .before .before .before .t2 .given .1) _ (c .make .ensures .0) _ (c .before .before .before .before .before .before .before .before .before .before .before .before .loop .inv .2) (c .before .before .before .before .before .before .before .before .before .before .before .before .loop .inv .3) .0, c .before .before .before .before .before .before .before .before .before .before .before .before .before .before .before .before .fits .allowance)
+add-rounds c = omega (arith, step-next _ _ _ (c .before .before .before .before .before .before .before .before .before .before .before .before .before .before .args .allowance) _ _ _ _ _ (c .before .before .before .before .stride .ensures) (sym (c .before .before .before .before .before .before .before .before .next-turn .ensures .0) ∙ c .before .before .before .before .before .before .t2 .given .1) _ (c .make .ensures .0) _ (c .before .before .before .before .before .before .before .before .before .before .before .before .loop .inv .2) (c .before .before .before .before .before .before .before .before .before .before .before .before .loop .inv .3) .0, c .before .before .before .before .before .before .before .before .before .before .before .before .before .before .fits .allowance)
 
 -- src/rounds.rt:117:5
 loop-less : tie.Need-loop-less Inv-loop μ-loop
-loop-less c = omega (arith, step-next _ _ _ (c .before .before .before .before .before .before .before .before .before .before .before .before .before .before .before .before .args .allowance) _ _ _ _ _ (c .before .before .before .before .stride .ensures) (sym (c .before .before .before .before .before .before .before .before .next-turn .ensures .0) ∙ c .before .before .before .before .before .before .t2 .given .1) _ (c .make .ensures .0) _ (c .before .before .before .before .before .before .before .before .before .before .before .before .loop .inv .2) (c .before .before .before .before .before .before .before .before .before .before .before .before .loop .inv .3) .0)
+loop-less c = omega (arith, step-next _ _ _ (c .before .before .before .before .before .before .before .before .before .before .before .before .before .before .args .allowance) _ _ _ _ _ (c .before .before .before .before .stride .ensures) (sym (c .before .before .before .before .before .before .before .before .next-turn .ensures .0) ∙ c .before .before .before .before .before .before .t2 .given .1) _ (c .make .ensures .0) _ (c .before .before .before .before .before .before .before .before .before .before .before .before .loop .inv .2) (c .before .before .before .before .before .before .before .before .before .before .before .before .loop .inv .3) .0)
 
 -- src/rounds.rt:117:5
 loop-again : tie.Need-loop-again Inv-loop μ-loop
-loop-again c = let g = step-next _ _ _ (c .before .before .before .before .before .before .before .before .before .before .before .before .before .before .before .before .args .allowance) _ _ _ _ _ (c .before .before .before .before .stride .ensures) (sym (c .before .before .before .before .before .before .before .before .next-turn .ensures .0) ∙ c .before .before .before .before .before .before .t2 .given .1) _ (c .make .ensures .0) _ (c .before .before .before .before .before .before .before .before .before .before .before .before .loop .inv .2) (c .before .before .before .before .before .before .before .before .before .before .before .before .loop .inv .3) in (c .make .ensures .1, c .before .before .before .before .before .before .before .before .before .before .before .before .loop .inv .1, g .0, g .1, tried-as _ _ _ _ _ _ (sym (c .before .before .before .before .stride .ensures)) (c .make .ensures .2))
+loop-again c = let g = step-next _ _ _ (c .before .before .before .before .before .before .before .before .before .before .before .before .before .before .args .allowance) _ _ _ _ _ (c .before .before .before .before .stride .ensures) (sym (c .before .before .before .before .before .before .before .before .next-turn .ensures .0) ∙ c .before .before .before .before .before .before .t2 .given .1) _ (c .make .ensures .0) _ (c .before .before .before .before .before .before .before .before .before .before .before .before .loop .inv .2) (c .before .before .before .before .before .before .before .before .before .before .before .before .loop .inv .3) in (c .make .ensures .1, c .before .before .before .before .before .before .before .before .before .before .before .before .loop .inv .1, g .0, g .1, tried-as _ _ _ _ _ _ (sym (c .before .before .before .before .stride .ensures)) (c .make .ensures .2))
 
 -- src/rounds.rt:138:17
 enum-told-2 : tie.Need-enum-told-2 Inv-loop μ-loop
@@ -106,7 +101,6 @@ search-spec =
     (tie.spec
     Inv-loop
     μ-loop
-    numbers-requires
     none-known-requires
     loop-holds
     next-turn-requires

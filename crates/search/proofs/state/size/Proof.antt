@@ -2,7 +2,7 @@ use native.Mathlib.Omega.{arith}
 use Prim.Native.Nat.{ℕ, zero, suc, _+_, _*_, _-_, _/_, _%_, _^_, _≤_, _<_}
 use mathlib.Core.Path.{_≡_, refl, sym, ap, ap₂, _∙_}
 use borrow.Author.Needs.{needs}
-use Rattle.search.proofs.Machine.{size-sub, size-cast, size-is, size-cast-2, size-is-2}
+use Rattle.rows.specs.Machine.{size-sub, size-cast, size-is, size-cast-2, size-is-2}
 use Rattle.search.proofs.state.size.Statement.{statement}
 use Rattle.search.proofs.state.size.Tie as tie
 use Rattle.search.proofs.state.size.Reads as reads

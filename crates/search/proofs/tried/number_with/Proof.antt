@@ -3,7 +3,7 @@ use Prim.Native.Nat.{ℕ, zero, suc, _+_, _*_, _-_, _/_, _%_, _^_, _≤_, _<_}
 use mathlib.Core.Path.{_≡_, refl, sym, ap, ap₂, _∙_}
 use borrow.Author.Needs.{needs}
 use Rattle.search.proofs.Trials.{number-picked, may-pick}
-use Rattle.search.proofs.Machine.{pass}
+use Rattle.rows.specs.Machine.{pass}
 use Rattle.search.proofs.tried.number_with.Statement.{statement}
 use Rattle.search.proofs.tried.number_with.Tie as tie
 use Rattle.search.proofs.tried.number_with.Reads as reads
