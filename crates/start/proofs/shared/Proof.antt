@@ -8,23 +8,23 @@ use Rattle.start.proofs.shared.Lts as lts
 use Rattle.start.proofs.column.Reads as column-reads
 use Rattle.start.proofs.sharers.Reads as sharers-reads
 
--- src/lib.rt:143:9
+-- src/lib.rt:138:9
 sharers-requires : tie.Need-sharers-requires
 sharers-requires c κs = search needs
 
--- src/lib.rt:144:25
+-- src/lib.rt:139:27
 div-column : tie.Need-div-column
 div-column c = search needs
 
--- src/lib.rt:144:32
+-- src/lib.rt:139:34
 rem-column : tie.Need-rem-column
 rem-column c = search needs
 
--- src/lib.rt:144:5
+-- src/lib.rt:139:5
 column-requires : tie.Need-column-requires
-column-requires c κs = (c .before .before .pre .0, c .before .before .pre .1, omega (arith, shares-fit (c .before .before .args .t) (c .before .sharers .result) (c .before .sharers .ensures .1)))
+column-requires c κs = (c .before .before .pre, omega (arith, shares-fit (c .before .before .args .t) (c .before .sharers .result) (c .before .sharers .ensures .1)))
 
--- src/lib.rt:139:1
+-- src/lib.rt:134:1
 returns : tie.Need-returns
 returns c = shared-is _ _ _ _ _ _ _ (c .before .before .sharers .ensures .0) (c .column .ensures)
 
