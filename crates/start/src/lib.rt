@@ -23,7 +23,7 @@ const MILLION: u64 = 1000000;
 const NUMBERS: u8 = 9;
 
 // The components that a system contains: a hexadecimal digit for each system number, from the right, a bit for each component.
-const CONTAINED: u64 = 0xbd0070e00;
+const CONTAINED: usize = 0xbd0070e00;
 
 fn wide(x: u32) -> u64
     ensures { λ r. ⌜ (r ≡ x) × (r ≤ 4294967295) ⌝ }
@@ -84,7 +84,7 @@ fn contains(ch: &[u8; SYSTEMS], i: usize) -> u32
     if system >= NUMBERS {
         return 0;
     }
-    ((CONTAINED >> (system as u64 * 4 + (i % COMPONENTS) as u64)) % 2) as u32
+    ((CONTAINED >> (system as usize * COMPONENTS + i % COMPONENTS)) % 2) as u32
 }
 
 // Among how many systems of the cells before the end component c is shared: those that contain it, or 1 where none does.
