@@ -175,5 +175,7 @@ done-all mix ch k a n h z =
     let q : n ≡ COMPONENTS = omega (arith, z .most) in
     z .cells ∙ ap (sharedTo mix ch k (replicate CELLS 0)) q
 
-pub start-is : (mix ch : List ℕ) (k r : ℕ) (a : List ℕ) → length ch ≤ SYSTEMS → r ≡ min SYSTEMS k → a ≡ sharedTo mix ch r (replicate CELLS 0) COMPONENTS → a ≡ startOf mix ch k
-start-is mix ch k r a long e z = z ∙ ap (λ x. sharedTo mix ch x (replicate CELLS 0) COMPONENTS) e ∙ all-shared mix ch k long
+pub start-is : (mix ch : List ℕ) (k r : ℕ) (a : List ℕ) → length ch ≤ SYSTEMS → r ≡ min SYSTEMS k * COMPONENTS → a ≡ sharedTo mix ch (r / COMPONENTS) (replicate CELLS 0) COMPONENTS → a ≡ startOf mix ch k
+start-is mix ch k r a long e z =
+    let q : r / COMPONENTS ≡ min SYSTEMS k = omega arith in
+    z ∙ ap (λ x. sharedTo mix ch x (replicate CELLS 0) COMPONENTS) q ∙ all-shared mix ch k long

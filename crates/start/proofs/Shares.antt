@@ -7,14 +7,14 @@ use native.Mathlib.Nat as N
 use native.Mathlib.Numerals.{add-one}
 use native.Mathlib.Omega.{arith}
 use lib.Dec.{ltb, eqb}
-use lib.ListN.{getD, length, set}
+use lib.ListN.{set}
 use borrow.Author.Tests.{lt-ltb, le-ltb, eq-eqb, ne-eqb}
 use Rattle.systems.specs.Systems.{COMPONENTS, hasOf}
 use Rattle.split.specs.Fold.{sumTo}
 use Rattle.split.specs.Folds.{sum-none, sum-more}
 use Rattle.split.specs.Split.{systemOf}
 use Rattle.split.specs.Start.{sharersOf}
-use Rattle.start.specs.Column.{partOf, rowOf, columnTo, sharedOf, sharedTo}
+use Rattle.start.specs.Column.{Cells, containedAt, partOf, rowOf, columnTo, sharedOf}
 
 -- the three cases of a part
 module _ (here share odd rank : ℕ) where
@@ -30,61 +30,79 @@ module _ (here share odd rank : ℕ) where
   unfolding partOf
   part-share n h = rw (ne-eqb here 0 n, le-ltb rank odd h) (omega arith)
 
--- how many of the rows before s share
-pub record Counted (ch : List ℕ) (k c r s : ℕ) : Type 0 where
-  pub low : s ≤ k
-  pub count : r ≡ sharersOf ch c s
-  pub few : r ≤ s
+-- how many of the rows before cell i's share
+pub record Counted (ch : List ℕ) (end c r i : ℕ) : Type 0 where
+  pub row : ℕ
+  pub at : i ≡ row * COMPONENTS + c
+  pub past : row * COMPONENTS ≤ end
+  pub count : r ≡ sharersOf ch c row
+  pub few : r ≤ row
 
-module _ (ch : List ℕ) (k c : ℕ) where
-  pub counted-none : Counted ch k c 0 0
+module _ (ch : List ℕ) (end c : ℕ) (z : Cells end c) where
+  pub counted-none : Counted ch end c 0 c
   unfolding sharersOf
-  counted-none = record { low = omega arith; count = sum-none (λ s. cond (hasOf (systemOf ch s) c) 1 0); few = omega arith }
+  counted-none = record { row = 0; at = omega arith; past = omega arith; count = sum-none (λ s. cond (hasOf (systemOf ch s) c) 1 0); few = omega arith }
 
-  pub counted-more : (r s y : ℕ) → s < k → Counted ch k c r s → (y ≡ cond (hasOf (systemOf ch s) c) 1 0) × (y ≤ 1) → Counted ch k c (r + y) (s + 1)
-  unfolding sharersOf
-  counted-more r s y h z e = record {
-    low = omega arith;
-    count = sum-more (λ s. cond (hasOf (systemOf ch s) c) 1 0) s r y (z .count) (e .0);
-    few = omega (arith, z .few, e .1);
-  }
+  -- a cell's system and component
+  here-is : (i row y : ℕ) → i ≡ row * COMPONENTS + c → y ≡ containedAt ch i → y ≡ cond (hasOf (systemOf ch row) c) 1 0
+  here-is i row y at e =
+      let s : i / COMPONENTS ≡ row = omega (arith, z .low) in
+      let d : i % COMPONENTS ≡ c = omega (arith, z .low) in
+      e ∙ ap₂ (λ x u. cond (hasOf (systemOf ch x) u) 1 0) s d
 
-  -- at the end, at least 1
-  pub counted-zero : (r s : ℕ) → k ≤ s → Counted ch k c r s → r ≡ 0 → (1 ≡ max 1 (sharersOf ch c k)) × (1 ≤ 1)
-  counted-zero r s h z e =
-      let q : s ≡ k = omega (arith, z .low) in
-      let n : r ≡ sharersOf ch c k = rw q at (z .count) in
-      (omega arith, omega arith)
+  module _ (r i : ℕ) (w : Counted ch end c r i) where
+    pub counted-more : (y : ℕ) → i < end → (y ≡ containedAt ch i) × (y ≤ 1) → Counted ch end c (r + y) (i + COMPONENTS)
+    unfolding sharersOf
+    counted-more y h e = record {
+      row = w .row + 1;
+      at = omega (arith, w .at);
+      past = omega (arith, w .at, z .whole, z .low);
+      count = sum-more (λ s. cond (hasOf (systemOf ch s) c) 1 0) (w .row) r y (w .count) (here-is i (w .row) y (w .at) (e .0));
+      few = omega (arith, w .few, e .1);
+    }
 
-  pub counted-some : (r s : ℕ) → k ≤ s → Counted ch k c r s → (r ≡ 0 → ⊥) → (r ≡ max 1 (sharersOf ch c k)) × (1 ≤ r)
-  counted-some r s h z e =
-      let q : s ≡ k = omega (arith, z .low) in
-      let n : r ≡ sharersOf ch c k = rw q at (z .count) in
-      (omega (arith, e), omega (arith, e))
+    row-end : end ≤ i → w .row ≡ end / COMPONENTS
+    row-end h = omega (arith, w .at, w .past, z .whole, z .low)
 
--- the rows before s have their parts
-pub record Written (ch : List ℕ) (k c share odd : ℕ) (a b : List ℕ) (rank s : ℕ) : Type 0 where
-  pub counted : Counted ch k c rank s
-  pub cells : b ≡ columnTo ch c share odd a s
+    -- at the end, at least 1
+    pub counted-zero : end ≤ i → r ≡ 0 → (1 ≡ max 1 (sharersOf ch c (end / COMPONENTS))) × (1 ≤ 1)
+    counted-zero h e =
+        let n : r ≡ sharersOf ch c (end / COMPONENTS) = w .count ∙ ap (sharersOf ch c) (row-end h) in
+        (omega arith, omega arith)
 
-module _ (ch : List ℕ) (k c share odd : ℕ) (a : List ℕ) where
-  pub written-none : Written ch k c share odd a a 0 0
-  unfolding columnTo
-  written-none = record { counted = counted-none ch k c; cells = refl }
+    pub counted-some : end ≤ i → (r ≡ 0 → ⊥) → (r ≡ max 1 (sharersOf ch c (end / COMPONENTS))) × (1 ≤ r)
+    counted-some h e =
+        let n : r ≡ sharersOf ch c (end / COMPONENTS) = w .count ∙ ap (sharersOf ch c) (row-end h) in
+        (omega (arith, e), omega (arith, e))
 
-  pub written-more : (b : List ℕ) (rank s here v : ℕ) → s < k → Written ch k c share odd a b rank s
-      → (here ≡ cond (hasOf (systemOf ch s) c) 1 0) × (here ≤ 1) → v ≡ partOf here share odd rank
-      → Written ch k c share odd a (set b (s * COMPONENTS + c) v) (rank + here) (s + 1)
-  unfolding columnTo rowOf
-  written-more b rank s here v h z e p = record {
-    counted = counted-more ch k c rank s here h (z .counted) e;
-    cells = rw (add-one s) (ap₂ (λ l x. set l (s * COMPONENTS + c) x) (z .cells) (p ∙ ap₂ (λ x y. partOf x share odd y) (e .0) (z .counted .count)));
-  }
+    -- the counts fit
+    pub counted-few : i < end → r ≤ 8
+    counted-few h = omega (arith, w .at, w .few, z .room)
 
-  pub written-all : (b : List ℕ) (rank s : ℕ) → k ≤ s → Written ch k c share odd a b rank s → b ≡ columnTo ch c share odd a k
-  written-all b rank s h z =
-      let q : s ≡ k = omega (arith, z .counted .low) in
-      z .cells ∙ ap (columnTo ch c share odd a) q
+-- the rows before cell i's have their parts
+pub record Written (ch : List ℕ) (end c share odd : ℕ) (a b : List ℕ) (rank i : ℕ) : Type 0 where
+  pub counted : Counted ch end c rank i
+  pub cells : b ≡ columnTo ch c share odd a (counted .row)
+
+module _ (ch : List ℕ) (end c share odd : ℕ) (a : List ℕ) (z : Cells end c) where
+  pub written-none : Written ch end c share odd a a 0 c
+  unfolding columnTo counted-none
+  written-none = record { counted = counted-none ch end c z; cells = refl }
+
+  module _ (b : List ℕ) (rank i : ℕ) (w : Written ch end c share odd a b rank i) where
+    pub written-more : (here v : ℕ) → i < end → (here ≡ containedAt ch i) × (here ≤ 1) → v ≡ partOf here share odd rank
+        → Written ch end c share odd a (set b i v) (rank + here) (i + COMPONENTS)
+    unfolding columnTo rowOf counted-more
+    written-more here v h e p = record {
+      counted = counted-more ch end c z rank i (w .counted) here h e;
+      cells =
+          rw (add-one (w .counted .row), w .counted .at)
+          (ap₂ (λ l x. set l (w .counted .row * COMPONENTS + c) x) (w .cells)
+          (p ∙ ap₂ (λ x y. partOf x share odd y) (here-is ch end c z i (w .counted .row) here (w .counted .at) (e .0)) (w .counted .count)));
+    }
+
+    pub written-all : end ≤ i → b ≡ columnTo ch c share odd a (end / COMPONENTS)
+    written-all h = w .cells ∙ ap (columnTo ch c share odd a) (row-end ch end c z rank i (w .counted) h)
 
 -- share and odd parts add up to the component's parts at most
 small : (q n r t : ℕ) → 1 ≤ n → q * n + r ≡ t → q + r ≤ t

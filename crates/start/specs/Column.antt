@@ -1,12 +1,23 @@
 -- A component's cells in a split, written row by row. Assumes nothing.
-use Prim.Native.Nat.{ℕ, zero, suc, _+_, _*_, _/_, _%_, max}
+use Prim.Native.Nat.{ℕ, zero, suc, _+_, _*_, _/_, _%_, _≤_, _<_, max}
+use mathlib.Core.Path.{_≡_}
 use mathlib.Core.List.{List}
 use mathlib.Core.Bool.{cond}
 use lib.Dec.{ltb, eqb}
 use lib.ListN.{getD, set}
 use Rattle.systems.specs.Systems.{COMPONENTS, hasOf}
-use Rattle.split.specs.Split.{systemOf}
+use Rattle.split.specs.Split.{CELLS, systemOf}
 use Rattle.split.specs.Start.{sharersOf}
+
+-- whether cell i's system contains its component: 1, else 0
+abbrev pub containedAt : List ℕ → ℕ → ℕ
+containedAt ch i = cond (hasOf (systemOf ch (i / COMPONENTS)) (i % COMPONENTS)) 1 0
+
+-- whole rows end there, and c is a component
+pub record Cells (end c : ℕ) : Type 0 where
+  pub room : end ≤ CELLS
+  pub whole : end % COMPONENTS ≡ 0
+  pub low : c < COMPONENTS
 
 -- what a row gets: nothing where it does not share, else its share, and 1 more where its rank is below the odd parts
 unfoldable pub partOf : ℕ → ℕ → ℕ → ℕ → ℕ

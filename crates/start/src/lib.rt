@@ -1,13 +1,12 @@
 // Whether an input can be worked on, and the split that a search begins with. No public function has a `requires`.
 ghost use mathlib.Core.Path.{_≡_};
-ghost use mathlib.Core.Bool.{cond};
-ghost use Prim.Native.Nat.{_+_, _/_, _%_, _<_, _≤_, max, min};
+ghost use Prim.Native.Nat.{_+_, _*_, _/_, _<_, _≤_, max, min};
 ghost use lib.ListN.{replicate};
-ghost use Rattle.systems.specs.Systems.{COMPONENTS, hasOf};
+ghost use Rattle.systems.specs.Systems.{COMPONENTS};
 ghost use Rattle.split.specs.Split.{SYSTEMS, CELLS, both};
 ghost use Rattle.split.specs.Start.{sharersOf, startOf};
 ghost use Rattle.split.specs.Find.{chosenFit, mixtureFit};
-ghost use Rattle.start.specs.Column.{partOf, columnTo, sharedOf, sharedTo};
+ghost use Rattle.start.specs.Column.{Cells, containedAt, partOf, columnTo, sharedOf, sharedTo};
 use systems::Choice;
 
 const COMPONENTS: usize = 4;
@@ -24,7 +23,7 @@ const MILLION: u64 = 1000000;
 const NUMBERS: u8 = 9;
 
 // The components that a system contains: a hexadecimal digit for each system number, from the right, a bit for each component.
-const CONTAINED: u64 = 0xbd0070e00;
+const CONTAINED: usize = 0xbd0070e00;
 
 fn wide(x: u32) -> u64
     ensures { λ r. ⌜ (r ≡ x) × (r ≤ 4294967295) ⌝ }
@@ -45,10 +44,13 @@ fn mixture_fit(mix: &[u32; COMPONENTS]) -> bool
     sum <= MILLION
 }
 
-// Whether the first k systems are chosen systems that there is room for: those and no others have components.
-fn chosen_fit(ch: &[u8; SYSTEMS], k: usize) -> bool
-    ensures { λ r. ⌜ r ≡ chosenFit (now (ch .entry)) k ⌝ }
+// Whether it has, and the first k systems are candidates that there is room for: those and no others have components.
+fn all_fit(mix: &[u32; COMPONENTS], ch: &[u8; SYSTEMS], k: usize) -> bool
+    ensures { λ r. ⌜ r ≡ both (mixtureFit (now (mix .entry))) (chosenFit (now (ch .entry)) k) ⌝ }
 {
+    if !mixture_fit(mix) {
+        return false;
+    }
     if k == 0 {
         return false;
     }
@@ -69,34 +71,32 @@ fn chosen_fit(ch: &[u8; SYSTEMS], k: usize) -> bool
 pub fn fit(mix: [u32; COMPONENTS], choice: Choice) -> bool
     ensures { λ r. ⌜ r ≡ both (mixtureFit mix) (chosenFit (choice .systems) (choice .count)) ⌝ }
 {
-    if !mixture_fit(&mix) {
-        return false;
-    }
     let ch = choice.systems;
-    chosen_fit(&ch, choice.count)
+    all_fit(&mix, &ch, choice.count)
 }
 
-// One where the system contains component c, else none.
-fn contains(system: u8, c: usize) -> u32
-    requires { ⌜ c < COMPONENTS ⌝ }
-    ensures { λ r. ⌜ (r ≡ cond (hasOf system c) 1 0) × (r ≤ 1) ⌝ }
+// One where cell i's system contains its component, else none.
+fn contains(ch: &[u8; SYSTEMS], i: usize) -> u32
+    requires { ⌜ i < CELLS ⌝ }
+    ensures { λ r. ⌜ (r ≡ containedAt (now (ch .entry)) i) × (r ≤ 1) ⌝ }
 {
+    let system = ch[i / COMPONENTS];
     if system >= NUMBERS {
         return 0;
     }
-    ((CONTAINED >> (system as u64 * 4 + c as u64)) % 2) as u32
+    ((CONTAINED >> (system as usize * COMPONENTS + i % COMPONENTS)) % 2) as u32
 }
 
-// Among how many of the first k chosen systems component c is shared: those that contain it, or 1 where none does.
-fn sharers(ch: &[u8; SYSTEMS], k: usize, c: usize) -> u32
-    requires { ⌜ (k ≤ SYSTEMS) × (c < COMPONENTS) ⌝ }
-    ensures { λ r. ⌜ (r ≡ max 1 (sharersOf (now (ch .entry)) c k)) × (1 ≤ r) ⌝ }
+// Among how many systems of the cells before the end component c is shared: those that contain it, or 1 where none does.
+fn sharers(ch: &[u8; SYSTEMS], end: usize, c: usize) -> u32
+    requires { ⌜ Cells end c ⌝ }
+    ensures { λ r. ⌜ (r ≡ max 1 (sharersOf (now (ch .entry)) c (end / COMPONENTS))) × (1 ≤ r) ⌝ }
 {
     let mut r: u32 = 0;
-    let mut s = 0;
-    while s < k {
-        r += contains(ch[s], c);
-        s += 1;
+    let mut i = c;
+    while i < end {
+        r += contains(ch, i);
+        i += COMPONENTS;
     }
     if r == 0 { 1 } else { r }
 }
@@ -115,46 +115,50 @@ fn part(here: u32, share: u32, odd: u32, rank: u32) -> u32
     share
 }
 
-// The cells of component c in the first k rows.
-fn column(a: &mut [u32; CELLS], ch: &[u8; SYSTEMS], k: usize, c: usize, share: u32, odd: u32)
-    requires { ⌜ (k ≤ SYSTEMS) × (c < COMPONENTS) × (share + odd ≤ 4294967295) ⌝ }
-    ensures { λ _. ⌜ now (a .exit) ≡ columnTo (now (ch .entry)) c share odd (now (a .entry)) k ⌝ }
+// The cells of component c before the end.
+fn column(a: &mut [u32; CELLS], ch: &[u8; SYSTEMS], end: usize, c: usize, share: u32, odd: u32)
+    requires { ⌜ Cells end c × (share + odd ≤ 4294967295) ⌝ }
+    ensures { λ _. ⌜ now (a .exit) ≡ columnTo (now (ch .entry)) c share odd (now (a .entry)) (end / COMPONENTS) ⌝ }
 {
     let mut rank: u32 = 0;
-    let mut s = 0;
-    while s < k {
-        let here = contains(ch[s], c);
-        a[s * COMPONENTS + c] = part(here, share, odd, rank);
+    let mut i = c;
+    while i < end {
+        let here = contains(ch, i);
+        a[i] = part(here, share, odd, rank);
         rank += here;
-        s += 1;
+        i += COMPONENTS;
     }
 }
 
-// The t parts of component c shared among the first k rows.
-fn shared(a: &mut [u32; CELLS], ch: &[u8; SYSTEMS], k: usize, c: usize, t: u32)
-    requires { ⌜ (k ≤ SYSTEMS) × (c < COMPONENTS) ⌝ }
-    ensures { λ _. ⌜ now (a .exit) ≡ sharedOf (now (ch .entry)) k c t (now (a .entry)) ⌝ }
+// The t parts of component c shared among the rows before the end.
+fn shared(a: &mut [u32; CELLS], ch: &[u8; SYSTEMS], end: usize, c: usize, t: u32)
+    requires { ⌜ Cells end c ⌝ }
+    ensures { λ _. ⌜ now (a .exit) ≡ sharedOf (now (ch .entry)) (end / COMPONENTS) c t (now (a .entry)) ⌝ }
 {
-    let n = sharers(ch, k, c);
-    column(a, ch, k, c, t / n, t % n);
+    let n = sharers(ch, end, c);
+    column(a, ch, end, c, t / n, t % n);
 }
 
-// So many rows as there are chosen systems and room for.
-fn rows(count: usize) -> usize
-    ensures { λ r. ⌜ r ≡ min SYSTEMS count ⌝ }
+// Where the rows end: there are so many as chosen systems that there is room for.
+fn end_of(count: usize) -> usize
+    ensures { λ r. ⌜ r ≡ min SYSTEMS count * COMPONENTS ⌝ }
 {
-    if SYSTEMS < count { SYSTEMS } else { count }
+    if SYSTEMS < count {
+        CELLS
+    } else {
+        count * COMPONENTS
+    }
 }
 
-// The cells of the components shared among the first k rows.
-fn cells(mix: &[u32; COMPONENTS], ch: &[u8; SYSTEMS], k: usize) -> [u32; CELLS]
-    requires { ⌜ k ≤ SYSTEMS ⌝ }
-    ensures { λ r. ⌜ r ≡ sharedTo (now (mix .entry)) (now (ch .entry)) k (replicate CELLS 0) COMPONENTS ⌝ }
+// The cells of the components, shared among the rows before the end.
+fn cells(mix: &[u32; COMPONENTS], ch: &[u8; SYSTEMS], end: usize) -> [u32; CELLS]
+    requires { ⌜ Cells end 0 ⌝ }
+    ensures { λ r. ⌜ r ≡ sharedTo (now (mix .entry)) (now (ch .entry)) (end / COMPONENTS) (replicate CELLS 0) COMPONENTS ⌝ }
 {
     let mut a = [0u32; CELLS];
     let mut c = 0;
     while c < COMPONENTS {
-        shared(&mut a, ch, k, c, mix[c]);
+        shared(&mut a, ch, end, c, mix[c]);
         c += 1;
     }
     a
@@ -165,5 +169,5 @@ pub fn start(mix: [u32; COMPONENTS], choice: Choice) -> [u32; CELLS]
     ensures { λ r. ⌜ r ≡ startOf mix (choice .systems) (choice .count) ⌝ }
 {
     let ch = choice.systems;
-    cells(&mix, &ch, rows(choice.count))
+    cells(&mix, &ch, end_of(choice.count))
 }

@@ -1,48 +1,37 @@
+-- `start::cells` meets its contract. Assumes nothing.
 use borrow.Author.Needs.{needs}
-use native.Mathlib.Omega.{arith}
-use Prim.Native.Nat.{_-_}
+use Prim.Native.Nat.{_-_, _/_}
 use Rattle.start.proofs.Columns.{Done, done-none, done-more, done-all}
 use Rattle.start.proofs.cells.Statement.{statement}
 use Rattle.start.proofs.cells.Tie as tie
-use Rattle.start.proofs.cells.Reads as reads
-use Rattle.start.proofs.cells.Lts as lts
-use Rattle.start.proofs.shared.Reads as shared-reads
 
 abbrev Inv-loop : tie.InvT-loop
-Inv-loop mix ch k a₀ c₀ a c = Done mix ch k a c
+Inv-loop mix ch end a₀ c₀ a c = Done mix ch (end / 4) a c
 
 abbrev μ-loop : tie.MeasureT-loop
-μ-loop mix ch k a₀ c₀ a c = 4 - c
+μ-loop mix ch end a₀ c₀ a c = 4 - c
 
--- src/lib.rt:156:5
 loop-holds : tie.Need-loop-holds Inv-loop μ-loop
 loop-holds c = done-none _ _ _
 
--- src/lib.rt:157:34
 mul-shared : tie.Need-mul-shared Inv-loop μ-loop
 mul-shared c = search needs
 
--- src/lib.rt:157:34
 element-copy-out-shared : tie.Need-element-copy-out-shared Inv-loop μ-loop
 element-copy-out-shared c = search needs
 
--- src/lib.rt:157:9
 shared-requires : tie.Need-shared-requires Inv-loop μ-loop
-shared-requires c κs = search needs
+shared-requires c κs = record { room = c .before .before .before .before .pre .room; whole = c .before .before .before .before .pre .whole; low = c .before .before .loop-test .taken }
 
--- src/lib.rt:158:9
 add-c : tie.Need-add-c Inv-loop μ-loop
 add-c c = search needs
 
--- src/lib.rt:156:5
 loop-less : tie.Need-loop-less Inv-loop μ-loop
 loop-less c = search needs
 
--- src/lib.rt:156:5
 loop-again : tie.Need-loop-again Inv-loop μ-loop
 loop-again c = done-more _ _ _ _ _ _ (c .before .before .before .loop-test .taken) (c .before .before .before .before .loop .inv) (c .shared .ensures)
 
--- src/lib.rt:150:1
 returns : tie.Need-returns Inv-loop μ-loop
 returns c = done-all _ _ _ _ _ (c .loop-test .left) (c .before .loop .inv)
 

@@ -1,12 +1,10 @@
+-- `start::mixture_fit` meets its contract. Assumes nothing.
 use borrow.Author.Needs.{needs}
 use native.Mathlib.Omega.{arith}
 use Prim.Native.Nat.{_-_}
 use Rattle.start.proofs.Tests.{Added, added-none, added-more, added-fit}
 use Rattle.start.proofs.mixture_fit.Statement.{statement}
 use Rattle.start.proofs.mixture_fit.Tie as tie
-use Rattle.start.proofs.mixture_fit.Reads as reads
-use Rattle.start.proofs.mixture_fit.Lts as lts
-use Rattle.start.proofs.wide.Reads as wide-reads
 
 abbrev Inv-loop : tie.InvT-loop
 Inv-loop mix sum₀ c₀ sum c = Added mix sum c
@@ -14,39 +12,30 @@ Inv-loop mix sum₀ c₀ sum c = Added mix sum c
 abbrev μ-loop : tie.MeasureT-loop
 μ-loop mix sum₀ c₀ sum c = 4 - c
 
--- src/lib.rt:41:5
 loop-holds : tie.Need-loop-holds Inv-loop μ-loop
 loop-holds c = added-none _
 
--- src/lib.rt:42:21
 mul-wide : tie.Need-mul-wide Inv-loop μ-loop
 mul-wide c = search needs
 
--- src/lib.rt:42:21
 element-copy-out-wide : tie.Need-element-copy-out-wide Inv-loop μ-loop
 element-copy-out-wide c = search needs
 
--- src/lib.rt:42:16
 wide-requires : tie.Need-wide-requires Inv-loop μ-loop
 wide-requires c κs = search needs
 
--- src/lib.rt:42:9
 add-sum : tie.Need-add-sum Inv-loop μ-loop
 add-sum c = omega (arith, c .before .before .before .loop .inv .few, c .before .before .loop-test .taken, c .wide .ensures .1)
 
--- src/lib.rt:43:9
 add-c : tie.Need-add-c Inv-loop μ-loop
 add-c c = search needs
 
--- src/lib.rt:41:5
 loop-less : tie.Need-loop-less Inv-loop μ-loop
 loop-less c = search needs
 
--- src/lib.rt:41:5
 loop-again : tie.Need-loop-again Inv-loop μ-loop
 loop-again c = added-more _ _ _ _ (c .before .before .loop-test .taken) (c .before .before .before .loop .inv) (c .wide .ensures)
 
--- src/lib.rt:36:1
 returns : tie.Need-returns Inv-loop μ-loop
 returns c = added-fit _ _ _ (c .loop-test .left) (c .before .loop .inv)
 

@@ -1,30 +1,22 @@
+-- `start::shared` meets its contract. Assumes nothing.
 use native.Mathlib.Omega.{arith}
 use Rattle.start.proofs.Shares.{shares-fit, shared-is}
 use borrow.Author.Needs.{needs}
 use Rattle.start.proofs.shared.Statement.{statement}
 use Rattle.start.proofs.shared.Tie as tie
-use Rattle.start.proofs.shared.Reads as reads
-use Rattle.start.proofs.shared.Lts as lts
-use Rattle.start.proofs.column.Reads as column-reads
-use Rattle.start.proofs.sharers.Reads as sharers-reads
 
--- src/lib.rt:143:9
 sharers-requires : tie.Need-sharers-requires
 sharers-requires c κs = search needs
 
--- src/lib.rt:144:25
 div-column : tie.Need-div-column
 div-column c = search needs
 
--- src/lib.rt:144:32
 rem-column : tie.Need-rem-column
 rem-column c = search needs
 
--- src/lib.rt:144:5
 column-requires : tie.Need-column-requires
-column-requires c κs = (c .before .before .pre .0, c .before .before .pre .1, omega (arith, shares-fit (c .before .before .args .t) (c .before .sharers .result) (c .before .sharers .ensures .1)))
+column-requires c κs = (c .before .before .pre, omega (arith, shares-fit (c .before .before .args .t) (c .before .sharers .result) (c .before .sharers .ensures .1)))
 
--- src/lib.rt:139:1
 returns : tie.Need-returns
 returns c = shared-is _ _ _ _ _ _ _ (c .before .before .sharers .ensures .0) (c .column .ensures)
 
