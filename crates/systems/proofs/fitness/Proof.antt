@@ -1,47 +1,67 @@
--- `systems::fitness` meets its contract. Assumes nothing.
+use Prim.Native.Nat.{_*_, _-_, _≤_}
+use mathlib.Core.Path.{_≡_, refl, sym, _∙_}
+use mathlib.Core.Logic.{⊎-elim}
 use native.Mathlib.Omega.{arith}
 use borrow.Author.Needs.{needs}
-use Rattle.systems.proofs.Weights.{fitness-is}
+use Rattle.systems.specs.Systems.{COMPONENTS}
+use Rattle.systems.specs.Keys.{weighedTo}
+use Rattle.systems.proofs.Keying.{weighed-more, weighed-same}
 use Rattle.systems.proofs.fitness.Statement.{statement}
 use Rattle.systems.proofs.fitness.Tie as tie
 
-member-requires : tie.Need-member-requires
-member-requires c κs = search needs
+abbrev Inv-loop : tie.InvT-loop
+Inv-loop m system f₀ c₀ f c = (c ≤ COMPONENTS) × (f ≤ 429496729500 * c) × (f ≡ weighedTo m system c)
 
-weighted-requires : tie.Need-weighted-requires
+abbrev μ-loop : tie.MeasureT-loop
+μ-loop m system f₀ c₀ f c = COMPONENTS - c
+
+loop-holds : tie.Need-loop-holds Inv-loop μ-loop
+unfolding weighedTo
+loop-holds c = (omega arith, omega arith, refl)
+
+held-requires : tie.Need-held-requires Inv-loop μ-loop
+held-requires c κs = (c .before .before .pre, omega arith)
+
+mul-weighted : tie.Need-mul-weighted Inv-loop μ-loop
+mul-weighted c = search needs
+
+element-copy-out-weighted : tie.Need-element-copy-out-weighted Inv-loop μ-loop
+element-copy-out-weighted c = search needs
+
+weighted-requires : tie.Need-weighted-requires Inv-loop μ-loop
 weighted-requires c κs = search needs
 
-member-requires-2 : tie.Need-member-requires-2
-member-requires-2 c κs = search needs
+add-f : tie.Need-add-f Inv-loop μ-loop
+add-f c = omega (arith, c .weighted .ensures .1)
 
-weighted-requires-2 : tie.Need-weighted-requires-2
-weighted-requires-2 c κs = search needs
+add-c : tie.Need-add-c Inv-loop μ-loop
+add-c c = search needs
 
-add-result : tie.Need-add-result
-add-result c = search needs
+loop-less : tie.Need-loop-less Inv-loop μ-loop
+loop-less c = search needs
 
-member-requires-3 : tie.Need-member-requires-3
-member-requires-3 c κs = search needs
+loop-again : tie.Need-loop-again Inv-loop μ-loop
+loop-again c = ⊎-elim
+    (λ w. (omega arith, omega (arith, w .2 .ensures .1, w .3), weighed-more _ _ _ _ _ (c .before .before .before .loop .inv .2) _ (sym (c .before .held .ensures) ∙ w .0 .taken) (w .2 .ensures .0) (w .3)))
+    (λ w. (omega arith, omega (arith, w .1), weighed-same _ _ _ _ _ (c .before .before .before .loop .inv .2) (sym (c .before .held .ensures) ∙ w .0 .left) (w .1)))
+    (c .if1 .came)
 
-weighted-requires-3 : tie.Need-weighted-requires-3
-weighted-requires-3 c κs = search needs
-
-add-result-2 : tie.Need-add-result-2
-add-result-2 c = search needs
-
-returns : tie.Need-returns
-returns c = (fitness-is _ _ _ _ _ _ _ _ (c .before .before .before .before .before .member .ensures) (c .before .before .before .member2 .ensures) (c .before .member3 .ensures) (c .before .before .before .before .weighted .ensures .0) (c .before .before .weighted2 .ensures .0) (c .weighted3 .ensures .0), omega arith)
+returns : tie.Need-returns Inv-loop μ-loop
+returns c = let e : c .before .loop .c ≡ COMPONENTS = omega arith in (rw e at (c .before .loop .inv .2), omega arith)
 
 pub fitness-spec : {M : Type 1} → statement M
 fitness-spec =
     tie.close
     (tie.spec
-    member-requires
+    Inv-loop
+    μ-loop
+    loop-holds
+    held-requires
+    mul-weighted
+    element-copy-out-weighted
     weighted-requires
-    member-requires-2
-    weighted-requires-2
-    add-result
-    member-requires-3
-    weighted-requires-3
-    add-result-2
+    add-f
+    add-c
+    loop-less
+    loop-again
     returns)

@@ -1,30 +1,36 @@
--- `systems::fittest` meets its contract. Assumes nothing.
+use mathlib.Core.Path.{_≡_, sym, _∙_}
+use mathlib.Core.Logic.{⊎-elim}
 use Prim.Native.Nat.{_-_, _≤_, _<_}
-use mathlib.Core.Path.{_≡_, refl}
 use native.Mathlib.Omega.{arith}
-use lib.ListN.{drop, length}
 use borrow.Author.Needs.{needs}
-use Rattle.systems.specs.Choice.{NUMBERS, fold, betterOf, fitnessOf, fittestOf}
+use borrow.Author.Tests.{ltb-true, ltb-false}
+use lib.ListN.{length}
 use Rattle.systems.specs.Systems.{candidates}
-use Rattle.systems.proofs.Loops.{next, done}
+use Rattle.systems.specs.Choice.{NUMBERS}
+use Rattle.systems.proofs.Keying.{Bests, bests-none, bests-more, bests-lacks, bests-less, bests-all}
 use Rattle.systems.proofs.fittest.Statement.{statement}
 use Rattle.systems.proofs.fittest.Tie as tie
 
 abbrev Inv-loop : tie.InvT-loop
-Inv-loop m marks c best₀ i₀ best i = (i ≤ length candidates) × (best < NUMBERS) × (fold (betterOf (fitnessOf m) marks c) (drop i candidates) best ≡ fittestOf (fitnessOf m) candidates marks c)
+Inv-loop keys c best₀ system₀ i₀ best system i = (i ≤ length candidates) × (system < NUMBERS) × Bests keys c i best system
 
 abbrev μ-loop : tie.MeasureT-loop
-μ-loop m marks c best₀ i₀ best i = length candidates - i
+μ-loop keys c best₀ system₀ i₀ best system i = length candidates - i
 
 loop-holds : tie.Need-loop-holds Inv-loop μ-loop
-unfolding fittestOf
-loop-holds c = (omega arith, omega arith, refl)
+loop-holds c = (omega arith, omega arith, bests-none _ _ (c .pre))
 
 candidate-requires : tie.Need-candidate-requires Inv-loop μ-loop
 candidate-requires c κs = search needs
 
-better-requires : tie.Need-better-requires Inv-loop μ-loop
-better-requires c κs = (c .before .before .loop .inv .1, c .candidate .ensures .1)
+mul-key : tie.Need-mul-key Inv-loop μ-loop
+mul-key c = search needs
+
+element-copy-out-key : tie.Need-element-copy-out-key Inv-loop μ-loop
+element-copy-out-key c = search needs
+
+held-requires : tie.Need-held-requires Inv-loop μ-loop
+held-requires c κs = (c .before .candidate .ensures .1, omega arith)
 
 add-i : tie.Need-add-i Inv-loop μ-loop
 add-i c = search needs
@@ -33,10 +39,13 @@ loop-less : tie.Need-loop-less Inv-loop μ-loop
 loop-less c = search needs
 
 loop-again : tie.Need-loop-again Inv-loop μ-loop
-loop-again c = (omega arith, c .better .ensures .1, next (betterOf _ _ _) candidates (c .before .before .before .loop .i) (c .before .candidate .result) (c .before .before .before .loop .best) _ _ (c .before .before .loop-test .taken) (c .before .candidate .ensures .0) (c .better .ensures .0) (c .before .before .before .loop .inv .2))
+loop-again c = ⊎-elim
+    (λ w. (omega arith, rw (w .3) (c .before .before .before .candidate .ensures .1), bests-more _ _ _ _ _ _ _ (c .before .before .before .candidate .result) (c .before .before .before .before .before .loop .inv .2) (c .before .before .before .before .loop-test .taken) (c .before .before .before .candidate .ensures .0) (sym (c .before .held .ensures) ∙ w .0 .taken) (ltb-true _ _ (w .1 .taken)) (w .2) (w .3)))
+    (λ w. (omega arith, rw (w .2) (c .before .before .before .before .before .loop .inv .1), ⊎-elim (λ v. bests-less _ _ _ _ _ _ _ (c .before .before .before .candidate .result) (c .before .before .before .before .before .loop .inv .2) (c .before .before .before .before .loop-test .taken) (c .before .before .before .candidate .ensures .0) (sym (c .before .held .ensures) ∙ v .0 .taken) (ltb-false _ _ (v .1 .left)) (w .1) (w .2)) (λ v. bests-lacks _ _ _ _ _ _ _ (c .before .before .before .candidate .result) (c .before .before .before .before .before .loop .inv .2) (c .before .before .before .before .loop-test .taken) (c .before .before .before .candidate .ensures .0) (sym (c .before .held .ensures) ∙ v .left) (w .1) (w .2)) (w .0 .came)))
+    (c .if1 .came)
 
 returns : tie.Need-returns Inv-loop μ-loop
-returns c = (done (betterOf _ _ _) candidates _ _ _ (c .loop-test .left) (c .before .loop .inv .2), c .before .loop .inv .1)
+returns c = (bests-all _ _ _ _ _ (c .before .loop .inv .2) (c .loop-test .left), c .before .loop .inv .1)
 
 pub fittest-spec : {M : Type 1} → statement M
 fittest-spec =
@@ -46,7 +55,9 @@ fittest-spec =
     μ-loop
     loop-holds
     candidate-requires
-    better-requires
+    mul-key
+    element-copy-out-key
+    held-requires
     add-i
     loop-less
     loop-again

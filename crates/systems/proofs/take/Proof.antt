@@ -1,6 +1,5 @@
--- `systems::take` meets its contract. Assumes nothing.
+use Rattle.systems.proofs.Keying.{take-one, take-none}
 use borrow.Author.Needs.{needs}
-use Rattle.systems.proofs.Cases.{take-one, take-none}
 use Rattle.systems.proofs.take.Statement.{statement}
 use Rattle.systems.proofs.take.Tie as tie
 
@@ -10,19 +9,19 @@ containing-requires c κs = search needs
 fittest-requires : tie.Need-fittest-requires
 fittest-requires c κs = search needs
 
-cast-s : tie.Need-cast-s
-cast-s c = search needs
+mul-keys : tie.Need-mul-keys
+mul-keys c = search needs
 
-element-write-marks : tie.Need-element-write-marks
-element-write-marks c = search needs
+element-write-keys : tie.Need-element-write-keys
+element-write-keys c = search needs
 
 returns : tie.Need-returns
-returns c = take-one _ _ _ _ _ _ (c .before .before .before .containing .ensures) _ (c .before .before .if1 .taken) (c .fittest .ensures .0)
+returns c = λ fit marks k. take-one fit _ marks _ _ _ k (c .before .before .before .containing .ensures fit marks k) _ (c .fittest .ensures .1) (c .before .before .if1 .taken) (c .fittest .ensures .0 fit marks k)
 
 returns-2 : tie.Need-returns-2
-returns-2 c = take-none _ _ _ _ _ _ (c .before .containing .ensures) (c .if1 .left)
+returns-2 c = λ fit marks k. take-none fit _ marks _ _ _ k (c .before .containing .ensures fit marks k) (c .if1 .left)
 
 pub take-spec : {M : Type 1} → statement M
 take-spec =
     tie.close
-    (tie.spec containing-requires fittest-requires cast-s element-write-marks returns returns-2)
+    (tie.spec containing-requires fittest-requires mul-keys element-write-keys returns returns-2)
