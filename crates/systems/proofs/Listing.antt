@@ -8,7 +8,7 @@ use native.Mathlib.Omega.{arith}
 use lib.ListN.{getD, set, length, drop, replicate, length-append}
 use lib.Seq.{set-at, append-snoc}
 use Rattle.systems.specs.Systems.{COMPONENTS, candidates}
-use Rattle.systems.specs.Choice.{NUMBERS, SYSTEMS, order, takeOf, fold, isChosen, fitnessOf, listOf, chosenOf, chooseOf, paddedOf, answerOf, choiceOf}
+use Rattle.systems.specs.Choice.{NUMBERS, SYSTEMS, order, takeOf, marksOf, fold, isChosen, fitnessOf, listOf, chosenOf, chooseOf, paddedOf, answerOf, choiceOf}
 use Rattle.systems.specs.Keys.{Keyed}
 use Rattle.systems.specs.declared.Choice.{Choice}
 use Rattle.systems.proofs.Loops.{next, done}
@@ -103,11 +103,14 @@ pub turns-next : (fresh keys later : List ℕ) (i c : ℕ) → Turns fresh keys 
 unfolding marksAfter
 turns-next fresh keys later i c k e t fit f = rw (add-one, ← e) (t fit (marksAfter fit i) (k fit f))
 
+pub turns-all : (fresh keys : List ℕ) (i : ℕ) → Turns fresh keys i → i ≤ 8 → 8 ≤ i
+    → (fit : ℕ → ℕ) → Keyed fit (replicate NUMBERS false) fresh → Keyed fit (marksOf fit candidates order) keys
+turns-all fresh keys i k h l fit f =
+    let e : i ≡ 8 = omega arith in
+    rw (ap (marksAfter fit) e ∙ after-all fit) at (k fit f)
+
 -- the turns and the list make the choice
-pub choice-is : (mix fresh keys : List ℕ) (i : ℕ) (r : Choice) → i ≤ 8 → 8 ≤ i → Keyed (fitnessOf mix) (replicate NUMBERS false) fresh → Turns fresh keys i
+pub choice-is : (mix keys : List ℕ) (r : Choice) → Keyed (fitnessOf mix) (marksOf (fitnessOf mix) candidates order) keys
     → ((fit : ℕ → ℕ) → (marks : List Bool) → Keyed fit marks keys → r ≡ answerOf (chosenOf candidates marks)) → r ≡ choiceOf mix
 unfolding chooseOf
-choice-is mix fresh keys i r h l f k p =
-    let e : i ≡ 8 = omega arith in
-    p (fitnessOf mix) (marksAfter (fitnessOf mix) i) (k (fitnessOf mix) f)
-    ∙ ap (λ (m : List Bool). answerOf (chosenOf candidates m)) (ap (marksAfter (fitnessOf mix)) e ∙ after-all (fitnessOf mix))
+choice-is mix keys r k p = p (fitnessOf mix) (marksOf (fitnessOf mix) candidates order) k

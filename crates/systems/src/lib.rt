@@ -5,7 +5,7 @@ ghost use Prim.Native.Nat.{ℕ, _*_, _/_, _%_, _^_, _<_, _≤_};
 ghost use mathlib.Core.List.{List};
 ghost use lib.ListN.{getD, length, replicate};
 ghost use Rattle.systems.specs.Systems.{COMPONENTS, memberOf, hasOf, candidates};
-ghost use Rattle.systems.specs.Choice.{NUMBERS, weights, fitnessOf, containingOf, fittestOf, takeOf, answerOf, chosenOf, choiceOf};
+ghost use Rattle.systems.specs.Choice.{NUMBERS, weights, order, fitnessOf, takeOf, marksOf, answerOf, chosenOf, choiceOf};
 ghost use Rattle.systems.specs.Keys.{Keyed, weighedTo};
 
 // How many components there are: methane 0, ethane 1, propane 2, butane 3.
@@ -104,9 +104,9 @@ fn weighted(x: u32, c: usize) -> u64
 }
 
 // The fitness times 480 of a system, from the components that it contains.
-fn fitness(m: &[u32; COMPONENTS], system: usize) -> u64
+fn fitness(m: [u32; COMPONENTS], system: usize) -> u64
     requires { ⌜ system < NUMBERS ⌝ }
-    ensures { λ r. ⌜ (r ≡ weighedTo (now (m .entry)) system COMPONENTS) × (r ≤ 1717986918000) ⌝ }
+    ensures { λ r. ⌜ (r ≡ weighedTo m system COMPONENTS) × (r ≤ 1717986918000) ⌝ }
 {
     let mut f: u64 = 0;
     let mut c: usize = 0;
@@ -128,8 +128,8 @@ fn candidate(i: usize) -> usize
 }
 
 // The systems' keys, by number: 0 where a system is chosen or is no candidate, else its fitness and 1.
-fn keys_of(m: &[u32; COMPONENTS]) -> [u64; NUMBERS]
-    ensures { λ r. ⌜ Keyed (fitnessOf (now (m .entry))) (replicate NUMBERS false) r ⌝ }
+fn keys_of(m: [u32; COMPONENTS]) -> [u64; NUMBERS]
+    ensures { λ r. ⌜ Keyed (fitnessOf m) (replicate NUMBERS false) r ⌝ }
 {
     let mut keys = [0u64; NUMBERS];
     let mut i: usize = 0;
@@ -141,57 +141,48 @@ fn keys_of(m: &[u32; COMPONENTS]) -> [u64; NUMBERS]
     keys
 }
 
-// How many of the chosen systems contain component c.
-fn containing(keys: &[u64; NUMBERS], c: usize) -> usize
+// Component c takes the fittest system that contains it and is not chosen, equal fitness to the lower number, where fewer
+// than the wanted number of chosen systems contain c.
+fn take(keys: &mut [u64; NUMBERS], wanted: usize, c: usize)
     requires { ⌜ c < COMPONENTS ⌝ }
-    ensures { λ r. ⌜ ((fit : ℕ → ℕ) → (marks : List Bool) → Keyed fit marks (now (keys .entry)) → r ≡ containingOf candidates marks c) ⌝ }
+    ensures { λ _. ⌜ ((fit : ℕ → ℕ) → (marks : List Bool) → Keyed fit marks (now (keys .entry)) → Keyed fit (takeOf fit candidates wanted marks c) (now (keys .exit))) ⌝ }
 {
-    let mut n: usize = 0;
-    let mut i: usize = 0;
-    while i < CANDIDATES {
-        let s = candidate(i);
-        if held(s, c) && keys[s] == 0 {
-            n += 1;
-        }
-        i += 1;
-    }
-    n
-}
-
-// The fittest system that contains component c and is not chosen, equal fitness to the lower number.
-fn fittest(keys: &[u64; NUMBERS], c: usize) -> usize
-    requires { ⌜ c < COMPONENTS ⌝ }
-    ensures { λ r. ⌜ ((fit : ℕ → ℕ) → (marks : List Bool) → Keyed fit marks (now (keys .entry)) → r ≡ fittestOf fit candidates marks c) × (r < NUMBERS) ⌝ }
-{
+    let mut count: usize = 0;
     let mut best: u64 = 0;
     let mut system: usize = 0;
     let mut i: usize = 0;
     while i < CANDIDATES {
         let s = candidate(i);
-        let key = keys[s];
-        if held(s, c) && best < key {
-            best = key;
-            system = s;
+        if held(s, c) {
+            let key = keys[s];
+            if key == 0 {
+                count += 1;
+            } else if best < key {
+                best = key;
+                system = s;
+            }
         }
         i += 1;
     }
-    system
+    if count < wanted {
+        keys[system] = 0;
+    }
 }
 
-// Component c takes it where fewer than the wanted number of chosen systems contain c.
-fn take(keys: &mut [u64; NUMBERS], wanted: usize, c: usize)
-    requires { ⌜ c < COMPONENTS ⌝ }
-    ensures { λ _. ⌜ ((fit : ℕ → ℕ) → (marks : List Bool) → Keyed fit marks (now (keys .entry)) → Keyed fit (takeOf fit candidates wanted marks c) (now (keys .exit))) ⌝ }
+// The components do so, one after the other, for one system each and then for two.
+fn turns(keys: &mut [u64; NUMBERS])
+    ensures { λ _. ⌜ ((fit : ℕ → ℕ) → Keyed fit (replicate NUMBERS false) (now (keys .entry)) → Keyed fit (marksOf fit candidates order) (now (keys .exit))) ⌝ }
 {
-    if containing(keys, c) < wanted {
-        let s = fittest(keys, c);
-        keys[s] = 0;
+    let mut i: usize = 0;
+    while i < 2 * COMPONENTS {
+        take(keys, 1 + i / COMPONENTS, digit(ORDER, i % COMPONENTS));
+        i += 1;
     }
 }
 
 // The chosen systems, in the order of the candidates.
-fn listed(keys: &[u64; NUMBERS]) -> Choice
-    ensures { λ r. ⌜ ((fit : ℕ → ℕ) → (marks : List Bool) → Keyed fit marks (now (keys .entry)) → r ≡ answerOf (chosenOf candidates marks)) ⌝ }
+fn listed(keys: [u64; NUMBERS]) -> Choice
+    ensures { λ r. ⌜ ((fit : ℕ → ℕ) → (marks : List Bool) → Keyed fit marks keys → r ≡ answerOf (chosenOf candidates marks)) ⌝ }
 {
     let mut count: usize = 0;
     let mut systems = [0u8; SYSTEMS];
@@ -211,11 +202,7 @@ fn listed(keys: &[u64; NUMBERS]) -> Choice
 pub fn choose(m: [u32; COMPONENTS]) -> Choice
     ensures { λ r. ⌜ r ≡ choiceOf m ⌝ }
 {
-    let mut keys = keys_of(&m);
-    let mut i: usize = 0;
-    while i < 2 * COMPONENTS {
-        take(&mut keys, 1 + i / COMPONENTS, digit(ORDER, i % COMPONENTS));
-        i += 1;
-    }
-    listed(&keys)
+    let mut keys = keys_of(m);
+    turns(&mut keys);
+    listed(keys)
 }

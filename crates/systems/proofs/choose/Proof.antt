@@ -1,64 +1,19 @@
-use Rattle.systems.proofs.Packed.{order-is, order-lt}
-use Prim.Native.Nat.{_-_, _≤_}
-use native.Mathlib.Omega.{arith}
+use Rattle.systems.proofs.Listing.{choice-is}
 use borrow.Author.Needs.{needs}
-use Rattle.systems.proofs.Listing.{Turns, turns-none, turns-next, choice-is}
 use Rattle.systems.proofs.choose.Statement.{statement}
 use Rattle.systems.proofs.choose.Tie as tie
 
-abbrev Inv-loop : tie.InvT-loop
-Inv-loop keys₀ i₀ keys i = (i ≤ 8) × Turns keys₀ keys i
-
-abbrev μ-loop : tie.MeasureT-loop
-μ-loop keys₀ i₀ keys i = 8 - i
-
-keys-of-requires : tie.Need-keys-of-requires Inv-loop μ-loop
+keys-of-requires : tie.Need-keys-of-requires
 keys-of-requires c κs = search needs
 
-loop-holds : tie.Need-loop-holds Inv-loop μ-loop
-loop-holds c = (omega arith, λ fit k. turns-none fit _ k)
+turns-requires : tie.Need-turns-requires
+turns-requires c κs = search needs
 
-mul-loop : tie.Need-mul-loop Inv-loop μ-loop
-mul-loop c = search needs
-
-add-take : tie.Need-add-take Inv-loop μ-loop
-add-take c = search needs
-
-digit-requires : tie.Need-digit-requires Inv-loop μ-loop
-digit-requires c κs = omega arith
-
-take-requires : tie.Need-take-requires Inv-loop μ-loop
-take-requires c κs = rw (order-is _ tt (c .before .before .before .loop .i) (c .digit .result) (c .digit .ensures)) (order-lt (c .before .before .before .loop .i))
-
-add-i : tie.Need-add-i Inv-loop μ-loop
-add-i c = search needs
-
-loop-less : tie.Need-loop-less Inv-loop μ-loop
-loop-less c = search needs
-
-loop-again : tie.Need-loop-again Inv-loop μ-loop
-loop-again c = (omega arith, turns-next _ _ _ _ _ (c .before .before .before .before .loop .inv .1) (order-is _ tt (c .before .before .before .before .loop .i) (c .before .digit .result) (c .before .digit .ensures)) (c .take .ensures))
-
-listed-requires : tie.Need-listed-requires Inv-loop μ-loop
+listed-requires : tie.Need-listed-requires
 listed-requires c κs = search needs
 
-returns : tie.Need-returns Inv-loop μ-loop
-returns c = choice-is _ _ _ _ _ (c .before .before .before .loop .inv .0) (c .before .before .loop-test .left) (c .before .before .before .before .keys-of .ensures) (c .before .before .before .loop .inv .1) (c .listed .ensures)
+returns : tie.Need-returns
+returns c = choice-is _ _ _ (c .before .turns .ensures _ (c .before .before .before .keys-of .ensures)) (c .listed .ensures)
 
 pub choose-spec : {M : Type 1} → statement M
-choose-spec =
-    tie.close
-    (tie.spec
-    Inv-loop
-    μ-loop
-    keys-of-requires
-    loop-holds
-    mul-loop
-    add-take
-    digit-requires
-    take-requires
-    add-i
-    loop-less
-    loop-again
-    listed-requires
-    returns)
+choose-spec = tie.close (tie.spec keys-of-requires turns-requires listed-requires returns)

@@ -10,10 +10,10 @@ use Rattle.systems.proofs.fitness.Statement.{statement}
 use Rattle.systems.proofs.fitness.Tie as tie
 
 abbrev Inv-loop : tie.InvT-loop
-Inv-loop m system f₀ c₀ f c = (c ≤ COMPONENTS) × (f ≤ 429496729500 * c) × (f ≡ weighedTo m system c)
+Inv-loop system m f₀ c₀ f c = (c ≤ COMPONENTS) × (f ≤ 429496729500 * c) × (f ≡ weighedTo m system c)
 
 abbrev μ-loop : tie.MeasureT-loop
-μ-loop m system f₀ c₀ f c = COMPONENTS - c
+μ-loop system m f₀ c₀ f c = COMPONENTS - c
 
 loop-holds : tie.Need-loop-holds Inv-loop μ-loop
 unfolding weighedTo
@@ -25,8 +25,8 @@ held-requires c κs = (c .before .before .pre, omega arith)
 mul-weighted : tie.Need-mul-weighted Inv-loop μ-loop
 mul-weighted c = search needs
 
-element-copy-out-weighted : tie.Need-element-copy-out-weighted Inv-loop μ-loop
-element-copy-out-weighted c = search needs
+array-read-weighted : tie.Need-array-read-weighted Inv-loop μ-loop
+array-read-weighted c = search needs
 
 weighted-requires : tie.Need-weighted-requires Inv-loop μ-loop
 weighted-requires c κs = search needs
@@ -42,7 +42,7 @@ loop-less c = search needs
 
 loop-again : tie.Need-loop-again Inv-loop μ-loop
 loop-again c = ⊎-elim
-    (λ w. (omega arith, omega (arith, w .2 .ensures .1, w .3), weighed-more _ _ _ _ _ (c .before .before .before .loop .inv .2) _ (sym (c .before .held .ensures) ∙ w .0 .taken) (w .2 .ensures .0) (w .3)))
+    (λ w. (omega arith, omega (arith, w .1 .ensures .1, w .2), weighed-more _ _ _ _ _ (c .before .before .before .loop .inv .2) _ (sym (c .before .held .ensures) ∙ w .0 .taken) (w .1 .ensures .0) (w .2)))
     (λ w. (omega arith, omega (arith, w .1), weighed-same _ _ _ _ _ (c .before .before .before .loop .inv .2) (sym (c .before .held .ensures) ∙ w .0 .left) (w .1)))
     (c .if1 .came)
 
@@ -58,7 +58,7 @@ fitness-spec =
     loop-holds
     held-requires
     mul-weighted
-    element-copy-out-weighted
+    array-read-weighted
     weighted-requires
     add-f
     add-c

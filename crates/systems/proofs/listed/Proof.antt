@@ -23,8 +23,8 @@ candidate-requires c κs = search needs
 mul-if1 : tie.Need-mul-if1 Inv-loop μ-loop
 mul-if1 c = search needs
 
-element-copy-out-if1 : tie.Need-element-copy-out-if1 Inv-loop μ-loop
-element-copy-out-if1 c = search needs
+array-read-if1 : tie.Need-array-read-if1 Inv-loop μ-loop
+array-read-if1 c = search needs
 
 cast-systems : tie.Need-cast-systems Inv-loop μ-loop
 cast-systems c = search needs
@@ -43,8 +43,8 @@ loop-less c = search needs
 
 loop-again : tie.Need-loop-again Inv-loop μ-loop
 loop-again c = ⊎-elim
-    (λ w. (omega (arith, w .1), omega arith, rw (w .1, w .2) (lists-more _ _ _ _ (c .before .before .candidate .result) (c .before .before .before .before .loop .inv .2) (c .before .before .before .loop-test .taken) (c .before .before .candidate .ensures .0) (w .0 .taken))))
-    (λ w. (omega (arith, w .1), omega arith, rw (w .1, w .2) (lists-same _ _ _ _ (c .before .before .candidate .result) (c .before .before .before .before .loop .inv .2) (c .before .before .before .loop-test .taken) (c .before .before .candidate .ensures .0) (w .0 .left))))
+    (λ w. (omega (arith, w .1), omega arith, rw (w .1, w .2) (lists-more _ _ _ _ (c .before .candidate .result) (c .before .before .before .loop .inv .2) (c .before .before .loop-test .taken) (c .before .candidate .ensures .0) (w .0 .taken))))
+    (λ w. (omega (arith, w .1), omega arith, rw (w .1, w .2) (lists-same _ _ _ _ (c .before .candidate .result) (c .before .before .before .loop .inv .2) (c .before .before .loop-test .taken) (c .before .candidate .ensures .0) (w .0 .left))))
     (c .if1 .came)
 
 returns : tie.Need-returns Inv-loop μ-loop
@@ -59,7 +59,7 @@ listed-spec =
     loop-holds
     candidate-requires
     mul-if1
-    element-copy-out-if1
+    array-read-if1
     cast-systems
     array-write-systems
     add-count
