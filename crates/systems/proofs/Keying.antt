@@ -1,7 +1,7 @@
 -- What the keys of the candidates tell: which are chosen, which scores most, and what a component takes.
 use Prim.Native.Nat.{ℕ, zero, suc, _+_, _*_, _/_, _%_, _≤_, _<_}
 use mathlib.Core.Path.{_≡_, refl, sym, ap, _∙_}
-use mathlib.Core.Bool.{Bool, true, false, not, _&&_}
+use mathlib.Core.Bool.{Bool, true, false, not, cond, _&&_}
 use mathlib.Core.List.{List, [], _∷_}
 use native.Mathlib.Omega.{arith}
 use native.Mathlib.Nat.{add-zero}
@@ -14,20 +14,15 @@ use Rattle.systems.specs.Systems.{COMPONENTS, memberOf, hasOf, candidate
 use Rattle.systems.specs.Choice.{NUMBERS, order, fold, weightedOf, fitnessOf, isChosen, oneIf, countOf, containingOf, scoreOf, betterOf, fittestOf, takeOf, passOf, marksOf}
 use Rattle.systems.specs.Table.{to-true, eachTo}
 use Rattle.systems.specs.Scores.{better-next, better-before}
-use Rattle.systems.specs.Keys.{weighedTo, keyOf, Keyed}
+use Rattle.systems.specs.Keys.{KEYS, weighedTo, keyOf, Keyed}
 use Rattle.systems.proofs.Loops.{next, done}
-use Rattle.systems.proofs.Packed.{candidate-lt}
+use Rattle.systems.proofs.Packed.{candidate-lt, candidates-apart}
 
 -- ---- the fitness of a candidate
 
-module _ (mix : List ℕ) (system c f g : ℕ) (e : f ≡ weighedTo mix system c) where
-  pub weighed-more : (x : ℕ) → hasOf system c ≡ true → x ≡ weightedOf mix c → g ≡ f + x → g ≡ weighedTo mix system (c + 1)
-  unfolding weighedTo
-  weighed-more x h w p = rw (add-one, h, p, e, w)
-
-  pub weighed-same : hasOf system c ≡ false → g ≡ f → g ≡ weighedTo mix system (c + 1)
-  unfolding weighedTo
-  weighed-same h p = rw (add-one, h) (p ∙ e ∙ sym (add-zero (weighedTo mix system c)))
+pub weighed-next : (mix : List ℕ) (system c k x : ℕ) → k ≡ weighedTo mix system c + 1 → x ≡ cond (hasOf system c) (weightedOf mix c) 0 → k + x ≡ weighedTo mix system (c + 1) + 1
+unfolding weighedTo
+weighed-next mix system c k x e w = rw (add-one c) (omega (arith, e, w))
 
 -- what holds at each of a list's numbers
 unfoldable Every : (ℕ → Type 0) → List ℕ → Type 0
@@ -82,60 +77,34 @@ module _ (fit : ℕ → ℕ) (marks : List Bool) (s : ℕ) where
 -- ---- the keys before a system is chosen
 
 -- the keys of the candidates in the first i places
-pub record Fresh (fit : ℕ → ℕ) (keys : List ℕ) (i : ℕ) : Type 0 where
-  pub long : length keys ≡ NUMBERS
-  pub at : (j : ℕ) → j < i → getD keys (getD candidates j 0) 0 ≡ fit (getD candidates j 0) + 1
+pub record Fresh (mix : List ℕ) (keys : List ℕ) (i : ℕ) : Type 0 where
+  pub most : i ≤ length candidates
+  pub long : length keys ≡ KEYS
+  pub at : (j : ℕ) → j < i → getD keys j 0 ≡ fitnessOf mix (getD candidates j 0) + 1
 
-pub fresh-none : (fit : ℕ → ℕ) → Fresh fit (replicate NUMBERS 0) 0
-fresh-none fit = record { long = refl; at = λ j h. absurd (omega arith) }
+pub fresh-none : (mix : List ℕ) → Fresh mix (replicate KEYS 0) 0
+fresh-none mix = record { most = omega arith; long = refl; at = λ j h. absurd (omega arith) }
 
-pub fresh-next : (fit : ℕ → ℕ) (keys : List ℕ) (i s f : ℕ) → Fresh fit keys i → s ≡ getD candidates i 0 → s < NUMBERS → f ≡ fit s → Fresh fit (set keys s (f + 1)) (i + 1)
-fresh-next fit keys i s f k e l p = record { long = length-set keys s (f + 1) ∙ k .long; at = λ j h. go j h (eqb (getD candidates j 0) s) refl }
+pub fresh-next : (mix keys : List ℕ) (i k : ℕ) → Fresh mix keys i → i < length candidates → k ≡ weighedTo mix (getD candidates i 0) COMPONENTS + 1 → Fresh mix (set keys i k) (i + 1)
+fresh-next mix keys i k f h e = record { most = omega arith; long = length-set keys i k ∙ f .long; at = λ j l. go j l (eqb j i) refl }
   where
-    go : (j : ℕ) → j < i + 1 → (b : Bool) → eqb (getD candidates j 0) s ≡ b → getD (set keys s (f + 1)) (getD candidates j 0) 0 ≡ fit (getD candidates j 0) + 1
-    go j h true q = rw (eqb-true (getD candidates j 0) s q, getD-set-same keys s (f + 1) 0 (omega (arith, k .long)), p)
-    go j h false q =
-        let d : getD candidates j 0 ≡ s → ⊥ = eqb-false (getD candidates j 0) s q in
-        let n : j ≡ i → ⊥ = λ z. d (ap (λ (x : ℕ). getD candidates x 0) z ∙ sym e) in
-        rw (getD-set-other keys s (getD candidates j 0) (f + 1) 0 d) (k .at j (omega (arith, n)))
+    go : (j : ℕ) → j < i + 1 → (b : Bool) → eqb j i ≡ b → getD (set keys i k) j 0 ≡ fitnessOf mix (getD candidates j 0) + 1
+    go j l true q =
+        rw (eqb-true j i q) (getD-set-same keys i k 0 (omega (arith, f .long)) ∙ e ∙ ap (λ (n : ℕ). n + 1) (fitness-is mix i h))
+    go j l false q =
+        let d : j ≡ i → ⊥ = eqb-false j i q in
+        rw (getD-set-other keys i j k 0 d) (f .at j (omega arith))
 
-pub fresh-all : (fit : ℕ → ℕ) (keys : List ℕ) (i : ℕ) → Fresh fit keys i → length candidates ≤ i → Keyed fit (replicate NUMBERS false) keys
-fresh-all fit keys i k h =
+pub fresh-all : (mix keys : List ℕ) (i : ℕ) → Fresh mix keys i → length candidates ≤ i → Keyed (fitnessOf mix) (replicate NUMBERS false) keys
+fresh-all mix keys i k h =
     record {
       marked = refl;
       long = k .long;
-      at = λ j l. k .at j (omega arith) ∙ sym (key-open fit (replicate NUMBERS false) (getD candidates j 0) (getD-replicate NUMBERS (getD candidates j 0) false false (candidate-lt j l)));
+      at = λ j l. k .at j (omega arith)
+          ∙ sym (key-open (fitnessOf mix) (replicate NUMBERS false) (getD candidates j 0) (getD-replicate NUMBERS (getD candidates j 0) false false (candidate-lt j (omega arith))));
     }
 
--- ---- the count of the chosen systems that contain c
-
-abbrev pub Counts : List ℕ → ℕ → ℕ → ℕ → Type 0
-Counts keys c i n = (fit : ℕ → ℕ) → (marks : List Bool) → Keyed fit marks keys → fold (countOf marks c) (drop i candidates) n ≡ containingOf candidates marks c
-
-pub counts-none : (keys : List ℕ) (c : ℕ) → Counts keys c 0 0
-unfolding containingOf
-counts-none keys c fit marks k = refl
-
-pub counts-all : (keys : List ℕ) (c i n : ℕ) → Counts keys c i n → length candidates ≤ i → (fit : ℕ → ℕ) → (marks : List Bool) → Keyed fit marks keys → n ≡ containingOf candidates marks c
-counts-all keys c i n k h fit marks d = done (countOf marks c) candidates i n (containingOf candidates marks c) h (k fit marks d)
-
-module _ (keys : List ℕ) (c i n m s : ℕ) (k : Counts keys c i n) (h : i < length candidates) (e : s ≡ getD candidates i 0) where
-  counts-next : ((fit : ℕ → ℕ) → (marks : List Bool) → getD keys s 0 ≡ keyOf fit marks s → m ≡ countOf marks c n s) → Counts keys c (i + 1) m
-  counts-next f fit marks d =
-      next (countOf marks c) candidates i s n m (containingOf candidates marks c) h e (f fit marks (rw e (d .at i h))) (k fit marks d)
-
-  pub counts-one : hasOf s c ≡ true → getD keys s 0 ≡ 0 → m ≡ n + 1 → Counts keys c (i + 1) m
-  counts-one t z p = counts-next (λ fit marks q. p ∙ rw (chosen-of-key fit marks s (sym q ∙ z), t))
-
-  pub counts-lacks : hasOf s c ≡ false → m ≡ n → Counts keys c (i + 1) m
-  counts-lacks t p = counts-next (λ fit marks q. p ∙ none (isChosen marks s))
-    where
-      none : (b : Bool) → n ≡ n + oneIf (b && hasOf s c)
-      none true = rw t (sym (add-zero n))
-      none false = sym (add-zero n)
-
-  pub counts-open : (getD keys s 0 ≡ 0 → ⊥) → m ≡ n → Counts keys c (i + 1) m
-  counts-open z p = counts-next (λ fit marks q. p ∙ rw (open-of-key fit marks s (λ w. z (q ∙ w))) (sym (add-zero n)))
+-- ---- how many chosen systems contain c, and the fittest that is not chosen
 
 -- number 0 contains no component
 missing : ℕ → Bool
@@ -145,79 +114,132 @@ lacks : (c : ℕ) → c < COMPONENTS → hasOf 0 c ≡ false
 unfolding missing hasOf memberOf
 lacks c h = not-true (hasOf 0 c) (to-true (missing c) (eachTo missing COMPONENTS tt c h))
 
--- ---- the fittest system that contains c and is not chosen
-
-pub record Best (fit : ℕ → ℕ) (marks : List Bool) (c i best system : ℕ) : Type 0 where
+-- the count and the best of the candidates from place i on come to those of all, from the count and the best so far
+pub record Told (fit : ℕ → ℕ) (marks : List Bool) (c i count best system : ℕ) : Type 0 where
+  pub counted : fold (countOf marks c) (drop i candidates) count ≡ containingOf candidates marks c
   pub scored : best ≡ scoreOf fit marks c system
   pub rest : fold (betterOf fit marks c) (drop i candidates) system ≡ fittestOf fit candidates marks c
 
-abbrev pub Bests : List ℕ → ℕ → ℕ → ℕ → ℕ → Type 0
-Bests keys c i best system = (fit : ℕ → ℕ) → (marks : List Bool) → Keyed fit marks keys → Best fit marks c i best system
+pub record Tally (keys : List ℕ) (c i count best at : ℕ) : Type 0 where
+  pub most : i ≤ length candidates
+  pub few : count ≤ i
+  pub place : at ≤ length candidates
+  pub told : (fit : ℕ → ℕ) → (marks : List Bool) → Keyed fit marks keys → Told fit marks c i count best (getD candidates at 0)
 
-pub bests-none : (keys : List ℕ) (c : ℕ) → c < COMPONENTS → Bests keys c 0 0 0
-unfolding fittestOf
-bests-none keys c h fit marks k = record { scored = sym (score-lacks fit marks 0 c (lacks c h)); rest = refl }
+pub tally-none : (keys : List ℕ) (c : ℕ) → c < COMPONENTS → Tally keys c 0 0 0 (length candidates)
+unfolding containingOf fittestOf
+tally-none keys c h =
+    record {
+      most = omega arith;
+      few = omega arith;
+      place = omega arith;
+      told = λ fit marks k. record { counted = refl; scored = sym (score-lacks fit marks 0 c (lacks c h)); rest = refl };
+    }
 
-pub bests-all : (keys : List ℕ) (c i best system : ℕ) → Bests keys c i best system → length candidates ≤ i → (fit : ℕ → ℕ) → (marks : List Bool) → Keyed fit marks keys → system ≡ fittestOf fit candidates marks c
-bests-all keys c i best system k h fit marks d =
-    done (betterOf fit marks c) candidates i system (fittestOf fit candidates marks c) h (k fit marks d .rest)
+module _ (keys : List ℕ) (c i count best at : ℕ) (k : Tally keys c i count best at) (h : i < length candidates) where
+  abbrev next-is : ℕ → ℕ → ℕ → (ℕ → ℕ) → List Bool → Type 0
+  next-is count′ best′ at′ fit marks =
+      (count′ ≡ countOf marks c count (getD candidates i 0)) × (best′ ≡ scoreOf fit marks c (getD candidates at′ 0))
+      × (getD candidates at′ 0 ≡ betterOf fit marks c (getD candidates at 0) (getD candidates i 0))
 
-module _ (keys : List ℕ) (c i best system best′ system′ s : ℕ) (k : Bests keys c i best system) (h : i < length candidates) (e : s ≡ getD candidates i 0) where
-  bests-next : ((fit : ℕ → ℕ) → (marks : List Bool) → getD keys s 0 ≡ keyOf fit marks s → best ≡ scoreOf fit marks c system
-      → (best′ ≡ scoreOf fit marks c system′) × (system′ ≡ betterOf fit marks c system s)) → Bests keys c (i + 1) best′ system′
-  bests-next f fit marks d =
-      let b = k fit marks d in
-      let r = f fit marks (rw e (d .at i h)) (b .scored) in
+  tally-next : (count′ best′ at′ : ℕ) → count′ ≤ i + 1 → at′ ≤ length candidates
+      → ((fit : ℕ → ℕ) → (marks : List Bool) → getD keys i 0 ≡ keyOf fit marks (getD candidates i 0) → best ≡ scoreOf fit marks c (getD candidates at 0) → next-is count′ best′ at′ fit marks)
+      → Tally keys c (i + 1) count′ best′ at′
+  tally-next count′ best′ at′ few place f =
       record {
-        scored = r .0;
-        rest = next (betterOf fit marks c) candidates i s system system′ (fittestOf fit candidates marks c) h e (r .1) (b .rest);
+        most = omega arith;
+        few = few;
+        place = place;
+        told = λ fit marks d.
+            let t = k .told fit marks d in
+            let r = f fit marks (d .at i h) (t .scored) in
+            record {
+              counted = next (countOf marks c) candidates i (getD candidates i 0) count count′ (containingOf candidates marks c) h refl (r .0) (t .counted);
+              scored = r .1;
+              rest = next (betterOf fit marks c) candidates i (getD candidates i 0) (getD candidates at 0) (getD candidates at′ 0) (fittestOf fit candidates marks c) h refl (r .2) (t .rest);
+            };
       }
 
-  pub bests-more : hasOf s c ≡ true → best < getD keys s 0 → best′ ≡ getD keys s 0 → system′ ≡ s → Bests keys c (i + 1) best′ system′
-  bests-more t l p q =
-      bests-next (λ fit marks a b.
-      let z : getD keys s 0 ≡ scoreOf fit marks c s = a ∙ score-key fit marks s c t in
-      (p ∙ z ∙ ap (scoreOf fit marks c) (sym q), q ∙ sym (better-next fit marks c system s (omega arith))))
+  module _ (count′ best′ at′ : ℕ) where
+    -- the best stays, where the next scores no more
+    stays : (fit : ℕ → ℕ) (marks : List Bool) → best ≡ scoreOf fit marks c (getD candidates at 0) → scoreOf fit marks c (getD candidates i 0) ≤ best → best′ ≡ best → at′ ≡ at
+        → (best′ ≡ scoreOf fit marks c (getD candidates at′ 0)) × (getD candidates at′ 0 ≡ betterOf fit marks c (getD candidates at 0) (getD candidates i 0))
+    stays fit marks b l q r =
+        let e = ap (λ (x : ℕ). getD candidates x 0) r in
+        (q ∙ b ∙ ap (scoreOf fit marks c) (sym e), e ∙ sym (better-before fit marks c (getD candidates at 0) (getD candidates i 0) (omega arith)))
 
-  pub bests-lacks : hasOf s c ≡ false → best′ ≡ best → system′ ≡ system → Bests keys c (i + 1) best′ system′
-  bests-lacks t p q =
-      bests-next (λ fit marks a b.
-      let z = score-lacks fit marks s c t in
-      (p ∙ b ∙ ap (scoreOf fit marks c) (sym q), q ∙ sym (better-before fit marks c system s (omega arith))))
+    pub tally-chosen : hasOf (getD candidates i 0) c ≡ true → getD keys i 0 ≡ 0 → count′ ≡ count + 1 → best′ ≡ best → at′ ≡ at → Tally keys c (i + 1) count′ best′ at′
+    tally-chosen t z p q r =
+        tally-next count′ best′ at′ (omega (arith, k .few)) (omega (arith, k .place))
+        (λ fit marks a b.
+        let s : keyOf fit marks (getD candidates i 0) ≡ scoreOf fit marks c (getD candidates i 0) = score-key fit marks (getD candidates i 0) c t in
+        let s′ = stays fit marks b (omega arith) q r in
+        (p ∙ rw (chosen-of-key fit marks (getD candidates i 0) (sym a ∙ z), t), s′ .0, s′ .1))
 
-  pub bests-less : hasOf s c ≡ true → getD keys s 0 ≤ best → best′ ≡ best → system′ ≡ system → Bests keys c (i + 1) best′ system′
-  bests-less t l p q =
-      bests-next (λ fit marks a b.
-      let z : getD keys s 0 ≡ scoreOf fit marks c s = a ∙ score-key fit marks s c t in
-      (p ∙ b ∙ ap (scoreOf fit marks c) (sym q), q ∙ sym (better-before fit marks c system s (omega arith))))
+    pub tally-lacks : hasOf (getD candidates i 0) c ≡ false → count′ ≡ count → best′ ≡ best → at′ ≡ at → Tally keys c (i + 1) count′ best′ at′
+    tally-lacks t p q r =
+        tally-next count′ best′ at′ (omega (arith, k .few)) (omega (arith, k .place))
+        (λ fit marks a b.
+        let s = score-lacks fit marks (getD candidates i 0) c t in
+        let s′ = stays fit marks b (omega arith) q r in
+        (p ∙ none (isChosen marks (getD candidates i 0)), s′ .0, s′ .1))
+      where
+        none : (b : Bool) → count ≡ count + oneIf (b && hasOf (getD candidates i 0) c)
+        none true = rw t (sym (add-zero count))
+        none false = sym (add-zero count)
+
+    module _ (t : hasOf (getD candidates i 0) c ≡ true) (z : getD keys i 0 ≡ 0 → ⊥) (p : count′ ≡ count) where
+      open-one : (fit : ℕ → ℕ) (marks : List Bool) → getD keys i 0 ≡ keyOf fit marks (getD candidates i 0) → count′ ≡ countOf marks c count (getD candidates i 0)
+      open-one fit marks a = p ∙ rw (open-of-key fit marks (getD candidates i 0) (λ w. z (a ∙ w))) (sym (add-zero count))
+
+      pub tally-less : getD keys i 0 ≤ best → best′ ≡ best → at′ ≡ at → Tally keys c (i + 1) count′ best′ at′
+      tally-less l q r =
+          tally-next count′ best′ at′ (omega (arith, k .few)) (omega (arith, k .place))
+          (λ fit marks a b.
+          let s = score-key fit marks (getD candidates i 0) c t in
+          let s′ = stays fit marks b (omega arith) q r in
+          (open-one fit marks a, s′ .0, s′ .1))
+
+      pub tally-more : best < getD keys i 0 → best′ ≡ getD keys i 0 → at′ ≡ i → Tally keys c (i + 1) count′ best′ at′
+      tally-more l q r =
+          tally-next count′ best′ at′ (omega (arith, k .few)) (omega arith)
+          (λ fit marks a b.
+          let e = ap (λ (x : ℕ). getD candidates x 0) r in
+          let s : getD keys i 0 ≡ scoreOf fit marks c (getD candidates i 0) = a ∙ score-key fit marks (getD candidates i 0) c t in
+          (open-one fit marks a, q ∙ s ∙ ap (scoreOf fit marks c) (sym e), e ∙ sym (better-next fit marks c (getD candidates at 0) (getD candidates i 0) (omega arith))))
 
 -- ---- what a component takes
 
-module _ (fit : ℕ → ℕ) (wanted : ℕ) (marks : List Bool) (keys : List ℕ) (c n : ℕ) (k : Keyed fit marks keys) (e : n ≡ containingOf candidates marks c) where
-  pub take-none : wanted ≤ n → Keyed fit (takeOf fit candidates wanted marks c) keys
+keyed-set : (fit : ℕ → ℕ) (marks : List Bool) (keys : List ℕ) (at : ℕ) → Keyed fit marks keys → at ≤ length candidates → Keyed fit (set marks (getD candidates at 0) true) (set keys at 0)
+unfolding keyOf
+keyed-set fit marks keys at k l =
+    record {
+      marked = length-set marks (getD candidates at 0) true ∙ k .marked;
+      long = length-set keys at 0 ∙ k .long;
+      at = λ i h. go i h (eqb i at) refl;
+    }
+  where
+    go : (i : ℕ) → i < length candidates → (b : Bool) → eqb i at ≡ b → getD (set keys at 0) i 0 ≡ keyOf fit (set marks (getD candidates at 0) true) (getD candidates i 0)
+    go i h true p =
+        rw (eqb-true i at p, getD-set-same keys at 0 0 (omega (arith, k .long)), getD-set-same marks (getD candidates at 0) true false (omega (arith, k .marked, candidate-lt at l)))
+    go i h false p =
+        let d : i ≡ at → ⊥ = eqb-false i at p in
+        let e = candidates-apart i at (omega arith) l d in
+        rw (getD-set-other keys at i 0 0 d, getD-set-other marks (getD candidates at 0) (getD candidates i 0) true false e) (k .at i h)
+
+module _ (keys : List ℕ) (c i count best at : ℕ) (k : Tally keys c i count best at) (h : length candidates ≤ i) (wanted : ℕ) (fit : ℕ → ℕ) (marks : List Bool) (d : Keyed fit marks keys) where
+  count-is : count ≡ containingOf candidates marks c
+  count-is = done (countOf marks c) candidates i count (containingOf candidates marks c) h (k .told fit marks d .counted)
+
+  pub take-none : wanted ≤ count → Keyed fit (takeOf fit candidates wanted marks c) keys
   unfolding takeOf
-  take-none h = rw (le-ltb (containingOf candidates marks c) wanted (rw (← e) h), takeOf) k
+  take-none l = rw (le-ltb (containingOf candidates marks c) wanted (rw (← count-is) l), takeOf) d
 
-  module _ (s : ℕ) (low : s < NUMBERS) where
-    keyed-set : Keyed fit (set marks s true) (set keys s 0)
-    unfolding keyOf
-    keyed-set =
-        record {
-          marked = length-set marks s true ∙ k .marked;
-          long = length-set keys s 0 ∙ k .long;
-          at = λ i h. at (getD candidates i 0) (k .at i h) (eqb (getD candidates i 0) s) refl;
-        }
-      where
-        at : (t : ℕ) → getD keys t 0 ≡ keyOf fit marks t → (b : Bool) → eqb t s ≡ b → getD (set keys s 0) t 0 ≡ keyOf fit (set marks s true) t
-        at t q true p =
-            rw (eqb-true t s p, getD-set-same keys s 0 0 (omega (arith, k .long)), getD-set-same marks s true false (omega (arith, k .marked)))
-        at t q false p =
-            let d : t ≡ s → ⊥ = eqb-false t s p in
-            rw (getD-set-other keys s t 0 0 d, getD-set-other marks s t true false d) q
-
-    pub take-one : n < wanted → s ≡ fittestOf fit candidates marks c → Keyed fit (takeOf fit candidates wanted marks c) (set keys s 0)
-    unfolding takeOf
-    take-one h f = rw (lt-ltb (containingOf candidates marks c) wanted (rw (← e) h), ← f, takeOf) keyed-set
+  pub take-one : count < wanted → Keyed fit (takeOf fit candidates wanted marks c) (set keys at 0)
+  unfolding takeOf
+  take-one l =
+      let f : getD candidates at 0 ≡ fittestOf fit candidates marks c = done (betterOf fit marks c) candidates i (getD candidates at 0) (fittestOf fit candidates marks c) h (k .told fit marks d .rest) in
+      rw (lt-ltb (containingOf candidates marks c) wanted (rw (← count-is) l), ← f, takeOf) (keyed-set fit marks keys at d (k .place))
 
 -- ---- each component in turn, and again
 

@@ -75,14 +75,14 @@ Lists keys count systems i = (fit : ℕ → ℕ) → (marks : List Bool) → Key
 pub lists-none : (keys : List ℕ) → Lists keys 0 (replicate SYSTEMS 0) 0
 lists-none keys fit marks k = listed-none marks
 
-module _ (keys : List ℕ) (count : ℕ) (systems : List ℕ) (i s : ℕ) (k : Lists keys count systems i) (h : i < length candidates) (e : s ≡ getD candidates i 0) where
-  pub lists-more : getD keys s 0 ≡ 0 → Lists keys (count + 1) (set systems count s) (i + 1)
-  lists-more z fit marks d =
-      listed-more marks count systems i s (k fit marks d) h e (chosen-of-key fit marks s (sym (rw e (d .at i h)) ∙ z))
+module _ (keys : List ℕ) (count : ℕ) (systems : List ℕ) (i : ℕ) (k : Lists keys count systems i) (h : i < length candidates) where
+  pub lists-more : (s : ℕ) → s ≡ getD candidates i 0 → getD keys i 0 ≡ 0 → Lists keys (count + 1) (set systems count s) (i + 1)
+  lists-more s e z fit marks d =
+      listed-more marks count systems i s (k fit marks d) h e (rw e (chosen-of-key fit marks (getD candidates i 0) (sym (d .at i h) ∙ z)))
 
-  pub lists-same : (getD keys s 0 ≡ 0 → ⊥) → Lists keys count systems (i + 1)
+  pub lists-same : (getD keys i 0 ≡ 0 → ⊥) → Lists keys count systems (i + 1)
   lists-same z fit marks d =
-      listed-same marks count systems i s (k fit marks d) h e (open-of-key fit marks s (λ w. z (rw e (d .at i h) ∙ w)))
+      listed-same marks count systems i (getD candidates i 0) (k fit marks d) h refl (open-of-key fit marks (getD candidates i 0) (λ w. z (d .at i h ∙ w)))
 
 pub lists-all : (keys : List ℕ) (count : ℕ) (systems : List ℕ) (i : ℕ) → Lists keys count systems i → length candidates ≤ i
     → (fit : ℕ → ℕ) → (marks : List Bool) → Keyed fit marks keys → _≡_ {A = Choice} (record { count = count; systems = systems }) (answerOf (chosenOf candidates marks))

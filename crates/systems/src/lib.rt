@@ -1,7 +1,7 @@
 // The candidate systems, their components, and the choice of systems. No public function has a `requires`.
 ghost use mathlib.Core.Path.{_≡_};
-ghost use mathlib.Core.Bool.{Bool, false};
-ghost use Prim.Native.Nat.{ℕ, _*_, _/_, _%_, _^_, _<_, _≤_};
+ghost use mathlib.Core.Bool.{Bool, false, cond};
+ghost use Prim.Native.Nat.{ℕ, _+_, _*_, _/_, _%_, _^_, _<_, _≤_};
 ghost use mathlib.Core.List.{List};
 ghost use lib.ListN.{getD, length, replicate};
 ghost use Rattle.systems.specs.Systems.{COMPONENTS, memberOf, hasOf, candidates};
@@ -49,17 +49,9 @@ pub fn member(system: u8, j: usize) -> usize
     COMPONENTS
 }
 
-// Five bits a system number from the right, one for each component that it has as a member, from the right: those that are
-// no candidates have COMPONENTS.
+// What each system number has for its members: five bits a number, from the right, one for each component and the last for
+// COMPONENTS, which numbers that are no candidates have.
 const HELD: u64 = 0b01011_01101_10000_10000_00111_10000_01110_10000_10000;
-
-// Whether the system contains component c.
-fn held(system: usize, c: usize) -> bool
-    requires { ⌜ (system < NUMBERS) × (c ≤ COMPONENTS) ⌝ }
-    ensures { λ r. ⌜ r ≡ hasOf system c ⌝ }
-{
-    (HELD >> (system * 5 + c)) % 2 == 1
-}
 
 // Whether the system contains component c.
 pub fn has(system: u8, c: usize) -> bool
@@ -72,7 +64,7 @@ pub fn has(system: u8, c: usize) -> bool
     if c > COMPONENTS {
         return false;
     }
-    held(s, c)
+    (HELD >> (s * 5 + c)) % 2 == 1
 }
 
 // The weights of the components in the fitness, times 480: two hexadecimal digits each, from the right.
@@ -82,9 +74,15 @@ const WEIGHTS: u64 = 0x64504B30;
 const ORDER: u64 = 0o0312;
 
 // The systems that can be chosen, a hexadecimal digit each, from the right, and how many there are.
+const SYSTEM_NUMBERS: u64 = 0x8742;
+
 const CANDIDATES: usize = 4;
 
-const SYSTEM_NUMBERS: u64 = 0x8742;
+// What each of them contains: a bit for each component, from the right.
+const CONTAINED: u64 = 0b1011_1101_0111_1110;
+
+// Room for a key of each candidate, and for that of none.
+const KEYS: usize = 5;
 
 // Room for chosen systems.
 const SYSTEMS: usize = 8;
@@ -95,82 +93,81 @@ pub struct Choice {
     pub systems: [u8; SYSTEMS],
 }
 
-// The weight of component c times its parts x.
-fn weighted(x: u32, c: usize) -> u64
-    requires { ⌜ c < COMPONENTS ⌝ }
-    ensures { λ r. ⌜ (r ≡ getD weights c 0 * x) × (r ≤ 429496729500) ⌝ }
+// Whether the candidate in place i contains component c.
+fn contains(i: usize, c: usize) -> bool
+    requires { ⌜ (i < length candidates) × (c < COMPONENTS) ⌝ }
+    ensures { λ r. ⌜ r ≡ hasOf (getD candidates i 0) c ⌝ }
 {
-    (WEIGHTS >> (c * 8)) % 256 * x as u64
+    (CONTAINED >> (i * COMPONENTS + c)) % 2 == 1
 }
 
-// The fitness times 480 of a system, from the components that it contains.
-fn fitness(m: [u32; COMPONENTS], system: usize) -> u64
-    requires { ⌜ system < NUMBERS ⌝ }
-    ensures { λ r. ⌜ (r ≡ weighedTo m system COMPONENTS) × (r ≤ 1717986918000) ⌝ }
+// The weight of component c times its parts x, where the candidate in place i contains it.
+fn weighted(i: usize, c: usize, x: u32) -> u64
+    requires { ⌜ (i < length candidates) × (c < COMPONENTS) ⌝ }
+    ensures { λ r. ⌜ (r ≡ cond (hasOf (getD candidates i 0) c) (getD weights c 0 * x) 0) × (r ≤ 429496729500) ⌝ }
 {
-    let mut f: u64 = 0;
+    if contains(i, c) {
+        return (WEIGHTS >> (c * 8)) % 256 * x as u64;
+    }
+    0
+}
+
+// The key of the candidate in place i before it is chosen: its fitness times 480, and 1.
+fn key(m: [u32; COMPONENTS], i: usize) -> u64
+    requires { ⌜ i < length candidates ⌝ }
+    ensures { λ r. ⌜ r ≡ weighedTo m (getD candidates i 0) COMPONENTS + 1 ⌝ }
+{
+    let mut k: u64 = 1;
     let mut c: usize = 0;
     while c < COMPONENTS {
-        if held(system, c) {
-            f += weighted(m[c], c);
-        }
+        k += weighted(i, c, m[c]);
         c += 1;
     }
-    f
+    k
 }
 
-// The number of the candidate in place i.
-fn candidate(i: usize) -> usize
-    requires { ⌜ i < length candidates ⌝ }
-    ensures { λ r. ⌜ (r ≡ getD candidates i 0) × (r < NUMBERS) ⌝ }
-{
-    ((SYSTEM_NUMBERS >> (i * 4)) % 16) as usize
-}
-
-// The systems' keys, by number: 0 where a system is chosen or is no candidate, else its fitness and 1.
-fn keys_of(m: [u32; COMPONENTS]) -> [u64; NUMBERS]
+// The keys of the candidates before one is chosen.
+fn keys_of(m: [u32; COMPONENTS]) -> [u64; KEYS]
     ensures { λ r. ⌜ Keyed (fitnessOf m) (replicate NUMBERS false) r ⌝ }
 {
-    let mut keys = [0u64; NUMBERS];
+    let mut keys = [0u64; KEYS];
     let mut i: usize = 0;
     while i < CANDIDATES {
-        let s = candidate(i);
-        keys[s] = fitness(m, s) + 1;
+        keys[i] = key(m, i);
         i += 1;
     }
     keys
 }
 
-// Component c takes the fittest system that contains it and is not chosen, equal fitness to the lower number, where fewer
-// than the wanted number of chosen systems contain c.
-fn take(keys: &mut [u64; NUMBERS], wanted: usize, c: usize)
+// Component c takes the fittest candidate that contains it and is not chosen, equal fitness to the lower number, where
+// fewer than the wanted number of chosen systems contain c.
+fn take(keys: &mut [u64; KEYS], wanted: usize, c: usize)
     requires { ⌜ c < COMPONENTS ⌝ }
     ensures { λ _. ⌜ ((fit : ℕ → ℕ) → (marks : List Bool) → Keyed fit marks (now (keys .entry)) → Keyed fit (takeOf fit candidates wanted marks c) (now (keys .exit))) ⌝ }
 {
     let mut count: usize = 0;
     let mut best: u64 = 0;
-    let mut system: usize = 0;
+    let mut at = CANDIDATES;
     let mut i: usize = 0;
     while i < CANDIDATES {
-        let s = candidate(i);
-        if held(s, c) {
-            let key = keys[s];
+        if contains(i, c) {
+            let key = keys[i];
             if key == 0 {
                 count += 1;
             } else if best < key {
                 best = key;
-                system = s;
+                at = i;
             }
         }
         i += 1;
     }
     if count < wanted {
-        keys[system] = 0;
+        keys[at] = 0;
     }
 }
 
 // The components do so, one after the other, for one system each and then for two.
-fn turns(keys: &mut [u64; NUMBERS])
+fn turns(keys: &mut [u64; KEYS])
     ensures { λ _. ⌜ ((fit : ℕ → ℕ) → Keyed fit (replicate NUMBERS false) (now (keys .entry)) → Keyed fit (marksOf fit candidates order) (now (keys .exit))) ⌝ }
 {
     let mut i: usize = 0;
@@ -181,21 +178,28 @@ fn turns(keys: &mut [u64; NUMBERS])
 }
 
 // The chosen systems, in the order of the candidates.
-fn listed(keys: [u64; NUMBERS]) -> Choice
+fn listed(keys: [u64; KEYS]) -> Choice
     ensures { λ r. ⌜ ((fit : ℕ → ℕ) → (marks : List Bool) → Keyed fit marks keys → r ≡ answerOf (chosenOf candidates marks)) ⌝ }
 {
     let mut count: usize = 0;
     let mut systems = [0u8; SYSTEMS];
     let mut i: usize = 0;
     while i < CANDIDATES {
-        let s = candidate(i);
-        if keys[s] == 0 {
-            systems[count] = s as u8;
+        if keys[i] == 0 {
+            systems[count] = number(i);
             count += 1;
         }
         i += 1;
     }
     Choice { count, systems }
+}
+
+// The number of the candidate in place i.
+fn number(i: usize) -> u8
+    requires { ⌜ i < length candidates ⌝ }
+    ensures { λ r. ⌜ r ≡ getD candidates i 0 ⌝ }
+{
+    ((SYSTEM_NUMBERS >> (i * 4)) % 16) as u8
 }
 
 // The systems chosen for a mixture of so many parts of each component.

@@ -17,17 +17,14 @@ abbrev μ-loop : tie.MeasureT-loop
 loop-holds : tie.Need-loop-holds Inv-loop μ-loop
 loop-holds c = (omega arith, omega arith, lists-none _)
 
-candidate-requires : tie.Need-candidate-requires Inv-loop μ-loop
-candidate-requires c κs = search needs
-
 mul-if1 : tie.Need-mul-if1 Inv-loop μ-loop
 mul-if1 c = search needs
 
 array-read-if1 : tie.Need-array-read-if1 Inv-loop μ-loop
 array-read-if1 c = search needs
 
-cast-systems : tie.Need-cast-systems Inv-loop μ-loop
-cast-systems c = search needs
+number-requires : tie.Need-number-requires Inv-loop μ-loop
+number-requires c κs = search needs
 
 array-write-systems : tie.Need-array-write-systems Inv-loop μ-loop
 array-write-systems c = search needs
@@ -42,9 +39,10 @@ loop-less : tie.Need-loop-less Inv-loop μ-loop
 loop-less c = search needs
 
 loop-again : tie.Need-loop-again Inv-loop μ-loop
-loop-again c = ⊎-elim
-    (λ w. (omega (arith, w .1), omega arith, rw (w .1, w .2) (lists-more _ _ _ _ (c .before .candidate .result) (c .before .before .before .loop .inv .2) (c .before .before .loop-test .taken) (c .before .candidate .ensures .0) (w .0 .taken))))
-    (λ w. (omega (arith, w .1), omega arith, rw (w .1, w .2) (lists-same _ _ _ _ (c .before .candidate .result) (c .before .before .before .loop .inv .2) (c .before .before .loop-test .taken) (c .before .candidate .ensures .0) (w .0 .left))))
+loop-again c =
+    ⊎-elim
+    (λ w. (omega (arith, w .2), omega arith, rw (w .2, w .3) (lists-more _ _ _ _ (c .before .before .loop .inv .2) (c .before .loop-test .taken) _ (w .1 .ensures) (w .0 .taken))))
+    (λ w. (omega (arith, w .1), omega arith, rw (w .1, w .2) (lists-same _ _ _ _ (c .before .before .loop .inv .2) (c .before .loop-test .taken) (w .0 .left))))
     (c .if1 .came)
 
 returns : tie.Need-returns Inv-loop μ-loop
@@ -57,10 +55,9 @@ listed-spec =
     Inv-loop
     μ-loop
     loop-holds
-    candidate-requires
     mul-if1
     array-read-if1
-    cast-systems
+    number-requires
     array-write-systems
     add-count
     add-i

@@ -1,29 +1,25 @@
-use Prim.Native.Nat.{_-_, _≤_, _<_}
+use Prim.Native.Nat.{_-_}
 use mathlib.Core.Path.{sym, _∙_}
 use mathlib.Core.Logic.{⊎-elim}
 use native.Mathlib.Omega.{arith}
 use borrow.Author.Needs.{needs}
 use lib.ListN.{length}
 use Rattle.systems.specs.Systems.{candidates}
-use Rattle.systems.specs.Choice.{NUMBERS}
-use Rattle.systems.proofs.Keying.{Counts, counts-none, counts-one, counts-lacks, counts-open, counts-all, Bests, bests-none, bests-more, bests-lacks, bests-less, bests-all, take-one, take-none}
+use Rattle.systems.proofs.Keying.{Tally, tally-none, tally-chosen, tally-more, tally-less, tally-lacks, take-one, take-none}
 use Rattle.systems.proofs.take.Statement.{statement}
 use Rattle.systems.proofs.take.Tie as tie
 
 abbrev Inv-loop : tie.InvT-loop
-Inv-loop keys wanted c count₀ best₀ system₀ i₀ count best system i = (i ≤ length candidates) × (count ≤ i) × (system < NUMBERS) × Counts keys c i count × Bests keys c i best system
+Inv-loop keys wanted c count₀ best₀ at₀ i₀ count best at i = Tally keys c i count best at
 
 abbrev μ-loop : tie.MeasureT-loop
-μ-loop keys wanted c count₀ best₀ system₀ i₀ count best system i = length candidates - i
+μ-loop keys wanted c count₀ best₀ at₀ i₀ count best at i = length candidates - i
 
 loop-holds : tie.Need-loop-holds Inv-loop μ-loop
-loop-holds c = (omega arith, omega arith, omega arith, counts-none _ _, bests-none _ _ (c .pre))
+loop-holds c = tally-none _ _ (c .pre)
 
-candidate-requires : tie.Need-candidate-requires Inv-loop μ-loop
-candidate-requires c κs = search needs
-
-held-requires : tie.Need-held-requires Inv-loop μ-loop
-held-requires c κs = (c .candidate .ensures .1, omega arith)
+contains-requires : tie.Need-contains-requires Inv-loop μ-loop
+contains-requires c κs = search needs
 
 mul-key : tie.Need-mul-key Inv-loop μ-loop
 mul-key c = search needs
@@ -42,12 +38,12 @@ loop-less c = search needs
 
 loop-again : tie.Need-loop-again Inv-loop μ-loop
 loop-again c = ⊎-elim
-    (λ w. (omega arith, omega (arith, w .3), rw (w .5) (c .before .before .before .before .loop .inv .2), counts-one _ _ _ _ _ (c .before .before .candidate .result) (c .before .before .before .before .loop .inv .3) (c .before .before .before .loop-test .taken) (c .before .before .candidate .ensures .0) (sym (c .before .held .ensures) ∙ w .0 .taken) (w .2 .taken) (w .3), bests-less _ _ _ _ _ _ _ (c .before .before .candidate .result) (c .before .before .before .before .loop .inv .4) (c .before .before .before .loop-test .taken) (c .before .before .candidate .ensures .0) (sym (c .before .held .ensures) ∙ w .0 .taken) (omega (arith, w .2 .taken)) (w .4) (w .5)))
+    (λ w. tally-chosen _ _ _ _ _ _ (c .before .before .before .loop .inv) (c .before .before .loop-test .taken) _ _ _ (sym (c .before .contains .ensures) ∙ w .0 .taken) (w .2 .taken) (w .3) (w .4) (w .5))
     (⊎-elim
-    (λ w. (omega arith, omega (arith, w .4), rw (w .6) (c .before .before .candidate .ensures .1), counts-open _ _ _ _ _ (c .before .before .candidate .result) (c .before .before .before .before .loop .inv .3) (c .before .before .before .loop-test .taken) (c .before .before .candidate .ensures .0) (w .2 .left) (w .4), bests-more _ _ _ _ _ _ _ (c .before .before .candidate .result) (c .before .before .before .before .loop .inv .4) (c .before .before .before .loop-test .taken) (c .before .before .candidate .ensures .0) (sym (c .before .held .ensures) ∙ w .0 .taken) (w .3 .taken) (w .5) (w .6)))
+    (λ w. tally-more _ _ _ _ _ _ (c .before .before .before .loop .inv) (c .before .before .loop-test .taken) _ _ _ (sym (c .before .contains .ensures) ∙ w .0 .taken) (w .2 .left) (w .4) (w .3 .taken) (w .5) (w .6))
     (⊎-elim
-    (λ w. (omega arith, omega (arith, w .4), rw (w .6) (c .before .before .before .before .loop .inv .2), counts-open _ _ _ _ _ (c .before .before .candidate .result) (c .before .before .before .before .loop .inv .3) (c .before .before .before .loop-test .taken) (c .before .before .candidate .ensures .0) (w .2 .left) (w .4), bests-less _ _ _ _ _ _ _ (c .before .before .candidate .result) (c .before .before .before .before .loop .inv .4) (c .before .before .before .loop-test .taken) (c .before .before .candidate .ensures .0) (sym (c .before .held .ensures) ∙ w .0 .taken) (w .3 .left) (w .5) (w .6)))
-    (λ w. (omega arith, omega (arith, w .1), rw (w .3) (c .before .before .before .before .loop .inv .2), counts-lacks _ _ _ _ _ (c .before .before .candidate .result) (c .before .before .before .before .loop .inv .3) (c .before .before .before .loop-test .taken) (c .before .before .candidate .ensures .0) (sym (c .before .held .ensures) ∙ w .0 .left) (w .1), bests-lacks _ _ _ _ _ _ _ (c .before .before .candidate .result) (c .before .before .before .before .loop .inv .4) (c .before .before .before .loop-test .taken) (c .before .before .candidate .ensures .0) (sym (c .before .held .ensures) ∙ w .0 .left) (w .2) (w .3)))))
+    (λ w. tally-less _ _ _ _ _ _ (c .before .before .before .loop .inv) (c .before .before .loop-test .taken) _ _ _ (sym (c .before .contains .ensures) ∙ w .0 .taken) (w .2 .left) (w .4) (w .3 .left) (w .5) (w .6))
+    (λ w. tally-lacks _ _ _ _ _ _ (c .before .before .before .loop .inv) (c .before .before .loop-test .taken) _ _ _ (sym (c .before .contains .ensures) ∙ w .0 .left) (w .1) (w .2) (w .3))))
     (c .if1 .came)
 
 mul-keys : tie.Need-mul-keys Inv-loop μ-loop
@@ -57,10 +53,10 @@ element-write-keys : tie.Need-element-write-keys Inv-loop μ-loop
 element-write-keys c = search needs
 
 returns : tie.Need-returns Inv-loop μ-loop
-returns c = λ fit marks k. take-one fit _ marks _ _ _ k (counts-all _ _ _ _ (c .before .before .loop .inv .3) (c .before .loop-test .left) fit marks k) _ (c .before .before .loop .inv .2) (c .if4 .taken) (bests-all _ _ _ _ _ (c .before .before .loop .inv .4) (c .before .loop-test .left) fit marks k)
+returns c fit marks d = take-one _ _ _ _ _ _ (c .before .before .loop .inv) (c .before .loop-test .left) _ fit marks d (c .if4 .taken)
 
 returns-2 : tie.Need-returns-2 Inv-loop μ-loop
-returns-2 c = λ fit marks k. take-none fit _ marks _ _ _ k (counts-all _ _ _ _ (c .before .before .loop .inv .3) (c .before .loop-test .left) fit marks k) (c .if4 .left)
+returns-2 c fit marks d = take-none _ _ _ _ _ _ (c .before .before .loop .inv) (c .before .loop-test .left) _ fit marks d (c .if4 .left)
 
 pub take-spec : {M : Type 1} → statement M
 take-spec =
@@ -69,8 +65,7 @@ take-spec =
     Inv-loop
     μ-loop
     loop-holds
-    candidate-requires
-    held-requires
+    contains-requires
     mul-key
     element-copy-out-key
     add-count
