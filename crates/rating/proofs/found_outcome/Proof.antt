@@ -1,0 +1,41 @@
+use Rattle.rating.proofs.AnswerCases.{read-back}
+use Rattle.rating.proofs.CallCases.{found-none, found-is-some}
+use mathlib.Core.Path.{_∙_}
+use borrow.Author.Needs.{needs}
+use Rattle.rating.proofs.found_outcome.Statement.{statement}
+use Rattle.rating.proofs.found_outcome.Tie as tie
+
+enum-told : tie.Need-enum-told
+enum-told c = search needs
+
+refused-requires : tie.Need-refused-requires
+refused-requires c κs = search needs
+
+enum-known-search : tie.Need-enum-known-search
+enum-known-search c = search needs
+
+rating-of-requires : tie.Need-rating-of-requires
+rating-of-requires c κs = (c .before .before .before .before .before .pre .0, c .before .before .before .before .before .pre .1 _ _ (c .before .search .given .1))
+
+split-of-requires : tie.Need-split-of-requires
+split-of-requires c κs = search needs
+
+returns : tie.Need-returns
+returns c = c .refused .ensures ∙ found-none _ _ _ (c .before .before .before .before .before .args .found) (c .before .enum-told .given .1)
+
+returns-2 : tie.Need-returns-2
+returns-2 c = let b = c .before .before .before .before .before .before .before in
+    found-is-some _ _ _ (b .args .found) _ _ (c .before .rating-of .result) _ _ (c .before .before .before .search .given .1)
+    (read-back (c .before .rating-of .result) (c .before .rating-of .ok)) (c .before .rating-of .ensures) (c .split-of .ensures)
+
+pub found-outcome-spec : {M : Type 1} → statement M
+found-outcome-spec =
+    tie.close
+    (tie.spec
+    enum-told
+    refused-requires
+    enum-known-search
+    rating-of-requires
+    split-of-requires
+    returns
+    returns-2)

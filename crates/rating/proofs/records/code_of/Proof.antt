@@ -1,0 +1,21 @@
+use Rattle.rating.specs.Records.{codeOf}
+use Rattle.rating.proofs.RecordCases.{code-is}
+use borrow.Author.Needs.{needs}
+use Rattle.rating.proofs.records.code_of.Statement.{statement}
+use Rattle.rating.proofs.records.code_of.Tie as tie
+
+mul-result : tie.Need-mul-result
+mul-result c = search needs
+
+shr-result : tie.Need-shr-result
+shr-result c = search needs
+
+cast-result : tie.Need-cast-result
+cast-result c = search needs
+
+returns : tie.Need-returns
+unfolding codeOf
+returns c = code-is _ tt (c .args .c) (c .pre)
+
+pub code-of-spec : {M : Type 1} → statement M
+code-of-spec = tie.close (tie.spec mul-result shr-result cast-result returns)
