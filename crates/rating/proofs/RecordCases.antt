@@ -1,13 +1,13 @@
 -- The records of a split and its cells: the packed tables, the arrays as they fill, and the cases of the definitions. Assumes nothing.
 use Prim.Native.Nat.{ℕ, suc, _+_, _*_, _-_, _/_, _%_, _^_, _≤_, _<_}
 use mathlib.Core.Path.{_≡_, refl, sym, ap, ap₂, _∙_}
-use mathlib.Core.Bool.{Bool, true, false, cond}
+use mathlib.Core.Bool.{Bool, true, false, not, cond}
 use mathlib.Core.List.{List}
 use native.Mathlib.Omega.{arith}
 use lib.Dec.{T, ltb, eqb, eqb→eq}
 use lib.ListN.{getD, set, length, replicate, length-set, getD-replicate, List·getD-eq-default}
 use lib.Seq.{getD-set-same, getD-set-other, ext-getD}
-use borrow.Author.Tests.{lt-ltb, le-ltb, ltb-true, ltb-false, eq-eqb, ne-eqb, eqb-true, eqb-false}
+use borrow.Author.Tests.{lt-ltb, le-ltb, ltb-true, ltb-false, eq-eqb, ne-eqb, eqb-true, eqb-false, not-true, not-false}
 use Rattle.systems.specs.Systems.{COMPONENTS, hasOf, candidates, Candidate}
 use Rattle.systems.specs.Table.{every, everyTo, eachTo, each-candidate}
 use Rattle.split.specs.Fold.{allTo, table}
@@ -16,7 +16,11 @@ use Rattle.split.specs.Tables.{length-table, getD-table}
 use Rattle.split.specs.Places.{rank-lt, component-rank, component-lt, component-has, rank-component}
 use Rattle.sheet.specs.declared.Split.{Split}
 use Rattle.rating.specs.Records.{codeOf, systemAt, codeAt, systemsOf, codesOf, amountAt, cellAt, matchesAt, fitsOf}
-use Rattle.rating.specs.Rate.{recordsOf}
+use Rattle.split.specs.Proposed.{Proposal, answerOf}
+use Rattle.split.specs.declared.Answer.{Answer}
+use Rattle.split.specs.declared.Answer.the-variants.{Refused}
+use Rattle.rating.specs.Rate.{splitBy, recordsOf}
+use Rattle.rating.proofs.CallCases.{misfit, fitting}
 
 -- ---- the packed tables
 
@@ -265,19 +269,19 @@ module _ (ch : List ℕ) (k : ℕ) (xs : List ℕ) (chosen : Chosen ch k) where
 
 -- ---- all of n, from the last down
 
-pub all-next : (p : ℕ → Bool) (r : ℕ) → 0 < r → p (r - 1) ≡ true → allTo p r ≡ allTo p (r - 1)
+all-next : (p : ℕ → Bool) (r : ℕ) → 0 < r → p (r - 1) ≡ true → allTo p r ≡ allTo p (r - 1)
 unfolding allTo
 all-next p r h e =
     let q : r ≡ suc (r - 1) = omega arith in
     ap (allTo p) q ∙ ap (λ (b : Bool). cond b (allTo p (r - 1)) false) e
 
-pub all-fails : (p : ℕ → Bool) (r : ℕ) → 0 < r → p (r - 1) ≡ false → allTo p r ≡ false
+all-fails : (p : ℕ → Bool) (r : ℕ) → 0 < r → p (r - 1) ≡ false → allTo p r ≡ false
 unfolding allTo
 all-fails p r h e =
     let q : r ≡ suc (r - 1) = omega arith in
     ap (allTo p) q ∙ ap (λ (b : Bool). cond b (allTo p (r - 1)) false) e
 
-pub all-none : (p : ℕ → Bool) (r : ℕ) → r ≤ 0 → allTo p r ≡ true
+all-none : (p : ℕ → Bool) (r : ℕ) → r ≤ 0 → allTo p r ≡ true
 unfolding allTo
 all-none p r h = let q : r ≡ 0 = omega arith in ap (allTo p) q
 
@@ -286,14 +290,39 @@ module _ (ch : List ℕ) (k count : ℕ) (systems codes : List ℕ) where
   unfolding fitsOf
   fits-other h = rw (ne-eqb count (3 * k) h)
 
-  pub fits-all : count ≡ 3 * k → fitsOf ch k count systems codes ≡ allTo (matchesAt ch k systems codes) count
+  fits-all : count ≡ 3 * k → fitsOf ch k count systems codes ≡ allTo (matchesAt ch k systems codes) count
   unfolding fitsOf
   fits-all h = rw (eq-eqb count (3 * k) h)
 
   -- one record of the system and the component expected of it
-  pub match-in : (r : ℕ) → r < 3 * k → both (eqb (getD systems r 0) (systemOf ch (r / 3))) (eqb (getD codes r 0) (codeOf (componentAt (systemOf ch (r / 3)) (r % 3)))) ≡ matchesAt ch k systems codes r
+  match-in : (r : ℕ) → r < 3 * k → both (eqb (getD systems r 0) (systemOf ch (r / 3))) (eqb (getD codes r 0) (codeOf (componentAt (systemOf ch (r / 3)) (r % 3)))) ≡ matchesAt ch k systems codes r
   unfolding matchesAt
   match-in r h = ap₂ (λ (x y : ℕ). both (eqb (getD systems r 0) x) (eqb (getD codes r 0) y)) (system-in ch k r h) (code-in ch k r h)
+
+  -- from the records below r, the last of which is tested first
+  abbrev expectedAt : ℕ → Bool
+  expectedAt r = both (eqb (getD systems r 0) (systemOf ch (r / 3))) (eqb (getD codes r 0) (codeOf (componentAt (systemOf ch (r / 3)) (r % 3))))
+
+  pub record Fitting (r : ℕ) : Type 0 where
+    pub most : r ≤ 3 * k
+    rest : fitsOf ch k count systems codes ≡ allTo (matchesAt ch k systems codes) r
+
+  pub fitting-none : count ≡ 3 * k → Fitting count
+  fitting-none h = record { most = omega arith; rest = fits-all h }
+
+  module _ (r : ℕ) (f : Fitting r) where
+    module _ (h : 0 < r) (b : Bool) (e : b ≡ expectedAt (r - 1)) where
+      last-is : matchesAt ch k systems codes (r - 1) ≡ b
+      last-is = sym (match-in (r - 1) (omega (arith, f .most))) ∙ sym e
+
+      pub fitting-fails : not b ≡ true → false ≡ fitsOf ch k count systems codes
+      fitting-fails t = sym (f .rest ∙ all-fails (matchesAt ch k systems codes) r h (last-is ∙ not-true b t))
+
+      pub fitting-next : not b ≡ false → Fitting (r - 1)
+      fitting-next t = record { most = omega (arith, f .most); rest = f .rest ∙ all-next (matchesAt ch k systems codes) r h (last-is ∙ not-false b t) }
+
+    pub fitting-all : r ≤ 0 → true ≡ fitsOf ch k count systems codes
+    fitting-all h = sym (f .rest ∙ all-none (matchesAt ch k systems codes) r h)
 
 module _ (found system code expected : ℕ) where
   pub match-other : (found ≡ system → ⊥) → false ≡ both (eqb found system) (eqb code expected)
@@ -301,3 +330,12 @@ module _ (found system code expected : ℕ) where
 
   pub match-same : (x : ℕ) → found ≡ system → x ≡ expected → eqb code x ≡ both (eqb found system) (eqb code expected)
   match-same x h e = rw (eq-eqb found system h, e)
+
+-- ---- a proposed split: whether its records fit, and the answer to its cells
+
+module _ (ch : List ℕ) (k : ℕ) (mix : List ℕ) (n1 : ℕ) (p : Split) (b : Bool) (e : b ≡ fitsOf ch k (p .count) (p .systems) (p .codes)) where
+  pub split-misfit : not b ≡ true → Refused 7 0 ≡ splitBy ch k mix n1 p
+  split-misfit t = misfit ch k mix n1 p (sym e ∙ not-true b t)
+
+  pub split-fitting : (cells : List ℕ) (r : Answer) → Proposal mix ch k n1 → not b ≡ false → cells ≡ cellsOf ch k (p .amounts) → r ≡ answerOf 500000 ch k mix cells n1 → r ≡ splitBy ch k mix n1 p
+  split-fitting cells r h t q a = a ∙ fitting ch k mix n1 p cells h (sym e ∙ not-false b t) q

@@ -1,3 +1,4 @@
+-- `rating::refused` meets its contract. Assumes nothing.
 use Rattle.split.specs.declared.Answer.the-variants.{Refused}
 -- `rating::refused` meets its contract. Assumes nothing.
 use borrow.Author.Needs.{needs}

@@ -1,3 +1,4 @@
+-- `systems::choose` meets its contract. Assumes nothing.
 use Rattle.systems.proofs.Listing.{choice-is}
 use borrow.Author.Needs.{needs}
 use Rattle.systems.proofs.choose.Statement.{statement}

@@ -1,3 +1,4 @@
+-- `systems::contains` meets its contract. Assumes nothing.
 use Rattle.systems.specs.Systems.{memberOf, hasOf}
 use Rattle.systems.proofs.Packed.{contains-is}
 use borrow.Author.Needs.{needs}

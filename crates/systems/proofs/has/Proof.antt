@@ -1,3 +1,4 @@
+-- `systems::has` meets its contract. Assumes nothing.
 use Rattle.systems.proofs.Packed.{has-none, has-past, held-is}
 use Rattle.systems.specs.Systems.{memberOf, hasOf}
 use native.Mathlib.Omega.{arith}

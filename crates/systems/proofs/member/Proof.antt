@@ -1,3 +1,4 @@
+-- `systems::member` meets its contract. Assumes nothing.
 use mathlib.Core.Path.{sym}
 use native.Mathlib.Omega.{arith}
 use Rattle.systems.specs.Members.{member-none, member-few}

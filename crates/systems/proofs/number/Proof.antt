@@ -1,3 +1,4 @@
+-- `systems::number` meets its contract. Assumes nothing.
 use Rattle.systems.proofs.Packed.{candidate-is}
 use borrow.Author.Needs.{needs}
 use Rattle.systems.proofs.number.Statement.{statement}

@@ -1,3 +1,4 @@
+-- `systems::weighted` meets its contract. Assumes nothing.
 use Rattle.systems.proofs.Packed.{weighted-fits, weighted-in, weighted-out}
 use mathlib.Core.Path.{sym, _∙_}
 use native.Mathlib.Omega.{arith}

@@ -1,3 +1,4 @@
+-- `rating::records::code_of` meets its contract. Assumes nothing.
 use Rattle.rating.specs.Records.{codeOf}
 use Rattle.rating.proofs.RecordCases.{code-is}
 use borrow.Author.Needs.{needs}

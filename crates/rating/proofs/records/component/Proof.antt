@@ -1,3 +1,4 @@
+-- `rating::records::component` meets its contract. Assumes nothing.
 use native.Mathlib.Omega.{arith}
 use Rattle.systems.specs.Systems.{memberOf, hasOf}
 use Rattle.systems.specs.Members.{candidate-le}

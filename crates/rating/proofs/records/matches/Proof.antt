@@ -1,3 +1,4 @@
+-- `rating::records::matches` meets its contract. Assumes nothing.
 use mathlib.Core.Path.{ap, _∙_}
 use Rattle.split.specs.Split.{componentAt}
 use Rattle.rating.specs.Records.{codeOf}
