@@ -2,7 +2,7 @@
 use Prim.Native.Nat.{ℕ, zero, suc, _+_, _<_}
 use mathlib.Core.Path.{_≡_}
 use mathlib.Core.List.{List}
-use mathlib.Core.Bool.{Bool, true, false, cond}
+use mathlib.Core.Bool.{Bool, cond}
 use lib.ListN.{getD, length}
 use Rattle.systems.specs.Systems.{hasOf, candidates}
 use Rattle.systems.specs.Choice.{NUMBERS, weightedOf, isChosen}

@@ -1,4 +1,3 @@
--- `rating::refused` meets its contract. Assumes nothing.
 use Rattle.split.specs.declared.Answer.the-variants.{Refused}
 -- `rating::refused` meets its contract. Assumes nothing.
 use borrow.Author.Needs.{needs}

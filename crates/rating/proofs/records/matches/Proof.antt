@@ -3,7 +3,6 @@ use mathlib.Core.Path.{ap, _∙_}
 use Rattle.split.specs.Split.{componentAt}
 use Rattle.rating.specs.Records.{codeOf}
 use Rattle.rating.proofs.RecordCases.{match-other, match-same}
-use borrow.Author.Needs.{needs}
 use Rattle.rating.proofs.records.matches.Statement.{statement}
 use Rattle.rating.proofs.records.matches.Tie as tie
 
