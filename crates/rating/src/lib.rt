@@ -147,6 +147,8 @@ fn found_outcome(choice: Choice, mix: [u32; COMPONENTS], n1: u32, found: Found) 
 {
     let search = found.search;
     let cells = found.cells;
+    let count = choice.count;
+    let systems = choice.systems;
     match search {
         Search::Unbalanced => refused(11, 0),
         Search::Balanced { spread, rounds } => Outcome {
@@ -155,7 +157,7 @@ fn found_outcome(choice: Choice, mix: [u32; COMPONENTS], n1: u32, found: Found) 
                 spread,
                 rounds,
             },
-            split: split_of(choice, cells),
+            split: records::split_of(systems, count, cells),
         },
     }
 }
@@ -176,21 +178,6 @@ fn rating_of(choice: Choice, mix: [u32; COMPONENTS], cells: [u32; CELLS], n1: u3
             number: _,
             place: _,
         } => 0,
-    }
-}
-
-// The split of the cells, as records.
-fn split_of(choice: Choice, cells: [u32; CELLS]) -> Split
-    requires { ⌜ choice .count ≤ SYSTEMS ⌝ }
-    ensures { λ r. ⌜ r ≡ recordsOf (choice .systems) (choice .count) cells ⌝ }
-{
-    let count = choice.count;
-    let systems = choice.systems;
-    Split {
-        count: 3 * count,
-        systems: records::systems_of(systems, count),
-        codes: records::codes_of(systems, count),
-        amounts: records::amounts_of(systems, count, cells),
     }
 }
 

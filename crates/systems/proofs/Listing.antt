@@ -1,15 +1,18 @@
 -- The list of chosen systems as it grows in an array of 8 places.
-use Prim.Native.Nat.{ℕ, suc, _+_, _-_, _≤_, _<_}
+use Prim.Native.Nat.{ℕ, suc, _+_, _-_, _/_, _%_, _≤_, _<_}
 use mathlib.Core.Path.{_≡_, refl, sym, ap, _∙_}
 use mathlib.Core.Bool.{Bool, true, false}
 use mathlib.Core.List.{List, [], _∷_, _++_}
+use native.Mathlib.Numerals.{add-one}
 use native.Mathlib.Omega.{arith}
 use lib.ListN.{getD, set, length, drop, replicate, length-append}
 use lib.Seq.{set-at, append-snoc}
-use Rattle.systems.specs.Systems.{candidates}
-use Rattle.systems.specs.Choice.{NUMBERS, SYSTEMS, order, fold, isChosen, fitnessOf, passOf, marksOf, listOf, chosenOf, chooseOf, paddedOf, answerOf, choiceOf}
+use Rattle.systems.specs.Systems.{COMPONENTS, candidates}
+use Rattle.systems.specs.Choice.{NUMBERS, SYSTEMS, order, takeOf, marksOf, fold, isChosen, fitnessOf, listOf, chosenOf, chooseOf, paddedOf, answerOf, choiceOf}
+use Rattle.systems.specs.Keys.{Keyed}
 use Rattle.systems.specs.declared.Choice.{Choice}
 use Rattle.systems.proofs.Loops.{next, done}
+use Rattle.systems.proofs.Keying.{chosen-of-key, open-of-key, marksAfter, after-all}
 
 -- one more system at the end
 padded-set : (l : List ℕ) (s : ℕ) → length l < SYSTEMS → set (paddedOf l) (length l) s ≡ paddedOf (l ++ (s ∷ []))
@@ -64,8 +67,50 @@ module _ (marks : List Bool) where
       let e : k .sofar ≡ chosenOf candidates marks = done (listOf marks) candidates i (k .sofar) (chosenOf candidates marks) h (k .rest) in
       λ j. record { count = (k .counted ∙ ap length e) j; systems = (k .padded ∙ ap paddedOf e) j }
 
--- two passes and the list make the choice
-pub choice-is : (mix : List ℕ) (first second : List Bool) (r : Choice) → first ≡ passOf (fitnessOf mix) candidates order 1 (replicate NUMBERS false)
-    → second ≡ passOf (fitnessOf mix) candidates order 2 first → r ≡ answerOf (chosenOf candidates second) → r ≡ choiceOf mix
-unfolding chooseOf marksOf
-choice-is mix first second r p q e = e ∙ ap (λ (m : List Bool). answerOf (chosenOf candidates m)) (q ∙ ap (passOf (fitnessOf mix) candidates order 2) p)
+-- ---- from the keys
+
+abbrev pub Lists : List ℕ → ℕ → List ℕ → ℕ → Type 0
+Lists keys count systems i = (fit : ℕ → ℕ) → (marks : List Bool) → Keyed fit marks keys → Listed marks count systems i
+
+pub lists-none : (keys : List ℕ) → Lists keys 0 (replicate SYSTEMS 0) 0
+lists-none keys fit marks k = listed-none marks
+
+module _ (keys : List ℕ) (count : ℕ) (systems : List ℕ) (i : ℕ) (k : Lists keys count systems i) (h : i < length candidates) where
+  pub lists-more : (s : ℕ) → s ≡ getD candidates i 0 → getD keys i 0 ≡ 0 → Lists keys (count + 1) (set systems count s) (i + 1)
+  lists-more s e z fit marks d =
+      listed-more marks count systems i s (k fit marks d) h e (rw e (chosen-of-key fit marks (getD candidates i 0) (sym (d .at i h) ∙ z)))
+
+  pub lists-same : (getD keys i 0 ≡ 0 → ⊥) → Lists keys count systems (i + 1)
+  lists-same z fit marks d =
+      listed-same marks count systems i (getD candidates i 0) (k fit marks d) h refl (open-of-key fit marks (getD candidates i 0) (λ w. z (d .at i h ∙ w)))
+
+pub lists-all : (keys : List ℕ) (count : ℕ) (systems : List ℕ) (i : ℕ) → Lists keys count systems i → length candidates ≤ i
+    → (fit : ℕ → ℕ) → (marks : List Bool) → Keyed fit marks keys → _≡_ {A = Choice} (record { count = count; systems = systems }) (answerOf (chosenOf candidates marks))
+lists-all keys count systems i k h fit marks d = listed-all marks count systems i (k fit marks d) h
+
+-- ---- the turns of the components
+
+abbrev pub Turns : List ℕ → List ℕ → ℕ → Type 0
+Turns fresh keys i = (fit : ℕ → ℕ) → Keyed fit (replicate NUMBERS false) fresh → Keyed fit (marksAfter fit i) keys
+
+pub turns-none : (fit : ℕ → ℕ) (keys : List ℕ) → Keyed fit (replicate NUMBERS false) keys → Keyed fit (marksAfter fit 0) keys
+unfolding marksAfter
+turns-none fit keys k = k
+
+pub turns-next : (fresh keys later : List ℕ) (i c : ℕ) → Turns fresh keys i → c ≡ getD order (i % COMPONENTS) 0
+    → ((fit : ℕ → ℕ) → (marks : List Bool) → Keyed fit marks keys → Keyed fit (takeOf fit candidates (1 + i / COMPONENTS) marks c) later)
+    → Turns fresh later (i + 1)
+unfolding marksAfter
+turns-next fresh keys later i c k e t fit f = rw (add-one, ← e) (t fit (marksAfter fit i) (k fit f))
+
+pub turns-all : (fresh keys : List ℕ) (i : ℕ) → Turns fresh keys i → i ≤ 8 → 8 ≤ i
+    → (fit : ℕ → ℕ) → Keyed fit (replicate NUMBERS false) fresh → Keyed fit (marksOf fit candidates order) keys
+turns-all fresh keys i k h l fit f =
+    let e : i ≡ 8 = omega arith in
+    rw (ap (marksAfter fit) e ∙ after-all fit) at (k fit f)
+
+-- the turns and the list make the choice
+pub choice-is : (mix keys : List ℕ) (r : Choice) → Keyed (fitnessOf mix) (marksOf (fitnessOf mix) candidates order) keys
+    → ((fit : ℕ → ℕ) → (marks : List Bool) → Keyed fit marks keys → r ≡ answerOf (chosenOf candidates marks)) → r ≡ choiceOf mix
+unfolding chooseOf
+choice-is mix keys r k p = p (fitnessOf mix) (marksOf (fitnessOf mix) candidates order) k

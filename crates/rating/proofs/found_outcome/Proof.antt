@@ -1,43 +1,31 @@
 -- `rating::found_outcome` meets its contract. Assumes nothing.
 use Rattle.rating.proofs.AnswerCases.{read-back}
 use Rattle.rating.proofs.CallCases.{found-none, found-is-some}
-use mathlib.Core.Path.{sym, ap, ap₂, _∙_}
+use mathlib.Core.Path.{_∙_}
 use borrow.Author.Needs.{needs}
 use Rattle.rating.proofs.found_outcome.Statement.{statement}
 use Rattle.rating.proofs.found_outcome.Tie as tie
-use Rattle.rating.proofs.found_outcome.Reads as reads
-use Rattle.rating.proofs.found_outcome.Lts as lts
-use Rattle.rating.proofs.rating_of.Reads as rating-of-reads
-use Rattle.rating.proofs.refused.Reads as refused-reads
-use Rattle.rating.proofs.split_of.Reads as split-of-reads
 
--- src/lib.rt:138:31
 enum-told : tie.Need-enum-told
 enum-told c = search needs
 
--- src/lib.rt:138:31
 refused-requires : tie.Need-refused-requires
 refused-requires c κs = search needs
 
--- src/lib.rt:139:28
 enum-known-search : tie.Need-enum-known-search
 enum-known-search c = search needs
 
--- src/lib.rt:141:25
 rating-of-requires : tie.Need-rating-of-requires
-rating-of-requires c κs = (c .before .before .before .before .pre .0, c .before .before .before .before .pre .1 _ _ (c .before .search .given .1))
+rating-of-requires c κs = (c .before .before .before .before .before .pre .0, c .before .before .before .before .before .pre .1 _ _ (c .before .search .given .1))
 
--- src/lib.rt:145:20
 split-of-requires : tie.Need-split-of-requires
 split-of-requires c κs = search needs
 
--- src/lib.rt:131:1
 returns : tie.Need-returns
-returns c = c .refused .ensures ∙ found-none _ _ _ (c .before .before .before .before .args .found) (c .before .enum-told .given .1)
+returns c = c .refused .ensures ∙ found-none _ _ _ (c .before .before .before .before .before .args .found) (c .before .enum-told .given .1)
 
--- src/lib.rt:131:1
 returns-2 : tie.Need-returns-2
-returns-2 c = let b = c .before .before .before .before .before .before in
+returns-2 c = let b = c .before .before .before .before .before .before .before in
     found-is-some _ _ _ (b .args .found) _ _ (c .before .rating-of .result) _ _ (c .before .before .before .search .given .1)
     (read-back (c .before .rating-of .result) (c .before .rating-of .ok)) (c .before .rating-of .ensures) (c .split-of .ensures)
 

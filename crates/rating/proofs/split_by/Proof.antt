@@ -1,37 +1,25 @@
 -- `rating::split_by` meets its contract. Assumes nothing.
-use Rattle.rating.proofs.CallCases.{misfit, fitting}
-use mathlib.Core.Path.{sym, _∙_}
-use borrow.Author.Tests.{not-true, not-false}
 use borrow.Author.Needs.{needs}
+use Rattle.rating.proofs.RecordCases.{split-misfit, split-fitting}
 use Rattle.rating.proofs.split_by.Statement.{statement}
 use Rattle.rating.proofs.split_by.Tie as tie
-use Rattle.rating.proofs.split_by.Reads as reads
-use Rattle.rating.proofs.split_by.Lts as lts
-use Rattle.rating.proofs.records.cells_of.Reads as cells-of-reads
-use Rattle.rating.proofs.records.fits.Reads as fits-reads
-use Rattle.proposal.proofs.proposed.Reads as proposed-reads
 
--- src/lib.rt:123:9
 fits-requires : tie.Need-fits-requires
 fits-requires c κs = search needs
 
--- src/lib.rt:124:9
 returns : tie.Need-returns
-returns c = misfit _ _ _ _ (c .before .before .before .before .before .before .args .p) (sym (c .before .fits2 .ensures) ∙ not-true _ (c .if1 .taken))
+returns c = split-misfit _ _ _ _ (c .before .before .before .before .before .before .args .p) _ (c .before .fits2 .ensures) (c .if1 .taken)
 
--- src/lib.rt:126:9
 cells-of-requires : tie.Need-cells-of-requires
 cells-of-requires c κs = search needs
 
--- src/lib.rt:127:5
 proposed-requires : tie.Need-proposed-requires
 proposed-requires c κs = search needs
 
--- src/lib.rt:113:1
 returns-2 : tie.Need-returns-2
-returns-2 c = let s = c .before .before .before .before .before .before .before .before in
-    c .proposed .ensures
-    ∙ fitting _ _ _ _ (s .args .p) _ (s .pre .0) (sym (c .before .before .before .fits2 .ensures) ∙ not-false _ (c .before .before .if1 .left)) (c .before .cells-of .ensures)
+returns-2 c =
+    split-fitting _ _ _ _ (c .before .before .before .before .before .before .before .before .args .p) _ (c .before .before .before .fits2 .ensures) _ _
+    (c .before .before .before .before .before .before .before .before .pre .0) (c .before .before .if1 .left) (c .before .cells-of .ensures) (c .proposed .ensures)
 
 pub split-by-spec : {M : Type 1} → statement M
 split-by-spec =

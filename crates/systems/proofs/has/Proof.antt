@@ -1,30 +1,29 @@
 -- `systems::has` meets its contract. Assumes nothing.
-use mathlib.Core.Path.{sym, ap, _∙_}
-use lib.Dec.{eqb}
+use Rattle.systems.proofs.Packed.{has-none, has-past, held-is}
+use Rattle.systems.specs.Systems.{memberOf, hasOf}
+use native.Mathlib.Omega.{arith}
 use borrow.Author.Needs.{needs}
-use Rattle.systems.specs.Members.{has-first, has-second, has-third}
 use Rattle.systems.proofs.has.Statement.{statement}
 use Rattle.systems.proofs.has.Tie as tie
 
-member-requires : tie.Need-member-requires
-member-requires c κs = search needs
-
 returns : tie.Need-returns
-returns c = sym (has-first _ _ (c .if1 .taken ∙ c .before .member .ensures))
-
-member-requires-2 : tie.Need-member-requires-2
-member-requires-2 c κs = search needs
+returns c = has-none _ _ (c .if1 .taken)
 
 returns-2 : tie.Need-returns-2
-returns-2 c = sym (has-second _ _ (λ e. c .before .before .if1 .left (e ∙ sym (c .before .before .before .member .ensures))) (c .if2 .taken ∙ c .before .member2 .ensures))
+returns-2 c = has-past _ _ (omega arith) (c .if2 .taken)
 
-member-requires-3 : tie.Need-member-requires-3
-member-requires-3 c κs = search needs
+mul-result : tie.Need-mul-result
+mul-result c = search needs
+
+add-result : tie.Need-add-result
+add-result c = search needs
+
+shr-result : tie.Need-shr-result
+shr-result c = search needs
 
 returns-3 : tie.Need-returns-3
-returns-3 c = ap (eqb _) (c .member3 .ensures) ∙ sym (has-third _ _ (λ e. c .before .before .before .if1 .left (e ∙ sym (c .before .before .before .before .member .ensures))) (λ e. c .before .if2 .left (e ∙ sym (c .before .before .member2 .ensures))))
+unfolding hasOf memberOf
+returns-3 c = held-is _ tt (c .before .before .args .system) (c .before .before .args .c) (omega arith) (c .if2 .left)
 
 pub has-spec : {M : Type 1} → statement M
-has-spec =
-    tie.close
-    (tie.spec member-requires returns member-requires-2 returns-2 member-requires-3 returns-3)
+has-spec = tie.close (tie.spec returns returns-2 mul-result add-result shr-result returns-3)

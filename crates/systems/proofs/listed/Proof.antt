@@ -1,35 +1,37 @@
 -- `systems::listed` meets its contract. Assumes nothing.
-use Prim.Native.Nat.{_-_}
+use Prim.Native.Nat.{_-_, _≤_}
 use mathlib.Core.Logic.{⊎-elim}
-use mathlib.Core.Path.{sym, _∙_}
 use native.Mathlib.Omega.{arith}
-use lib.ListN.{length}
 use borrow.Author.Needs.{needs}
+use lib.ListN.{length}
 use Rattle.systems.specs.Systems.{candidates}
-use Rattle.systems.proofs.Listing.{Listed, listed-none, listed-more, listed-same, listed-all}
+use Rattle.systems.proofs.Listing.{Lists, lists-none, lists-more, lists-same, lists-all}
 use Rattle.systems.proofs.listed.Statement.{statement}
 use Rattle.systems.proofs.listed.Tie as tie
 
 abbrev Inv-loop : tie.InvT-loop
-Inv-loop marks count₀ systems₀ i₀ count systems i = Listed marks count systems i
+Inv-loop keys count₀ systems₀ i₀ count systems i = (count ≤ i) × (i ≤ length candidates) × Lists keys count systems i
 
 abbrev μ-loop : tie.MeasureT-loop
-μ-loop marks count₀ systems₀ i₀ count systems i = length candidates - i
+μ-loop keys count₀ systems₀ i₀ count systems i = length candidates - i
 
 loop-holds : tie.Need-loop-holds Inv-loop μ-loop
-loop-holds c = listed-none _
+loop-holds c = (omega arith, omega arith, lists-none _)
 
-candidate-requires : tie.Need-candidate-requires Inv-loop μ-loop
-candidate-requires c κs = search needs
+mul-if1 : tie.Need-mul-if1 Inv-loop μ-loop
+mul-if1 c = search needs
 
-is-chosen-requires : tie.Need-is-chosen-requires Inv-loop μ-loop
-is-chosen-requires c κs = c .candidate .ensures .1
+array-read-if1 : tie.Need-array-read-if1 Inv-loop μ-loop
+array-read-if1 c = search needs
+
+number-requires : tie.Need-number-requires Inv-loop μ-loop
+number-requires c κs = search needs
 
 array-write-systems : tie.Need-array-write-systems Inv-loop μ-loop
-array-write-systems c = omega (arith, c .before .before .before .before .loop .inv .counted, c .before .before .before .before .loop .inv .few)
+array-write-systems c = search needs
 
 add-count : tie.Need-add-count Inv-loop μ-loop
-add-count c = omega (arith, c .before .before .before .before .loop .inv .counted, c .before .before .before .before .loop .inv .few)
+add-count c = search needs
 
 add-i : tie.Need-add-i Inv-loop μ-loop
 add-i c = search needs
@@ -38,10 +40,14 @@ loop-less : tie.Need-loop-less Inv-loop μ-loop
 loop-less c = search needs
 
 loop-again : tie.Need-loop-again Inv-loop μ-loop
-loop-again c = ⊎-elim (λ w. rw (w .1, w .2) (listed-more _ _ _ _ (c .before .before .candidate .result) (c .before .before .before .before .loop .inv) (c .before .before .before .loop-test .taken) (c .before .before .candidate .ensures .0) (sym (c .before .is-chosen .ensures) ∙ w .0 .taken))) (λ w. rw (w .1, w .2) (listed-same _ _ _ _ (c .before .before .candidate .result) (c .before .before .before .before .loop .inv) (c .before .before .before .loop-test .taken) (c .before .before .candidate .ensures .0) (sym (c .before .is-chosen .ensures) ∙ w .0 .left))) (c .if1 .came)
+loop-again c =
+    ⊎-elim
+    (λ w. (omega (arith, w .2), omega arith, rw (w .2, w .3) (lists-more _ _ _ _ (c .before .before .loop .inv .2) (c .before .loop-test .taken) _ (w .1 .ensures) (w .0 .taken))))
+    (λ w. (omega (arith, w .1), omega arith, rw (w .1, w .2) (lists-same _ _ _ _ (c .before .before .loop .inv .2) (c .before .loop-test .taken) (w .0 .left))))
+    (c .if1 .came)
 
 returns : tie.Need-returns Inv-loop μ-loop
-returns c = listed-all _ _ _ _ (c .before .loop .inv) (c .loop-test .left)
+returns c = lists-all _ _ _ _ (c .before .loop .inv .2) (c .loop-test .left)
 
 pub listed-spec : {M : Type 1} → statement M
 listed-spec =
@@ -50,8 +56,9 @@ listed-spec =
     Inv-loop
     μ-loop
     loop-holds
-    candidate-requires
-    is-chosen-requires
+    mul-if1
+    array-read-if1
+    number-requires
     array-write-systems
     add-count
     add-i

@@ -1,28 +1,78 @@
 -- `systems::take` meets its contract. Assumes nothing.
+use Prim.Native.Nat.{_-_}
+use mathlib.Core.Path.{sym, _∙_}
+use mathlib.Core.Logic.{⊎-elim}
 use borrow.Author.Needs.{needs}
-use Rattle.systems.proofs.Cases.{take-one, take-none}
+use lib.ListN.{length}
+use Rattle.systems.specs.Systems.{candidates}
+use Rattle.systems.proofs.Keying.{Tally, tally-none, tally-chosen, tally-more, tally-less, tally-lacks, take-one, take-none}
 use Rattle.systems.proofs.take.Statement.{statement}
 use Rattle.systems.proofs.take.Tie as tie
 
-containing-requires : tie.Need-containing-requires
-containing-requires c κs = search needs
+abbrev Inv-loop : tie.InvT-loop
+Inv-loop keys wanted c count₀ best₀ at₀ i₀ count best at i = Tally keys c i count best at
 
-fittest-requires : tie.Need-fittest-requires
-fittest-requires c κs = search needs
+abbrev μ-loop : tie.MeasureT-loop
+μ-loop keys wanted c count₀ best₀ at₀ i₀ count best at i = length candidates - i
 
-cast-s : tie.Need-cast-s
-cast-s c = search needs
+loop-holds : tie.Need-loop-holds Inv-loop μ-loop
+loop-holds c = tally-none _ _ (c .pre)
 
-element-write-marks : tie.Need-element-write-marks
-element-write-marks c = search needs
+contains-requires : tie.Need-contains-requires Inv-loop μ-loop
+contains-requires c κs = search needs
 
-returns : tie.Need-returns
-returns c = take-one _ _ _ _ _ _ (c .before .before .before .containing .ensures) _ (c .before .before .if1 .taken) (c .fittest .ensures .0)
+mul-key : tie.Need-mul-key Inv-loop μ-loop
+mul-key c = search needs
 
-returns-2 : tie.Need-returns-2
-returns-2 c = take-none _ _ _ _ _ _ (c .before .containing .ensures) (c .if1 .left)
+element-copy-out-key : tie.Need-element-copy-out-key Inv-loop μ-loop
+element-copy-out-key c = search needs
+
+add-count : tie.Need-add-count Inv-loop μ-loop
+add-count c = search needs
+
+add-i : tie.Need-add-i Inv-loop μ-loop
+add-i c = search needs
+
+loop-less : tie.Need-loop-less Inv-loop μ-loop
+loop-less c = search needs
+
+loop-again : tie.Need-loop-again Inv-loop μ-loop
+loop-again c = ⊎-elim
+    (λ w. tally-chosen _ _ _ _ _ _ (c .before .before .before .loop .inv) (c .before .before .loop-test .taken) _ _ _ (sym (c .before .contains .ensures) ∙ w .0 .taken) (w .2 .taken) (w .3) (w .4) (w .5))
+    (⊎-elim
+    (λ w. tally-more _ _ _ _ _ _ (c .before .before .before .loop .inv) (c .before .before .loop-test .taken) _ _ _ (sym (c .before .contains .ensures) ∙ w .0 .taken) (w .2 .left) (w .4) (w .3 .taken) (w .5) (w .6))
+    (⊎-elim
+    (λ w. tally-less _ _ _ _ _ _ (c .before .before .before .loop .inv) (c .before .before .loop-test .taken) _ _ _ (sym (c .before .contains .ensures) ∙ w .0 .taken) (w .2 .left) (w .4) (w .3 .left) (w .5) (w .6))
+    (λ w. tally-lacks _ _ _ _ _ _ (c .before .before .before .loop .inv) (c .before .before .loop-test .taken) _ _ _ (sym (c .before .contains .ensures) ∙ w .0 .left) (w .1) (w .2) (w .3))))
+    (c .if1 .came)
+
+mul-keys : tie.Need-mul-keys Inv-loop μ-loop
+mul-keys c = search needs
+
+element-write-keys : tie.Need-element-write-keys Inv-loop μ-loop
+element-write-keys c = search needs
+
+returns : tie.Need-returns Inv-loop μ-loop
+returns c fit marks d = take-one _ _ _ _ _ _ (c .before .before .loop .inv) (c .before .loop-test .left) _ fit marks d (c .if4 .taken)
+
+returns-2 : tie.Need-returns-2 Inv-loop μ-loop
+returns-2 c fit marks d = take-none _ _ _ _ _ _ (c .before .before .loop .inv) (c .before .loop-test .left) _ fit marks d (c .if4 .left)
 
 pub take-spec : {M : Type 1} → statement M
 take-spec =
     tie.close
-    (tie.spec containing-requires fittest-requires cast-s element-write-marks returns returns-2)
+    (tie.spec
+    Inv-loop
+    μ-loop
+    loop-holds
+    contains-requires
+    mul-key
+    element-copy-out-key
+    add-count
+    add-i
+    loop-less
+    loop-again
+    mul-keys
+    element-write-keys
+    returns
+    returns-2)

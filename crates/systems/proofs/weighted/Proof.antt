@@ -1,47 +1,29 @@
 -- `systems::weighted` meets its contract. Assumes nothing.
-use Prim.Native.Nat.{ℕ, _*_}
-use mathlib.Core.Path.{sym, ap}
+use Rattle.systems.proofs.Packed.{weighted-fits, weighted-in, weighted-out}
+use mathlib.Core.Path.{sym, _∙_}
 use native.Mathlib.Omega.{arith}
-use lib.ListN.{getD}
 use borrow.Author.Needs.{needs}
-use Rattle.systems.specs.Choice.{weights}
-use Rattle.systems.proofs.Weights.{weighted-le, weighted-none}
 use Rattle.systems.proofs.weighted.Statement.{statement}
 use Rattle.systems.proofs.weighted.Tie as tie
+
+contains-requires : tie.Need-contains-requires
+contains-requires c κs = search needs
 
 mul-result : tie.Need-mul-result
 mul-result c = search needs
 
-array-read-result : tie.Need-array-read-result
-array-read-result c = search needs
-
-mul-wide : tie.Need-mul-wide
-mul-wide c = search needs
-
-element-copy-out-wide : tie.Need-element-copy-out-wide
-element-copy-out-wide c = search needs
-
-wide-requires : tie.Need-wide-requires
-wide-requires c κs = search needs
+shr-result : tie.Need-shr-result
+shr-result c = search needs
 
 mul-result-2 : tie.Need-mul-result-2
-mul-result-2 c = record { fits = omega (arith, weighted-le (c .before .before .before .args .c) (c .wide .result) (omega arith) (c .wide .ensures .1)) }
+mul-result-2 c = record { fits = weighted-fits _ tt (c .before .before .args .c) (c .before .before .args .x) (c .before .before .pre .1) (omega arith) }
 
 returns : tie.Need-returns
-returns c = (ap (λ (x : ℕ). getD weights (c .before .before .before .args .c) 0 * x) (c .wide .ensures .0), weighted-le (c .before .before .before .args .c) (c .wide .result) (omega arith) (c .wide .ensures .1))
+returns c = weighted-in _ tt _ (c .before .before .args .c) (c .before .before .args .x) (c .before .before .pre .1) (omega arith) (sym (c .before .contains .ensures) ∙ c .if1 .taken)
 
 returns-2 : tie.Need-returns-2
-returns-2 c = (sym (weighted-none (c .before .args .m .now) (c .before .args .c) (c .if1 .left)), omega arith)
+returns-2 c = weighted-out _ _ (sym (c .before .contains .ensures) ∙ c .if1 .left)
 
 pub weighted-spec : {M : Type 1} → statement M
 weighted-spec =
-    tie.close
-    (tie.spec
-    mul-result
-    array-read-result
-    mul-wide
-    element-copy-out-wide
-    wide-requires
-    mul-result-2
-    returns
-    returns-2)
+    tie.close (tie.spec contains-requires mul-result shr-result mul-result-2 returns returns-2)

@@ -1,55 +1,58 @@
 -- `rating::records::cells_of` meets its contract. Assumes nothing.
+use Prim.Native.Nat.{_*_, _-_}
 use native.Mathlib.Omega.{arith}
-use mathlib.Core.Path.{_≡_, refl, sym, ap, ap₂, _∙_}
-use Prim.Native.Nat.{ℕ, _+_, _*_, _-_, _/_, _%_, _≤_, _<_}
 use borrow.Author.Needs.{needs}
-use Rattle.split.specs.Split.{CELLS, amountsOf, cellsOf}
-use Rattle.split.specs.Tables.{Filled, fill-next, fill-all}
-use Rattle.rating.specs.Records.{cellAt, systemsOf, codesOf}
+use Rattle.rating.proofs.RecordCases.{Celled, celled-none, celled-next, celled-all, cell-low}
 use Rattle.rating.proofs.records.cells_of.Statement.{statement}
 use Rattle.rating.proofs.records.cells_of.Tie as tie
-use Rattle.rating.proofs.records.cells_of.Reads as reads
-use Rattle.rating.proofs.records.cells_of.Lts as lts
-use Rattle.rating.proofs.records.cell_at.Reads as cell-at-reads
 
 abbrev Inv-loop : tie.InvT-loop
-Inv-loop systems count amounts out₀ i₀ out i = Filled CELLS (cellAt systems count amounts) out i
+Inv-loop count systems amounts out₀ last r₀ out r = Celled systems count amounts out r
 
 abbrev μ-loop : tie.MeasureT-loop
-μ-loop systems count amounts out₀ i₀ out i = CELLS - i
+μ-loop count systems amounts out₀ last r₀ out r = 3 * count - r
 
--- src/records.rt:201:5
+mul-last : tie.Need-mul-last Inv-loop μ-loop
+mul-last c = omega (arith, c .pre .1)
+
 loop-holds : tie.Need-loop-holds Inv-loop μ-loop
-loop-holds c = (refl, omega arith, λ k h. absurd (omega arith))
+loop-holds c = celled-none _ _ _ (c .pre .0)
 
--- src/records.rt:202:18
-cell-at-requires : tie.Need-cell-at-requires Inv-loop μ-loop
-cell-at-requires c κs = search needs
+array-read-component : tie.Need-array-read-component Inv-loop μ-loop
+array-read-component c = search needs
 
--- src/records.rt:202:9
+component-requires : tie.Need-component-requires Inv-loop μ-loop
+component-requires c κs = (c .before .before .pre .0 .known _ (omega arith), omega arith)
+
 mul-out : tie.Need-mul-out Inv-loop μ-loop
 mul-out c = search needs
 
--- src/records.rt:202:9
+array-read-out : tie.Need-array-read-out Inv-loop μ-loop
+array-read-out c = search needs
+
+mul-out-2 : tie.Need-mul-out-2 Inv-loop μ-loop
+mul-out-2 c = search needs
+
+add-out : tie.Need-add-out Inv-loop μ-loop
+add-out c = search needs
+
+mul-out-3 : tie.Need-mul-out-3 Inv-loop μ-loop
+mul-out-3 c = search needs
+
 array-write-out : tie.Need-array-write-out Inv-loop μ-loop
-array-write-out c = search needs
+array-write-out c = cell-low _ _ _ (c .before .before .before .pre .0) _ _ _ (c .before .before .loop .inv) (c .before .loop-test .taken) (c .component .ensures .0)
 
--- src/records.rt:203:9
-add-i : tie.Need-add-i Inv-loop μ-loop
-add-i c = search needs
+add-r : tie.Need-add-r Inv-loop μ-loop
+add-r c = search needs
 
--- src/records.rt:201:5
 loop-less : tie.Need-loop-less Inv-loop μ-loop
 loop-less c = search needs
 
--- src/records.rt:201:5
 loop-again : tie.Need-loop-again Inv-loop μ-loop
-loop-again c = fill-next CELLS _ (c .before .before .loop .out) (c .before .before .loop .i) _ (c .before .loop-test .taken) (c .before .before .loop .inv) (c .cell-at .ensures)
+loop-again c = celled-next _ _ _ (c .before .before .before .pre .0) _ _ _ (c .before .before .loop .inv) (c .before .loop-test .taken) (c .component .ensures .0)
 
--- src/records.rt:191:1
 returns : tie.Need-returns Inv-loop μ-loop
-unfolding cellsOf
-returns c = fill-all CELLS _ _ _ (c .loop-test .left) (c .before .loop .inv)
+returns c = celled-all _ _ _ (c .before .before .pre .0) _ _ (c .before .loop .inv) (c .loop-test .left)
 
 pub cells-of-spec : {M : Type 1} → statement M
 cells-of-spec =
@@ -57,11 +60,17 @@ cells-of-spec =
     (tie.spec
     Inv-loop
     μ-loop
+    mul-last
     loop-holds
-    cell-at-requires
+    array-read-component
+    component-requires
     mul-out
+    array-read-out
+    mul-out-2
+    add-out
+    mul-out-3
     array-write-out
-    add-i
+    add-r
     loop-less
     loop-again
     returns)

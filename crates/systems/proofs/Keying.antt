@@ -1,0 +1,253 @@
+-- What the keys of the candidates tell: which are chosen, which scores most, and what a component takes.
+use Prim.Native.Nat.{ℕ, zero, suc, _+_, _/_, _%_, _≤_, _<_}
+use mathlib.Core.Path.{_≡_, refl, sym, ap, _∙_}
+use mathlib.Core.Bool.{Bool, true, false, not, cond, _&&_}
+use mathlib.Core.List.{List, [], _∷_}
+use native.Mathlib.Omega.{arith}
+use native.Mathlib.Nat.{add-zero}
+use native.Mathlib.Numerals.{add-one}
+use lib.Dec.{eqb}
+use lib.ListN.{getD, set, length, drop, replicate, length-set, getD-replicate}
+use lib.Seq.{getD-set-same, getD-set-other}
+use borrow.Author.Tests.{lt-ltb, le-ltb, eqb-true, eqb-false, not-true}
+use Rattle.systems.specs.Systems.{COMPONENTS, memberOf, hasOf, candidates}
+use Rattle.systems.specs.Choice.{NUMBERS, order, fold, weightedOf, fitnessOf, isChosen, oneIf, countOf, containingOf, scoreOf, betterOf, fittestOf, takeOf, passOf, marksOf}
+use Rattle.systems.specs.Table.{to-true, eachTo}
+use Rattle.systems.specs.Scores.{better-next, better-before}
+use Rattle.systems.specs.Keys.{KEYS, weighedTo, keyOf, Keyed}
+use Rattle.systems.proofs.Loops.{next, done}
+use Rattle.systems.proofs.Packed.{candidate-lt, candidates-apart}
+
+-- ---- the fitness of a candidate
+
+pub weighed-next : (mix : List ℕ) (system c k x : ℕ) → k ≡ weighedTo mix system c + 1 → x ≡ cond (hasOf system c) (weightedOf mix c) 0 → k + x ≡ weighedTo mix system (c + 1) + 1
+unfolding weighedTo
+weighed-next mix system c k x e w = rw (add-one c) (omega (arith, e, w))
+
+-- what holds at each of a list's numbers
+unfoldable Every : (ℕ → Type 0) → List ℕ → Type 0
+Every P [] = 0 ≤ 0
+Every P (x ∷ xs) = P x × Every P xs
+
+every-at : (P : ℕ → Type 0) (xs : List ℕ) → Every P xs → (i : ℕ) → i < length xs → P (getD xs i 0)
+unfolding Every
+every-at P [] e i h = absurd (omega arith)
+every-at P (x ∷ xs) e zero h = e .0
+every-at P (x ∷ xs) e (suc i) h = every-at P xs (e .1) i (omega arith)
+
+-- the components that a candidate contains are its members
+pub fitness-is : (mix : List ℕ) (i : ℕ) → i < length candidates → weighedTo mix (getD candidates i 0) COMPONENTS ≡ fitnessOf mix (getD candidates i 0)
+unfolding Every weighedTo fitnessOf hasOf memberOf
+fitness-is mix = every-at (λ s. weighedTo mix s COMPONENTS ≡ fitnessOf mix s) candidates (omega arith, (omega arith, (omega arith, (omega arith, omega arith))))
+
+-- ---- a key and the marks
+
+module _ (fit : ℕ → ℕ) (marks : List Bool) (s : ℕ) where
+  key-chosen : isChosen marks s ≡ true → keyOf fit marks s ≡ 0
+  unfolding keyOf
+  key-chosen e = rw e
+
+  key-open : isChosen marks s ≡ false → keyOf fit marks s ≡ fit s + 1
+  unfolding keyOf
+  key-open e = rw e
+
+  by-mark : (P : Type 0) → (isChosen marks s ≡ true → keyOf fit marks s ≡ 0 → P) → (isChosen marks s ≡ false → keyOf fit marks s ≡ fit s + 1 → P) → P
+  by-mark P f g = go (isChosen marks s) refl
+    where
+      go : (b : Bool) → isChosen marks s ≡ b → P
+      go true e = f e (key-chosen e)
+      go false e = g e (key-open e)
+
+  -- a key of 0 is that of a chosen system
+  pub chosen-of-key : keyOf fit marks s ≡ 0 → isChosen marks s ≡ true
+  chosen-of-key z = by-mark (isChosen marks s ≡ true) (λ e k. e) (λ e k. absurd (omega arith))
+
+  pub open-of-key : (keyOf fit marks s ≡ 0 → ⊥) → isChosen marks s ≡ false
+  open-of-key z = by-mark (isChosen marks s ≡ false) (λ e k. absurd (z k)) (λ e k. e)
+
+  -- the key of a system that contains c is its score
+  score-key : (c : ℕ) → hasOf s c ≡ true → keyOf fit marks s ≡ scoreOf fit marks c s
+  unfolding scoreOf
+  score-key c h = by-mark (keyOf fit marks s ≡ scoreOf fit marks c s) (λ e k. k ∙ rw (h, e, scoreOf)) (λ e k. k ∙ rw (h, e, scoreOf))
+
+  score-lacks : (c : ℕ) → hasOf s c ≡ false → scoreOf fit marks c s ≡ 0
+  unfolding scoreOf
+  score-lacks c h = rw (h, scoreOf)
+
+-- ---- the keys before a system is chosen
+
+-- the keys of the candidates in the first i places
+pub record Fresh (mix : List ℕ) (keys : List ℕ) (i : ℕ) : Type 0 where
+  pub most : i ≤ length candidates
+  pub long : length keys ≡ KEYS
+  pub at : (j : ℕ) → j < i → getD keys j 0 ≡ fitnessOf mix (getD candidates j 0) + 1
+
+pub fresh-none : (mix : List ℕ) → Fresh mix (replicate KEYS 0) 0
+fresh-none mix = record { most = omega arith; long = refl; at = λ j h. absurd (omega arith) }
+
+pub fresh-next : (mix keys : List ℕ) (i k : ℕ) → Fresh mix keys i → i < length candidates → k ≡ weighedTo mix (getD candidates i 0) COMPONENTS + 1 → Fresh mix (set keys i k) (i + 1)
+fresh-next mix keys i k f h e = record { most = omega arith; long = length-set keys i k ∙ f .long; at = λ j l. go j l (eqb j i) refl }
+  where
+    go : (j : ℕ) → j < i + 1 → (b : Bool) → eqb j i ≡ b → getD (set keys i k) j 0 ≡ fitnessOf mix (getD candidates j 0) + 1
+    go j l true q =
+        rw (eqb-true j i q) (getD-set-same keys i k 0 (omega (arith, f .long)) ∙ e ∙ ap (λ (n : ℕ). n + 1) (fitness-is mix i h))
+    go j l false q =
+        let d : j ≡ i → ⊥ = eqb-false j i q in
+        rw (getD-set-other keys i j k 0 d) (f .at j (omega arith))
+
+pub fresh-all : (mix keys : List ℕ) (i : ℕ) → Fresh mix keys i → length candidates ≤ i → Keyed (fitnessOf mix) (replicate NUMBERS false) keys
+fresh-all mix keys i k h =
+    record {
+      marked = refl;
+      long = k .long;
+      at = λ j l. k .at j (omega arith)
+          ∙ sym (key-open (fitnessOf mix) (replicate NUMBERS false) (getD candidates j 0) (getD-replicate NUMBERS (getD candidates j 0) false false (candidate-lt j (omega arith))));
+    }
+
+-- ---- how many chosen systems contain c, and the fittest that is not chosen
+
+-- number 0 contains no component
+missing : ℕ → Bool
+missing c = not (hasOf 0 c)
+
+lacks : (c : ℕ) → c < COMPONENTS → hasOf 0 c ≡ false
+unfolding missing hasOf memberOf
+lacks c h = not-true (hasOf 0 c) (to-true (missing c) (eachTo missing COMPONENTS tt c h))
+
+-- the count and the best of the candidates from place i on come to those of all, from the count and the best so far
+pub record Told (fit : ℕ → ℕ) (marks : List Bool) (c i count best system : ℕ) : Type 0 where
+  pub counted : fold (countOf marks c) (drop i candidates) count ≡ containingOf candidates marks c
+  pub scored : best ≡ scoreOf fit marks c system
+  pub rest : fold (betterOf fit marks c) (drop i candidates) system ≡ fittestOf fit candidates marks c
+
+pub record Tally (keys : List ℕ) (c i count best at : ℕ) : Type 0 where
+  pub most : i ≤ length candidates
+  pub few : count ≤ i
+  pub place : at ≤ length candidates
+  pub told : (fit : ℕ → ℕ) → (marks : List Bool) → Keyed fit marks keys → Told fit marks c i count best (getD candidates at 0)
+
+pub tally-none : (keys : List ℕ) (c : ℕ) → c < COMPONENTS → Tally keys c 0 0 0 (length candidates)
+unfolding containingOf fittestOf
+tally-none keys c h =
+    record {
+      most = omega arith;
+      few = omega arith;
+      place = omega arith;
+      told = λ fit marks k. record { counted = refl; scored = sym (score-lacks fit marks 0 c (lacks c h)); rest = refl };
+    }
+
+module _ (keys : List ℕ) (c i count best at : ℕ) (k : Tally keys c i count best at) (h : i < length candidates) where
+  abbrev next-is : ℕ → ℕ → ℕ → (ℕ → ℕ) → List Bool → Type 0
+  next-is count′ best′ at′ fit marks =
+      (count′ ≡ countOf marks c count (getD candidates i 0)) × (best′ ≡ scoreOf fit marks c (getD candidates at′ 0))
+      × (getD candidates at′ 0 ≡ betterOf fit marks c (getD candidates at 0) (getD candidates i 0))
+
+  tally-next : (count′ best′ at′ : ℕ) → count′ ≤ i + 1 → at′ ≤ length candidates
+      → ((fit : ℕ → ℕ) → (marks : List Bool) → getD keys i 0 ≡ keyOf fit marks (getD candidates i 0) → best ≡ scoreOf fit marks c (getD candidates at 0) → next-is count′ best′ at′ fit marks)
+      → Tally keys c (i + 1) count′ best′ at′
+  tally-next count′ best′ at′ few place f =
+      record {
+        most = omega arith;
+        few = few;
+        place = place;
+        told = λ fit marks d.
+            let t = k .told fit marks d in
+            let r = f fit marks (d .at i h) (t .scored) in
+            record {
+              counted = next (countOf marks c) candidates i (getD candidates i 0) count count′ (containingOf candidates marks c) h refl (r .0) (t .counted);
+              scored = r .1;
+              rest = next (betterOf fit marks c) candidates i (getD candidates i 0) (getD candidates at 0) (getD candidates at′ 0) (fittestOf fit candidates marks c) h refl (r .2) (t .rest);
+            };
+      }
+
+  module _ (count′ best′ at′ : ℕ) where
+    -- the best stays, where the next scores no more
+    stays : (fit : ℕ → ℕ) (marks : List Bool) → best ≡ scoreOf fit marks c (getD candidates at 0) → scoreOf fit marks c (getD candidates i 0) ≤ best → best′ ≡ best → at′ ≡ at
+        → (best′ ≡ scoreOf fit marks c (getD candidates at′ 0)) × (getD candidates at′ 0 ≡ betterOf fit marks c (getD candidates at 0) (getD candidates i 0))
+    stays fit marks b l q r =
+        let e = ap (λ (x : ℕ). getD candidates x 0) r in
+        (q ∙ b ∙ ap (scoreOf fit marks c) (sym e), e ∙ sym (better-before fit marks c (getD candidates at 0) (getD candidates i 0) (omega arith)))
+
+    pub tally-chosen : hasOf (getD candidates i 0) c ≡ true → getD keys i 0 ≡ 0 → count′ ≡ count + 1 → best′ ≡ best → at′ ≡ at → Tally keys c (i + 1) count′ best′ at′
+    tally-chosen t z p q r =
+        tally-next count′ best′ at′ (omega (arith, k .few)) (omega (arith, k .place))
+        (λ fit marks a b.
+        let s : keyOf fit marks (getD candidates i 0) ≡ scoreOf fit marks c (getD candidates i 0) = score-key fit marks (getD candidates i 0) c t in
+        let s′ = stays fit marks b (omega arith) q r in
+        (p ∙ rw (chosen-of-key fit marks (getD candidates i 0) (sym a ∙ z), t), s′ .0, s′ .1))
+
+    pub tally-lacks : hasOf (getD candidates i 0) c ≡ false → count′ ≡ count → best′ ≡ best → at′ ≡ at → Tally keys c (i + 1) count′ best′ at′
+    tally-lacks t p q r =
+        tally-next count′ best′ at′ (omega (arith, k .few)) (omega (arith, k .place))
+        (λ fit marks a b.
+        let s = score-lacks fit marks (getD candidates i 0) c t in
+        let s′ = stays fit marks b (omega arith) q r in
+        (p ∙ none (isChosen marks (getD candidates i 0)), s′ .0, s′ .1))
+      where
+        none : (b : Bool) → count ≡ count + oneIf (b && hasOf (getD candidates i 0) c)
+        none true = rw t (sym (add-zero count))
+        none false = sym (add-zero count)
+
+    module _ (t : hasOf (getD candidates i 0) c ≡ true) (z : getD keys i 0 ≡ 0 → ⊥) (p : count′ ≡ count) where
+      open-one : (fit : ℕ → ℕ) (marks : List Bool) → getD keys i 0 ≡ keyOf fit marks (getD candidates i 0) → count′ ≡ countOf marks c count (getD candidates i 0)
+      open-one fit marks a = p ∙ rw (open-of-key fit marks (getD candidates i 0) (λ w. z (a ∙ w))) (sym (add-zero count))
+
+      pub tally-less : getD keys i 0 ≤ best → best′ ≡ best → at′ ≡ at → Tally keys c (i + 1) count′ best′ at′
+      tally-less l q r =
+          tally-next count′ best′ at′ (omega (arith, k .few)) (omega (arith, k .place))
+          (λ fit marks a b.
+          let s = score-key fit marks (getD candidates i 0) c t in
+          let s′ = stays fit marks b (omega arith) q r in
+          (open-one fit marks a, s′ .0, s′ .1))
+
+      pub tally-more : best < getD keys i 0 → best′ ≡ getD keys i 0 → at′ ≡ i → Tally keys c (i + 1) count′ best′ at′
+      tally-more l q r =
+          tally-next count′ best′ at′ (omega (arith, k .few)) (omega arith)
+          (λ fit marks a b.
+          let e = ap (λ (x : ℕ). getD candidates x 0) r in
+          let s : getD keys i 0 ≡ scoreOf fit marks c (getD candidates i 0) = a ∙ score-key fit marks (getD candidates i 0) c t in
+          (open-one fit marks a, q ∙ s ∙ ap (scoreOf fit marks c) (sym e), e ∙ sym (better-next fit marks c (getD candidates at 0) (getD candidates i 0) (omega arith))))
+
+-- ---- what a component takes
+
+keyed-set : (fit : ℕ → ℕ) (marks : List Bool) (keys : List ℕ) (at : ℕ) → Keyed fit marks keys → at ≤ length candidates → Keyed fit (set marks (getD candidates at 0) true) (set keys at 0)
+unfolding keyOf
+keyed-set fit marks keys at k l =
+    record {
+      marked = length-set marks (getD candidates at 0) true ∙ k .marked;
+      long = length-set keys at 0 ∙ k .long;
+      at = λ i h. go i h (eqb i at) refl;
+    }
+  where
+    go : (i : ℕ) → i < length candidates → (b : Bool) → eqb i at ≡ b → getD (set keys at 0) i 0 ≡ keyOf fit (set marks (getD candidates at 0) true) (getD candidates i 0)
+    go i h true p =
+        rw (eqb-true i at p, getD-set-same keys at 0 0 (omega (arith, k .long)), getD-set-same marks (getD candidates at 0) true false (omega (arith, k .marked, candidate-lt at l)))
+    go i h false p =
+        let d : i ≡ at → ⊥ = eqb-false i at p in
+        let e = candidates-apart i at (omega arith) l d in
+        rw (getD-set-other keys at i 0 0 d, getD-set-other marks (getD candidates at 0) (getD candidates i 0) true false e) (k .at i h)
+
+module _ (keys : List ℕ) (c i count best at : ℕ) (k : Tally keys c i count best at) (h : length candidates ≤ i) (wanted : ℕ) (fit : ℕ → ℕ) (marks : List Bool) (d : Keyed fit marks keys) where
+  count-is : count ≡ containingOf candidates marks c
+  count-is = done (countOf marks c) candidates i count (containingOf candidates marks c) h (k .told fit marks d .counted)
+
+  pub take-none : wanted ≤ count → Keyed fit (takeOf fit candidates wanted marks c) keys
+  unfolding takeOf
+  take-none l = rw (le-ltb (containingOf candidates marks c) wanted (rw (← count-is) l), takeOf) d
+
+  pub take-one : count < wanted → Keyed fit (takeOf fit candidates wanted marks c) (set keys at 0)
+  unfolding takeOf
+  take-one l =
+      let f : getD candidates at 0 ≡ fittestOf fit candidates marks c = done (betterOf fit marks c) candidates i (getD candidates at 0) (fittestOf fit candidates marks c) h (k .told fit marks d .rest) in
+      rw (lt-ltb (containingOf candidates marks c) wanted (rw (← count-is) l), ← f, takeOf) (keyed-set fit marks keys at d (k .place))
+
+-- ---- each component in turn, and again
+
+-- the marks after i turns
+unfoldable pub marksAfter : (ℕ → ℕ) → ℕ → List Bool
+marksAfter fit zero = replicate NUMBERS false
+marksAfter fit (suc i) = takeOf fit candidates (1 + i / COMPONENTS) (marksAfter fit i) (getD order (i % COMPONENTS) 0)
+
+pub after-all : (fit : ℕ → ℕ) → marksAfter fit 8 ≡ marksOf fit candidates order
+unfolding marksAfter marksOf passOf fold
+after-all fit = refl

@@ -1,0 +1,27 @@
+-- The keys of the candidates, which tell the fittest and the chosen systems without marks. Assumes nothing.
+use Prim.Native.Nat.{ℕ, zero, suc, _+_, _<_}
+use mathlib.Core.Path.{_≡_}
+use mathlib.Core.List.{List}
+use mathlib.Core.Bool.{Bool, cond}
+use lib.ListN.{getD, length}
+use Rattle.systems.specs.Systems.{hasOf, candidates}
+use Rattle.systems.specs.Choice.{NUMBERS, weightedOf, isChosen}
+
+-- the weighted parts of the components below c that a system contains
+unfoldable pub weighedTo : List ℕ → ℕ → ℕ → ℕ
+weighedTo mix system zero = 0
+weighedTo mix system (suc c) = weighedTo mix system c + cond (hasOf system c) (weightedOf mix c) 0
+
+-- a system's key: 0 where it is chosen, else its fitness and 1
+unfoldable pub keyOf : (ℕ → ℕ) → List Bool → ℕ → ℕ
+keyOf fit marks system = cond (isChosen marks system) 0 (fit system + 1)
+
+-- room for a key of each candidate, and for that of none
+abbrev pub KEYS : ℕ
+KEYS = 5
+
+-- a list has the key of each candidate in its place
+pub record Keyed (fit : ℕ → ℕ) (marks : List Bool) (keys : List ℕ) : Type 0 where
+  pub marked : length marks ≡ NUMBERS
+  pub long : length keys ≡ KEYS
+  pub at : (i : ℕ) → i < length candidates → getD keys i 0 ≡ keyOf fit marks (getD candidates i 0)
