@@ -1,52 +1,65 @@
 -- The code's tables agree with the register, tested at each code by one computation. Assumes nothing.
-use mathlib.Core.Path.{_≡_, refl}
-use mathlib.Core.Bool.{Bool, true, false, not}
+use mathlib.Core.Path.{_≡_, refl, sym, ap, _∙_}
+use mathlib.Core.Bool.{Bool, true, false, not, _||_}
 use mathlib.Core.List.{List, [], _∷_}
 use Prim.Native.Nat.{ℕ, _<_, _≤_}
-use lib.Dec.{eqb, leb, eqb→eq}
-use lib.ListN.{getD}
+use lib.Dec.{T, eqb, leb, ltb, eqb→eq}
 use borrow.Author.Tests.{eq-eqb, ne-eqb, le-leb, lt-leb}
-use Rattle.analysis.specs.Register.{CODES, statusOf}
-use Rattle.analysis.specs.Table.{at, same, same-eq}
+use Rattle.analysis.specs.Register.{CODES, statusOf, isIn}
+use Rattle.analysis.specs.Table.{at, both, both-left, both-right, same, same-eq}
 use Rattle.analysis.specs.Check.{leastOf, greatestOf, requiredOf, inRange}
 
-abbrev pub least : List ℕ
-least = 1 ∷ 400000 ∷ 100 ∷ 100 ∷ 10 ∷ 10 ∷ 10 ∷ 10 ∷ 10 ∷ 1 ∷ 10 ∷ 50 ∷ 50 ∷ 1 ∷ []
+-- a list as long as an analysis, and the codes that may have an amount
+abbrev places : List ℕ
+places = 0 ∷ 0 ∷ 0 ∷ 0 ∷ 0 ∷ 0 ∷ 0 ∷ 0 ∷ 0 ∷ 0 ∷ 0 ∷ 0 ∷ 0 ∷ 0 ∷ []
 
-abbrev pub greatest : List ℕ
-greatest = 0 ∷ 999700 ∷ 150000 ∷ 60000 ∷ 40000 ∷ 40000 ∷ 500 ∷ 20000 ∷ 20000 ∷ 0 ∷ 15000 ∷ 100000 ∷ 150000 ∷ 0 ∷ []
+abbrev keys : List ℕ
+keys = 1 ∷ 2 ∷ 3 ∷ 4 ∷ 5 ∷ 6 ∷ 7 ∷ 8 ∷ 10 ∷ 11 ∷ 12 ∷ []
 
--- 1 where the code may not be absent
-abbrev pub required : List ℕ
-required = 0 ∷ 1 ∷ 1 ∷ 1 ∷ 1 ∷ 1 ∷ 0 ∷ 0 ∷ 0 ∷ 0 ∷ 0 ∷ 0 ∷ 0 ∷ 0 ∷ []
+-- a value at a code
+pub at-key : (f : ℕ → ℕ) (code k v : ℕ) → code ≡ k → f k ≡ v → v ≡ f code
+at-key f code k v h e = sym (ap f h ∙ e)
 
-least-at : (k : ℕ) → k < CODES → getD least k 0 ≡ leastOf k
-unfolding statusOf
-least-at k h = eqb→eq (getD least k 0) (leastOf k) (at (λ i x. eqb x (leastOf i)) least tt k h)
+-- what a `match` tells of a code that is none of its keys
+abbrev pub Rest : ℕ → Type 0
+Rest k = ((((((((((Unit {0} × (k ≡ 1 → ⊥)) × (k ≡ 2 → ⊥)) × (k ≡ 3 → ⊥)) × (k ≡ 4 → ⊥)) × (k ≡ 5 → ⊥)) × (k ≡ 6 → ⊥)) × (k ≡ 7 → ⊥)) × (k ≡ 8 → ⊥)) × (k ≡ 10 → ⊥)) × (k ≡ 11 → ⊥)) × (k ≡ 12 → ⊥)
 
-greatest-at : (k : ℕ) → k < CODES → getD greatest k 0 ≡ greatestOf k
-unfolding statusOf
-greatest-at k h = eqb→eq (getD greatest k 0) (greatestOf k) (at (λ i x. eqb x (greatestOf i)) greatest tt k h)
+no-key : (k : ℕ) → Rest k → isIn k keys ≡ false
+no-key k r =
+    rw
+    (ne-eqb k 1 (r .0 .0 .0 .0 .0 .0 .0 .0 .0 .0 .1), ne-eqb k 2 (r .0 .0 .0 .0 .0 .0 .0 .0 .0 .1), ne-eqb k 3 (r .0 .0 .0 .0 .0 .0 .0 .0 .1), ne-eqb k 4 (r .0 .0 .0 .0 .0 .0 .0 .1), ne-eqb k 5 (r .0 .0 .0 .0 .0 .0 .1), ne-eqb k 6 (r .0 .0 .0 .0 .0 .1), ne-eqb k 7 (r .0 .0 .0 .0 .1), ne-eqb k 8 (r .0 .0 .0 .1), ne-eqb k 10 (r .0 .0 .1), ne-eqb k 11 (r .0 .1), ne-eqb k 12 (r .1))
 
-required-at : (k : ℕ) → k < CODES → eqb (getD required k 0) 0 ≡ not (requiredOf k)
-unfolding statusOf
-required-at k h =
-    same-eq (eqb (getD required k 0) 0) (not (requiredOf k)) (at (λ i x. same (eqb x 0) (not (requiredOf i))) required tt k h)
+module _ (k : ℕ) (h : k < CODES) where
+  none : Rest k → T (both (eqb (leastOf k) 1) (eqb (greatestOf k) 0))
+  unfolding statusOf
+  none r = rw (no-key k r) at (at (λ i x. isIn i keys || both (eqb (leastOf i) 1) (eqb (greatestOf i) 0)) places tt k h)
 
--- the range test by the tables
-module _ (k x : ℕ) (h : k < CODES) where
-  pub absent : x ≡ 0 → eqb (getD required k 0) 0 ≡ inRange k x
+  -- the ranges of the others leave no amount
+  pub least-rest : Rest k → 1 ≡ leastOf k
+  least-rest r = sym (eqb→eq (leastOf k) 1 (both-left (eqb (leastOf k) 1) (eqb (greatestOf k) 0) (none r)))
+
+  pub greatest-rest : Rest k → 0 ≡ greatestOf k
+  greatest-rest r = sym (eqb→eq (greatestOf k) 0 (both-right (eqb (leastOf k) 1) (eqb (greatestOf k) 0) (none r)))
+
+  required-at : (eqb k 0 || ltb 5 k) ≡ not (requiredOf k)
+  unfolding statusOf
+  required-at =
+      same-eq (eqb k 0 || ltb 5 k) (not (requiredOf k)) (at (λ i x. same (eqb i 0 || ltb 5 i) (not (requiredOf i))) places tt k h)
+
+  pub absent : (x : ℕ) → x ≡ 0 → (eqb k 0 || ltb 5 k) ≡ inRange k x
   unfolding inRange
-  absent e = simp (eq-eqb _ _ e) (required-at k h)
+  absent x e = simp (eq-eqb _ _ e) required-at
 
-  pub above : (x ≡ 0 → ⊥) → getD least k 0 ≤ x → leb x (getD greatest k 0) ≡ inRange k x
+-- the range test by least and greatest
+module _ (k x least greatest : ℕ) (a : least ≡ leastOf k) (n : x ≡ 0 → ⊥) where
+  pub above : greatest ≡ greatestOf k → least ≤ x → leb x greatest ≡ inRange k x
   unfolding inRange
-  above n l =
-      let m : leastOf k ≤ x = rw (least-at k h) at l in
-      rw (greatest-at k h) (simp (ne-eqb _ _ n, le-leb _ _ m))
+  above b l =
+      let m : leastOf k ≤ x = rw a at l in
+      rw b (simp (ne-eqb _ _ n, le-leb _ _ m))
 
-  pub below : (x ≡ 0 → ⊥) → x < getD least k 0 → inRange k x ≡ false
+  pub below : x < least → false ≡ inRange k x
   unfolding inRange
-  below n l =
-      let m : x < leastOf k = rw (least-at k h) at l in
+  below l =
+      let m : x < leastOf k = rw a at l in
       simp (ne-eqb _ _ n, lt-leb _ _ m)
