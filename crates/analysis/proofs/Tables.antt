@@ -1,65 +1,57 @@
--- The code's tables agree with the register, tested at each code by one computation. Assumes nothing.
-use mathlib.Core.Path.{_≡_, refl, sym, ap, _∙_}
-use mathlib.Core.Bool.{Bool, true, false, not, _||_}
+-- The code's table agrees with the register, tested at each code by one computation, and the range test by it. Assumes nothing.
+use mathlib.Core.Path.{_≡_, refl}
+use mathlib.Core.Bool.{Bool, true, false, not, _&&_, _||_}
 use mathlib.Core.List.{List, [], _∷_}
-use Prim.Native.Nat.{ℕ, _<_, _≤_}
-use lib.Dec.{T, eqb, leb, ltb, eqb→eq}
-use borrow.Author.Tests.{eq-eqb, ne-eqb, le-leb, lt-leb}
-use Rattle.analysis.specs.Register.{CODES, statusOf, isIn}
-use Rattle.analysis.specs.Table.{at, both, both-left, both-right, same, same-eq}
+use Prim.Native.Nat.{ℕ, _+_, _*_, _/_, _%_, _<_, _≤_}
+use native.Mathlib.Omega.{arith}
+use lib.Dec.{eqb, leb, ltb, eqb→eq, leb→le}
+use lib.ListN.{getD}
+use borrow.Author.Tests.{eqb-true, leb-true}
+use Rattle.analysis.specs.Register.{CODES, ifElse, statusOf}
+use Rattle.analysis.specs.Table.{at, same, same-eq}
 use Rattle.analysis.specs.Check.{leastOf, greatestOf, requiredOf, inRange}
+use Rattle.analysis.specs.Packed.{rangeOf}
 
--- a list as long as an analysis, and the codes that may have an amount
-abbrev places : List ℕ
-places = 0 ∷ 0 ∷ 0 ∷ 0 ∷ 0 ∷ 0 ∷ 0 ∷ 0 ∷ 0 ∷ 0 ∷ 0 ∷ 0 ∷ 0 ∷ 0 ∷ []
+abbrev range : ℕ → ℕ → ℕ
+range greatest least = greatest * 4294967296 + least
 
-abbrev keys : List ℕ
-keys = 1 ∷ 2 ∷ 3 ∷ 4 ∷ 5 ∷ 6 ∷ 7 ∷ 8 ∷ 10 ∷ 11 ∷ 12 ∷ []
+abbrev ranges : List ℕ
+ranges =
+    range 0 1 ∷ range 999700 400000 ∷ range 150000 100 ∷ range 60000 100 ∷ range 40000 10 ∷ range 40000 10 ∷ range 500 10 ∷
+    range 20000 10 ∷ range 20000 10 ∷ range 0 1 ∷ range 15000 10 ∷ range 100000 50 ∷ range 150000 50 ∷ range 0 1 ∷ []
 
--- a value at a code
-pub at-key : (f : ℕ → ℕ) (code k v : ℕ) → code ≡ k → f k ≡ v → v ≡ f code
-at-key f code k v h e = sym (ap f h ∙ e)
+pub range-at : (k : ℕ) → k < CODES → getD ranges k 0 ≡ rangeOf k
+unfolding statusOf
+range-at k h = eqb→eq (getD ranges k 0) (rangeOf k) (at (λ i x. eqb x (rangeOf i)) ranges tt k h)
 
--- what a `match` tells of a code that is none of its keys
-abbrev pub Rest : ℕ → Type 0
-Rest k = ((((((((((Unit {0} × (k ≡ 1 → ⊥)) × (k ≡ 2 → ⊥)) × (k ≡ 3 → ⊥)) × (k ≡ 4 → ⊥)) × (k ≡ 5 → ⊥)) × (k ≡ 6 → ⊥)) × (k ≡ 7 → ⊥)) × (k ≡ 8 → ⊥)) × (k ≡ 10 → ⊥)) × (k ≡ 11 → ⊥)) × (k ≡ 12 → ⊥)
+or-false : (b : Bool) → (b || false) ≡ b
+or-false true = refl
+or-false false = refl
 
-no-key : (k : ℕ) → Rest k → isIn k keys ≡ false
-no-key k r =
-    rw
-    (ne-eqb k 1 (r .0 .0 .0 .0 .0 .0 .0 .0 .0 .0 .1), ne-eqb k 2 (r .0 .0 .0 .0 .0 .0 .0 .0 .0 .1), ne-eqb k 3 (r .0 .0 .0 .0 .0 .0 .0 .0 .1), ne-eqb k 4 (r .0 .0 .0 .0 .0 .0 .0 .1), ne-eqb k 5 (r .0 .0 .0 .0 .0 .0 .1), ne-eqb k 6 (r .0 .0 .0 .0 .0 .1), ne-eqb k 7 (r .0 .0 .0 .0 .1), ne-eqb k 8 (r .0 .0 .0 .1), ne-eqb k 10 (r .0 .0 .1), ne-eqb k 11 (r .0 .1), ne-eqb k 12 (r .1))
-
-module _ (k : ℕ) (h : k < CODES) where
-  none : Rest k → T (both (eqb (leastOf k) 1) (eqb (greatestOf k) 0))
+module _ (k x range : ℕ) (h : k < CODES) (e : range ≡ rangeOf k) where
+  least-is : range % 4294967296 ≡ leastOf k
   unfolding statusOf
-  none r = rw (no-key k r) at (at (λ i x. isIn i keys || both (eqb (leastOf i) 1) (eqb (greatestOf i) 0)) places tt k h)
+  least-is = rw e (eqb→eq (rangeOf k % 4294967296) (leastOf k) (at (λ i y. eqb (rangeOf i % 4294967296) (leastOf i)) ranges tt k h))
 
-  -- the ranges of the others leave no amount
-  pub least-rest : Rest k → 1 ≡ leastOf k
-  least-rest r = sym (eqb→eq (leastOf k) 1 (both-left (eqb (leastOf k) 1) (eqb (greatestOf k) 0) (none r)))
-
-  pub greatest-rest : Rest k → 0 ≡ greatestOf k
-  greatest-rest r = sym (eqb→eq (greatestOf k) 0 (both-right (eqb (leastOf k) 1) (eqb (greatestOf k) 0) (none r)))
-
-  required-at : (eqb k 0 || ltb 5 k) ≡ not (requiredOf k)
+  greatest-is : range / 4294967296 ≡ greatestOf k
   unfolding statusOf
-  required-at =
-      same-eq (eqb k 0 || ltb 5 k) (not (requiredOf k)) (at (λ i x. same (eqb i 0 || ltb 5 i) (not (requiredOf i))) places tt k h)
+  greatest-is = rw e (eqb→eq (rangeOf k / 4294967296) (greatestOf k) (at (λ i y. eqb (rangeOf i / 4294967296) (greatestOf i)) ranges tt k h))
 
-  pub absent : (x : ℕ) → x ≡ 0 → (eqb k 0 || ltb 5 k) ≡ inRange k x
-  unfolding inRange
-  absent x e = simp (eq-eqb _ _ e) required-at
+  least-some : 1 ≤ leastOf k
+  unfolding statusOf
+  least-some = leb→le 1 (leastOf k) (at (λ i y. leb 1 (leastOf i)) ranges tt k h)
 
--- the range test by least and greatest
-module _ (k x least greatest : ℕ) (a : least ≡ leastOf k) (n : x ≡ 0 → ⊥) where
-  pub above : greatest ≡ greatestOf k → least ≤ x → leb x greatest ≡ inRange k x
-  unfolding inRange
-  above b l =
-      let m : leastOf k ≤ x = rw a at l in
-      rw b (simp (ne-eqb _ _ n, le-leb _ _ m))
+  required-is : (eqb k 0 || ltb 5 k) ≡ not (requiredOf k)
+  unfolding statusOf
+  required-is =
+      same-eq (eqb k 0 || ltb 5 k) (not (requiredOf k)) (at (λ i y. same (eqb i 0 || ltb 5 i) (not (requiredOf i))) ranges tt k h)
 
-  pub below : x < least → false ≡ inRange k x
+  pub tested : ((eqb x 0 && (eqb k 0 || ltb 5 k)) || (leb (range % 4294967296) x && leb x (range / 4294967296))) ≡ inRange k x
   unfolding inRange
-  below l =
-      let m : x < leastOf k = rw a at l in
-      simp (ne-eqb _ _ n, lt-leb _ _ m)
+  tested = rw (least-is, greatest-is, required-is) (go (not (requiredOf k)) (leb x (greatestOf k)) (eqb x 0) (leb (leastOf k) x) refl refl)
+    where
+      go : (a c t u : Bool) → eqb x 0 ≡ t → leb (leastOf k) x ≡ u → ((t && a) || (u && c)) ≡ ifElse t a (ifElse u c false)
+      go a c true true p q = absurd (omega (arith, eqb-true x 0 p, leb-true (leastOf k) x q, least-some))
+      go a c true false p q = or-false a
+      go a c false true p q = refl
+      go a c false false p q = refl

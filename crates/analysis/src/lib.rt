@@ -4,7 +4,8 @@ ghost use mathlib.Core.Path.{_≡_};
 ghost use Prim.Native.Nat.{ℕ, _+_, _<_, _≤_};
 ghost use lib.Dec.{eqb};
 ghost use Rattle.analysis.specs.Register.{CODES};
-ghost use Rattle.analysis.specs.Check.{leastOf, greatestOf, inRange, totalFits, refusalBy, refusalOf, answerOf, codeOf, AtFault};
+ghost use Rattle.analysis.specs.Packed.{rangeOf};
+ghost use Rattle.analysis.specs.Check.{inRange, totalFits, refusalBy, refusalOf, answerOf, codeOf, AtFault};
 
 // Indices of an analysis: the codes 1 to 13, and 0, which is no code.
 pub const CODES: usize = 14;
@@ -20,60 +21,35 @@ pub enum Checked {
     Refused { number: u32, code: u32 },
 }
 
-// The least amount of a code in parts; 1 where it may have none.
-fn least(code: usize) -> u32
-    requires { ⌜ code < CODES ⌝ }
-    ensures { λ r. ⌜ r ≡ leastOf code ⌝ }
-{
-    match code {
-        1 => 400000,
-        2 => 100,
-        3 => 100,
-        4 => 10,
-        5 => 10,
-        6 => 10,
-        7 => 10,
-        8 => 10,
-        10 => 10,
-        11 => 50,
-        12 => 50,
-        _ => 1,
-    }
-}
+// The range of each code in one number: the greatest amount times this, and the least amount.
+const ABOVE: u64 = 4294967296;
 
-// The greatest amount of a code in parts; 0 where it may have none.
-fn greatest(code: usize) -> u32
-    requires { ⌜ code < CODES ⌝ }
-    ensures { λ r. ⌜ r ≡ greatestOf code ⌝ }
-{
-    match code {
-        1 => 999700,
-        2 => 150000,
-        3 => 60000,
-        4 => 40000,
-        5 => 40000,
-        6 => 500,
-        7 => 20000,
-        8 => 20000,
-        10 => 15000,
-        11 => 100000,
-        12 => 150000,
-        _ => 0,
-    }
-}
+// The ranges by code; one that may have no amount has the least 1 and the greatest 0.
+const RANGES: [u64; CODES] = [
+    1,
+    999700 * ABOVE + 400000,
+    150000 * ABOVE + 100,
+    60000 * ABOVE + 100,
+    40000 * ABOVE + 10,
+    40000 * ABOVE + 10,
+    500 * ABOVE + 10,
+    20000 * ABOVE + 10,
+    20000 * ABOVE + 10,
+    1,
+    15000 * ABOVE + 10,
+    100000 * ABOVE + 50,
+    150000 * ABOVE + 50,
+    1,
+];
 
 // Is the amount in the code's range? 0 is, where the code may be absent: all but 1 to 5.
-fn in_range(code: usize, amount: u32) -> bool
-    requires { ⌜ code < CODES ⌝ }
+fn in_range(code: usize, amount: u32, range: u64) -> bool
+    requires { ⌜ (code < CODES) × (range ≡ rangeOf code) ⌝ }
     ensures { λ r. ⌜ r ≡ inRange code amount ⌝ }
 {
-    if amount == 0 {
-        return (code == 0) | (5 < code);
-    }
-    if least(code) <= amount {
-        return amount <= greatest(code);
-    }
-    false
+    let x = amount as u64;
+    let absent = (x == 0) & ((code == 0) | (5 < code));
+    absent | ((range % ABOVE <= x) & (x <= range / ABOVE))
 }
 
 // One amount more: 14 of them stay far below the greatest u64.
@@ -125,6 +101,7 @@ pub fn check(a: Analysis) -> Checked
     ensures { λ r. ⌜ (refusalOf (a .amounts) ≡ 5 → AtFault (a .amounts) (codeOf r)) ⌝ }
 {
     let amounts = a.amounts;
+    let ranges = RANGES;
     let mut fault: usize = CODES;
     let mut sum: u64 = 0;
     let mut code: usize = CODES;
@@ -132,7 +109,7 @@ pub fn check(a: Analysis) -> Checked
         code -= 1;
         let amount = amounts[code];
         sum = plus(sum, amount);
-        let fits = in_range(code, amount);
+        let fits = in_range(code, amount, ranges[code]);
         if !fits {
             fault = code;
         }

@@ -1,6 +1,9 @@
 -- `analysis::check` meets its contract. The loop's invariant: the lowest code at fault and the sum from this code on. Assumes nothing.
 use mathlib.Core.Path.{_≡_, sym, _∙_}
+use Prim.Native.Nat.{_-_, _<_}
 use lib.ListN.{length}
+use Rattle.analysis.specs.Register.{CODES}
+use Rattle.analysis.proofs.Tables.{range-at}
 use borrow.Author.Tests.{not-true, not-false}
 use Rattle.analysis.proofs.Turns.{Walked, walk-none, walk-in, walk-out, checking}
 use borrow.Author.Needs.{needs}
@@ -8,10 +11,10 @@ use Rattle.analysis.proofs.check.Statement.{statement}
 use Rattle.analysis.proofs.check.Tie as tie
 
 abbrev Inv-loop : tie.InvT-loop
-Inv-loop amounts fault₀ sum₀ code₀ fault sum code = Walked amounts fault sum code
+Inv-loop amounts ranges fault₀ sum₀ code₀ fault sum code = Walked amounts fault sum code
 
 abbrev μ-loop : tie.MeasureT-loop
-μ-loop amounts fault₀ sum₀ code₀ fault sum code = code
+μ-loop amounts ranges fault₀ sum₀ code₀ fault sum code = code
 
 loop-holds : tie.Need-loop-holds Inv-loop μ-loop
 loop-holds c = let l : length (c .before .args .a .amounts) ≡ 14 = search needs in walk-none _ l
@@ -28,8 +31,14 @@ array-read-amount c = search needs
 plus-requires : tie.Need-plus-requires Inv-loop μ-loop
 plus-requires c κs = search needs
 
+mul-in-range : tie.Need-mul-in-range Inv-loop μ-loop
+mul-in-range c = search needs
+
+array-read-in-range : tie.Need-array-read-in-range Inv-loop μ-loop
+array-read-in-range c = search needs
+
 in-range-requires : tie.Need-in-range-requires Inv-loop μ-loop
-in-range-requires c κs = search needs
+in-range-requires c κs = let h : c .before .before .loop .code - 1 < CODES = search needs in (h, range-at _ h)
 
 loop-less : tie.Need-loop-less Inv-loop μ-loop
 loop-less c = search needs
@@ -67,6 +76,8 @@ check-spec =
     mul-amount
     array-read-amount
     plus-requires
+    mul-in-range
+    array-read-in-range
     in-range-requires
     loop-less
     loop-again
