@@ -15,13 +15,13 @@ use Rattle.analysis.specs.Check.{totalOf}
 use Rattle.mixture.specs.Scaling.{WHOLE, quotientOf, remainderOf, quotientsOf, remaindersOf, missingOf, greatestTo, greatestPlace, distributed, scaledOf}
 use Rattle.mixture.specs.Share.{getD-map}
 use Rattle.mixture.specs.Total.{sum-set, quotients-whole}
-use Rattle.mixture.specs.Simplification.{COMPONENTS, butaneOf}
+use Rattle.mixture.specs.Simplification.{COMPONENTS, butaneOf, tenthsOf}
 use Rattle.mixture.specs.Factor.{factorOf}
 use Rattle.mixture.specs.Limits.{LIMIT, Limited}
 
 -- ---- amounts up to the limit
 
-pub limited-four : (w x y z : ℕ) → w ≤ LIMIT → x ≤ LIMIT → y ≤ LIMIT → z ≤ LIMIT → Limited (w ∷ x ∷ y ∷ z ∷ [])
+limited-four : (w x y z : ℕ) → w ≤ LIMIT → x ≤ LIMIT → y ≤ LIMIT → z ≤ LIMIT → Limited (w ∷ x ∷ y ∷ z ∷ [])
 limited-four w x y z hw hx hy hz = record { long = refl; small = at }
   where
     at : (i : ℕ) → getD (w ∷ x ∷ y ∷ z ∷ []) i 0 ≤ LIMIT
@@ -30,6 +30,14 @@ limited-four w x y z hw hx hy hz = record { long = refl; small = at }
     at (suc (suc zero)) = hy
     at (suc (suc (suc zero))) = hz
     at (suc (suc (suc (suc i)))) = omega arith
+
+-- the four components, one by one
+pub tenths-four : (a : List ℕ) (w x y z : ℕ) → (w ≡ 10 * getD a 1 0) × (w ≤ 42949672950) → (x ≡ 10 * getD a 2 0) × (x ≤ 42949672950)
+    → (y ≡ 10 * getD a 3 0) × (y ≤ 42949672950) → (z ≡ butaneOf a) × (z ≤ LIMIT)
+    → ((w ∷ x ∷ y ∷ z ∷ []) ≡ tenthsOf a) × Limited (w ∷ x ∷ y ∷ z ∷ [])
+unfolding tenthsOf
+tenths-four a w x y z hw hx hy hz =
+    (rw (hw .0, hx .0, hy .0, hz .0), limited-four w x y z (omega (arith, hw .1)) (omega (arith, hx .1)) (omega (arith, hy .1)) (hz .1))
 
 -- ---- factors
 

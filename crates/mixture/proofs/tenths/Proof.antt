@@ -1,7 +1,5 @@
 -- `mixture::tenths` meets its contract. Assumes nothing.
-use native.Mathlib.Omega.{arith}
-use Rattle.mixture.proofs.Loops.{limited-four}
-use Rattle.mixture.specs.Simplification.{tenthsOf}
+use Rattle.mixture.proofs.Loops.{tenths-four}
 use borrow.Author.Needs.{needs}
 use Rattle.mixture.proofs.tenths.Statement.{statement}
 use Rattle.mixture.proofs.tenths.Tie as tie
@@ -28,8 +26,11 @@ butane-requires : tie.Need-butane-requires
 butane-requires c κs = search needs
 
 returns : tie.Need-returns
-unfolding tenthsOf
-returns c = (cc, limited-four _ _ _ _ (omega arith) (omega arith) (omega arith) (omega arith))
+returns c =
+    let z = c .before in
+    let y = z .before .before in
+    let x = y .before .before in
+    tenths-four _ _ _ _ _ (x .weighted .ensures) (y .weighted2 .ensures) (z .weighted3 .ensures) (c .butane .ensures)
 
 pub tenths-spec : {M : Type 1} → statement M
 tenths-spec =
