@@ -1,5 +1,5 @@
 -- The code's table agrees with the register, tested at each code by one computation, and the range test by it. Assumes nothing.
-use mathlib.Core.Path.{_≡_, refl}
+use mathlib.Core.Path.{_≡_, refl, sym, _∙_}
 use mathlib.Core.Bool.{Bool, true, false, not, _&&_, _||_}
 use mathlib.Core.List.{List, [], _∷_}
 use Prim.Native.Nat.{ℕ, _+_, _*_, _/_, _%_, _<_, _≤_}
@@ -46,7 +46,7 @@ module _ (k x range : ℕ) (h : k < CODES) (e : range ≡ rangeOf k) where
   required-is =
       same-eq (eqb k 0 || ltb 5 k) (not (requiredOf k)) (at (λ i y. same (eqb i 0 || ltb 5 i) (not (requiredOf i))) ranges tt k h)
 
-  pub tested : ((eqb x 0 && (eqb k 0 || ltb 5 k)) || (leb (range % 4294967296) x && leb x (range / 4294967296))) ≡ inRange k x
+  tested : ((eqb x 0 && (eqb k 0 || ltb 5 k)) || (leb (range % 4294967296) x && leb x (range / 4294967296))) ≡ inRange k x
   unfolding inRange
   tested = rw (least-is, greatest-is, required-is) (go (not (requiredOf k)) (leb x (greatestOf k)) (eqb x 0) (leb (leastOf k) x) refl refl)
     where
@@ -55,3 +55,10 @@ module _ (k x range : ℕ) (h : k < CODES) (e : range ≡ rangeOf k) where
       go a c true false p q = or-false a
       go a c false true p q = refl
       go a c false false p q = refl
+
+  -- the code at fault, by the test
+  pub fault-before : (fault : ℕ) → ((eqb x 0 && (eqb k 0 || ltb 5 k)) || (leb (range % 4294967296) x && leb x (range / 4294967296))) ≡ true → fault ≡ ifElse (inRange k x) fault k
+  fault-before fault t = rw (sym tested ∙ t)
+
+  pub fault-here : (fault : ℕ) → ((eqb x 0 && (eqb k 0 || ltb 5 k)) || (leb (range % 4294967296) x && leb x (range / 4294967296))) ≡ false → k ≡ ifElse (inRange k x) fault k
+  fault-here fault t = rw (sym tested ∙ t)

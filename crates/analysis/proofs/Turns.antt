@@ -9,7 +9,7 @@ use lib.ListN.{length, getD, drop, drop-of-length-le}
 use lib.Seq.{drop-cons}
 use lib.Dec.{eqb, leb}
 use borrow.Author.Tests.{le-leb, lt-leb, eq-eqb, ne-eqb, eqb-false}
-use Rattle.analysis.specs.Register.{CODES}
+use Rattle.analysis.specs.Register.{CODES, ifElse}
 use Rattle.analysis.specs.declared.Checked.{Checked}
 use Rattle.analysis.specs.declared.Checked.the-variants.{InRange, Refused}
 use Rattle.analysis.specs.Check.{inRange, allInRange, totalOf, totalFits, refusalBy, refusalOf, AtFault, codeOf, answerOf, Checking}
@@ -79,29 +79,32 @@ module _ (a : List ℕ) (fault sum code next : ℕ) (w : Walked a fault sum code
   all-next k true e f = rw (drop-cons a k 0 (omega (arith, w .long, w .most)), f, e)
   all-next k false e f = rw (drop-cons a k 0 (omega (arith, w .long, w .most)), f)
 
-  pub walk-in : inRange (code - 1) (getD a (code - 1) 0) ≡ true → Walked a fault next (code - 1)
-  walk-in f =
-      record {
-        long = w .long;
-        most = omega (arith, w .most);
-        within = w .within;
-        ranges = w .ranges ∙ sym (all-next (code - 1) true (omega arith) f);
-        at-fault = w .at-fault;
-        total = go-total-here;
-        small = omega (arith, w .small, w .most, s .1);
-      }
-
-  pub walk-out : inRange (code - 1) (getD a (code - 1) 0) ≡ false → Walked a (code - 1) next (code - 1)
-  walk-out f =
-      record {
-        long = w .long;
-        most = omega (arith, w .most);
-        within = omega (arith, w .most);
-        ranges = ne-eqb (code - 1) CODES (λ e. omega (arith, w .most)) ∙ sym (all-next (code - 1) false (omega arith) f);
-        at-fault = λ _. f;
-        total = go-total-here;
-        small = omega (arith, w .small, w .most, s .1);
-      }
+  pub walk-next : (found : ℕ) → found ≡ ifElse (inRange (code - 1) (getD a (code - 1) 0)) fault (code - 1) → Walked a found next (code - 1)
+  walk-next found e = go (inRange (code - 1) (getD a (code - 1) 0)) refl e
+    where
+      go : (b : Bool) → inRange (code - 1) (getD a (code - 1) 0) ≡ b → found ≡ ifElse b fault (code - 1) → Walked a found next (code - 1)
+      go true f g =
+          rw g
+          (record {
+            long = w .long;
+            most = omega (arith, w .most);
+            within = w .within;
+            ranges = w .ranges ∙ sym (all-next (code - 1) true (omega arith) f);
+            at-fault = w .at-fault;
+            total = go-total-here;
+            small = omega (arith, w .small, w .most, s .1);
+          })
+      go false f g =
+          rw g
+          (record {
+            long = w .long;
+            most = omega (arith, w .most);
+            within = omega (arith, w .most);
+            ranges = ne-eqb (code - 1) CODES (λ z. omega (arith, w .most)) ∙ sym (all-next (code - 1) false (omega arith) f);
+            at-fault = λ _. f;
+            total = go-total-here;
+            small = omega (arith, w .small, w .most, s .1);
+          })
 
 -- ---- the check
 

@@ -3,7 +3,7 @@
 ghost use mathlib.Core.Path.{_≡_};
 ghost use Prim.Native.Nat.{ℕ, _+_, _<_, _≤_};
 ghost use lib.Dec.{eqb};
-ghost use Rattle.analysis.specs.Register.{CODES};
+ghost use Rattle.analysis.specs.Register.{CODES, ifElse};
 ghost use Rattle.analysis.specs.Packed.{rangeOf};
 ghost use Rattle.analysis.specs.Check.{inRange, totalFits, refusalBy, refusalOf, answerOf, codeOf, AtFault};
 
@@ -42,14 +42,16 @@ const RANGES: [u64; CODES] = [
     1,
 ];
 
-// Is the amount in the code's range? 0 is, where the code may be absent: all but 1 to 5.
-fn in_range(code: usize, amount: u32, range: u64) -> bool
+// The code where its amount is out of its range, else the code at fault so far. 0 is in range where the code may be absent:
+// all but 1 to 5.
+fn fault_at(code: usize, amount: u32, range: u64, fault: usize) -> usize
     requires { ⌜ (code < CODES) × (range ≡ rangeOf code) ⌝ }
-    ensures { λ r. ⌜ r ≡ inRange code amount ⌝ }
+    ensures { λ r. ⌜ r ≡ ifElse (inRange code amount) fault code ⌝ }
 {
     let x = amount as u64;
     let absent = (x == 0) & ((code == 0) | (5 < code));
-    absent | ((range % ABOVE <= x) & (x <= range / ABOVE))
+    let fits = absent | ((range % ABOVE <= x) & (x <= range / ABOVE));
+    if fits { fault } else { code }
 }
 
 // One amount more: 14 of them stay far below the greatest u64.
@@ -109,10 +111,7 @@ pub fn check(a: Analysis) -> Checked
         code -= 1;
         let amount = amounts[code];
         sum = plus(sum, amount);
-        let fits = in_range(code, amount, ranges[code]);
-        if !fits {
-            fault = code;
-        }
+        fault = fault_at(code, amount, ranges[code], fault);
     }
     answer(fault, sum)
 }

@@ -1,11 +1,10 @@
 -- `analysis::check` meets its contract. The loop's invariant: the lowest code at fault and the sum from this code on. Assumes nothing.
-use mathlib.Core.Path.{_≡_, sym, _∙_}
+use mathlib.Core.Path.{_≡_}
 use Prim.Native.Nat.{_-_, _<_}
 use lib.ListN.{length}
 use Rattle.analysis.specs.Register.{CODES}
 use Rattle.analysis.proofs.Tables.{range-at}
-use borrow.Author.Tests.{not-true, not-false}
-use Rattle.analysis.proofs.Turns.{Walked, walk-none, walk-in, walk-out, checking}
+use Rattle.analysis.proofs.Turns.{Walked, walk-none, walk-next, checking}
 use borrow.Author.Needs.{needs}
 use Rattle.analysis.proofs.check.Statement.{statement}
 use Rattle.analysis.proofs.check.Tie as tie
@@ -31,30 +30,22 @@ array-read-amount c = search needs
 plus-requires : tie.Need-plus-requires Inv-loop μ-loop
 plus-requires c κs = search needs
 
-mul-in-range : tie.Need-mul-in-range Inv-loop μ-loop
-mul-in-range c = search needs
+mul-fault-at : tie.Need-mul-fault-at Inv-loop μ-loop
+mul-fault-at c = search needs
 
-array-read-in-range : tie.Need-array-read-in-range Inv-loop μ-loop
-array-read-in-range c = search needs
+array-read-fault-at : tie.Need-array-read-fault-at Inv-loop μ-loop
+array-read-fault-at c = search needs
 
-in-range-requires : tie.Need-in-range-requires Inv-loop μ-loop
-in-range-requires c κs = let h : c .before .before .loop .code - 1 < CODES = search needs in (h, range-at _ h)
+fault-at-requires : tie.Need-fault-at-requires Inv-loop μ-loop
+fault-at-requires c κs = let h : c .before .before .loop .code - 1 < CODES = search needs in (h, range-at _ h)
 
 loop-less : tie.Need-loop-less Inv-loop μ-loop
 loop-less c = search needs
 
 loop-again : tie.Need-loop-again Inv-loop μ-loop
 loop-again c =
-    let b = c .before .before .before in
-    walk-out _ _ _ _ _ (b .before .loop .inv) (b .loop-test .taken) (c .before .before .plus .ensures) (sym (c .before .in-range .ensures) ∙ not-true _ (c .if1 .taken))
-
-loop-less-2 : tie.Need-loop-less-2 Inv-loop μ-loop
-loop-less-2 c = search needs
-
-loop-again-2 : tie.Need-loop-again-2 Inv-loop μ-loop
-loop-again-2 c =
-    let b = c .before .before .before in
-    walk-in _ _ _ _ _ (b .before .loop .inv) (b .loop-test .taken) (c .before .before .plus .ensures) (sym (c .before .in-range .ensures) ∙ not-false _ (c .if1 .left))
+    let b = c .before .before in
+    walk-next _ _ _ _ _ (b .before .loop .inv) (b .loop-test .taken) (c .before .plus .ensures) _ (c .fault-at .ensures)
 
 answer-requires : tie.Need-answer-requires Inv-loop μ-loop
 answer-requires c κs = c .before .loop .inv .within
@@ -76,12 +67,10 @@ check-spec =
     mul-amount
     array-read-amount
     plus-requires
-    mul-in-range
-    array-read-in-range
-    in-range-requires
+    mul-fault-at
+    array-read-fault-at
+    fault-at-requires
     loop-less
     loop-again
-    loop-less-2
-    loop-again-2
     answer-requires
     returns)
