@@ -74,20 +74,15 @@ fn sections(s: &[u8]) -> Sections
     }
 }
 
-// The refusal of a code in components by the register: 2 unknown or legal in splits only, 3 retired; 0 where it is live.
-const REFUSALS: [u32; CODES] = [2, 0, 0, 0, 0, 0, 0, 0, 0, 3, 0, 0, 0, 3];
-
-// The refusal of the code `c` after the code `p`, or 0.
+// The refusal of the code `c` after the code `p`, or 0: 2 unknown or legal in splits only, 3 retired, 4 not above `p`.
 fn code_refusal(c: u8, p: u8) -> u32
     ensures { λ r. ⌜ r ≡ codeRefusal c p ⌝ }
 {
-    let k = c as usize;
-    if CODES <= k {
+    if (c == 0) | (13 < c) {
         return 2;
     }
-    let refusal = REFUSALS[k];
-    if refusal != 0 {
-        return refusal;
+    if (c == 9) | (c == 13) {
+        return 3;
     }
     if c <= p {
         return 4;
