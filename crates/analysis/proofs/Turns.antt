@@ -12,7 +12,7 @@ use borrow.Author.Tests.{le-leb, lt-leb, eq-eqb, ne-eqb, eqb-false}
 use Rattle.analysis.specs.Register.{CODES, ifElse}
 use Rattle.analysis.specs.declared.Checked.{Checked}
 use Rattle.analysis.specs.declared.Checked.the-variants.{InRange, Refused}
-use Rattle.analysis.specs.Check.{inRange, allInRange, totalOf, totalFits, refusalBy, refusalOf, AtFault, codeOf, answerOf, Checking}
+use Rattle.analysis.specs.Check.{inRange, allInRange, totalOf, totalFits, refusalBy, refusalOf, AtFault, codeOf, answerOf, Checking, Fault}
 
 -- ---- the number of a refusal
 
@@ -121,11 +121,16 @@ own-code r n fault false true p q e =
 own-code r n fault false false p q e = rw (p, q) (rw (p, q) at e)
 
 module _ (a : List ℕ) (fault sum code : ℕ) (r : Checked) (z : code ≤ 0) (w : Walked a fault sum code) (e : r ≡ answerOf (refusalBy (eqb fault CODES) (totalFits sum)) fault) where
+  found : Fault a fault
+  found =
+      let y : code ≡ 0 = omega arith in
+      record { within = w .within; ranges = rw y at (w .ranges); fault = w .at-fault }
+
   number : refusalBy (eqb fault CODES) (totalFits sum) ≡ refusalOf a
   unfolding refusalOf
   number =
       let y : code ≡ 0 = omega arith in
-      rw (rw y at (w .ranges), rw y at (w .total))
+      rw (found .ranges, rw y at (w .total))
 
   pub checking : Checking a r
   checking =
@@ -133,7 +138,7 @@ module _ (a : List ℕ) (fault sum code : ℕ) (r : Checked) (z : code ≤ 0) (w
       record {
         answer = own-code r (refusalOf a) fault (eqb (refusalOf a) 0) (eqb (refusalOf a) 5) refl refl f;
         code = λ h.
-            let g : fault < CODES = let x = eqb-false fault CODES (five (eqb fault CODES) (totalFits sum) (number ∙ h)) in let y = w .within in omega (arith, x) in
+            let g : fault < CODES = let x = eqb-false fault CODES (five (eqb fault CODES) (totalFits sum) (number ∙ h)) in let y = found .within in omega (arith, x) in
             let d : codeOf r ≡ fault = ap codeOf (rw h at f) in
-            rw d (w .at-fault g);
+            rw d (found .fault g);
       }

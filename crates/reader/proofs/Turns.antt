@@ -18,6 +18,7 @@ use Rattle.sheet.specs.Components.{refusalBy, codeRefusal, codesReading, amount
 use Rattle.sheet.specs.declared.Split.{Split}
 use Rattle.sheet.specs.Split.{RECORDS, byteColumn, amountColumn, padded, splitAt}
 use Rattle.sheet.specs.Forth.{length-byte-column, length-amount-column}
+use Rattle.reader.specs.Find.{ZeroRecord}
 use Rattle.sheet.specs.Cases.{status-above, code-status, code-order, code-fine}
 
 -- the code's tests of a code are the register's
@@ -141,6 +142,39 @@ module _ (n i : ℕ) (s : List ℕ) (at : ℕ) where
   zero-end h =
       let e : n - i ≡ 0 = omega arith in
       rw e
+
+-- one of the records from place i on is at 0 where one of all is
+pub record Looked (s : List ℕ) (n i at : ℕ) : Type 0 where
+  pub most : i ≤ n
+  pub there : at ≡ 1 + 5 * i
+  pub same : zeroListed (n - i) s at ≡ zeroListed n s 1
+
+pub looked-none : (s : List ℕ) (n : ℕ) → Looked s n 0 1
+looked-none s n = record { most = omega arith; there = omega arith; same = rw sub-zero }
+
+module _ (s : List ℕ) (n i at : ℕ) (w : Looked s n i at) where
+  module _ (h : i < n) (x : ℕ) (f : x ≡ numberAt s (at + 1)) where
+    pub looked-next : (x ≡ 0 → ⊥) → Looked s n (i + 1) (at + 5)
+    looked-next k =
+        record { most = omega arith; there = omega (arith, w .there); same = sym (zero-go n i s at h (λ z. k (f ∙ z))) ∙ w .same }
+
+    pub looked-zero : x ≡ 0 → ZeroRecord n s i
+    looked-zero k =
+        record {
+          within = omega arith;
+          none = λ l. absurd (omega arith);
+          some = λ _. sym (sym (zero-stop n i s at h (sym f ∙ k)) ∙ w .same);
+          zero-there = λ _. sym (ap (λ (j : ℕ). numberAt s (j + 1)) (w .there)) ∙ sym f ∙ k;
+        }
+
+  pub looked-all : n ≤ i → ZeroRecord n s i
+  looked-all h =
+      record {
+        within = w .most;
+        none = λ _. sym (sym (zero-end n i s at h) ∙ w .same);
+        some = λ l. absurd (omega arith);
+        zero-there = λ l. absurd (omega arith);
+      }
 
 -- a turn that stores an element of a column
 module _ (m i : ℕ) (s : List ℕ) (v w : ℕ) (e : w ≡ v + 6) (xs : List ℕ) where

@@ -8,7 +8,7 @@ ghost use Rattle.sheet.specs.Components.{codeRefusal, codesReading, amountsFrom
 ghost use Rattle.sheet.specs.Split.{RECORDS, splitAt};
 ghost use Rattle.sheet.specs.Sheet.{LISTED, sectionsOf};
 ghost use Rattle.sheet.specs.Read.{refusedSheet, readOf, numberOf, codeOf, FaultIn};
-ghost use Rattle.reader.specs.Find.{ZeroRecord, AmountsRefused};
+ghost use Rattle.reader.specs.Find.{AmountsRefused};
 use analysis::Analysis;
 use analysis::CODES;
 use analysis::Checked;
@@ -117,24 +117,6 @@ fn codes(s: &[u8], n: usize) -> Reading
     Reading::Read
 }
 
-// The place of the first of `n` component records with the amount 0, or `n`.
-fn zero_record(s: &[u8], n: usize) -> usize
-    requires { ⌜ 1 + 5 * n ≤ length (now s) ⌝ }
-    ensures { λ r. ⌜ ZeroRecord n (now (s .entry)) r ⌝ }
-{
-    let mut i: usize = 0;
-    let mut at: usize = 1;
-    while i < n {
-        let x = amount_at(s, at + 1);
-        if x == 0 {
-            return i;
-        }
-        i += 1;
-        at += 5;
-    }
-    i
-}
-
 // The amounts of `n` component records, by code.
 fn amounts(s: &[u8], n: usize) -> [u32; CODES]
     requires { ⌜ 1 + 5 * n ≤ length (now s) ⌝ }
@@ -214,13 +196,18 @@ fn amounts_refused(s: &[u8], n: usize, a: Analysis) -> Checked
     requires { ⌜ (1 + 5 * n ≤ length (now s)) × (a .amounts ≡ amountsFrom n (now s) 1 (replicate CODES 0)) ⌝ }
     ensures { λ r. ⌜ AmountsRefused n (now (s .entry)) r ⌝ }
 {
-    let place = zero_record(s, n);
-    if place < n {
-        let at = 1 + 5 * place;
-        return Checked::Refused {
-            number: 5,
-            code: s[at] as u32,
-        };
+    let mut i: usize = 0;
+    let mut at: usize = 1;
+    while i < n {
+        let x = amount_at(s, at + 1);
+        if x == 0 {
+            return Checked::Refused {
+                number: 5,
+                code: s[at] as u32,
+            };
+        }
+        i += 1;
+        at += 5;
     }
     analysis::check(a)
 }
