@@ -1,52 +1,64 @@
--- The code's tables agree with the register, tested at each code by one computation. Assumes nothing.
-use mathlib.Core.Path.{_≡_, refl}
-use mathlib.Core.Bool.{Bool, true, false, not}
+-- The code's table agrees with the register, tested at each code by one computation, and the range test by it. Assumes nothing.
+use mathlib.Core.Path.{_≡_, refl, sym, _∙_}
+use mathlib.Core.Bool.{Bool, true, false, not, _&&_, _||_}
 use mathlib.Core.List.{List, [], _∷_}
-use Prim.Native.Nat.{ℕ, _<_, _≤_}
-use lib.Dec.{eqb, leb, eqb→eq}
+use Prim.Native.Nat.{ℕ, _+_, _*_, _/_, _%_, _<_, _≤_}
+use native.Mathlib.Omega.{arith}
+use lib.Dec.{eqb, leb, ltb, eqb→eq, leb→le}
 use lib.ListN.{getD}
-use borrow.Author.Tests.{eq-eqb, ne-eqb, le-leb, lt-leb}
-use Rattle.analysis.specs.Register.{CODES, statusOf}
+use borrow.Author.Tests.{eqb-true, leb-true}
+use Rattle.analysis.specs.Register.{CODES, ifElse, statusOf}
 use Rattle.analysis.specs.Table.{at, same, same-eq}
 use Rattle.analysis.specs.Check.{leastOf, greatestOf, requiredOf, inRange}
+use Rattle.analysis.specs.Packed.{rangeOf}
 
-abbrev pub least : List ℕ
-least = 1 ∷ 400000 ∷ 100 ∷ 100 ∷ 10 ∷ 10 ∷ 10 ∷ 10 ∷ 10 ∷ 1 ∷ 10 ∷ 50 ∷ 50 ∷ 1 ∷ []
+abbrev range : ℕ → ℕ → ℕ
+range greatest least = greatest * 4294967296 + least
 
-abbrev pub greatest : List ℕ
-greatest = 0 ∷ 999700 ∷ 150000 ∷ 60000 ∷ 40000 ∷ 40000 ∷ 500 ∷ 20000 ∷ 20000 ∷ 0 ∷ 15000 ∷ 100000 ∷ 150000 ∷ 0 ∷ []
+abbrev ranges : List ℕ
+ranges =
+    range 0 1 ∷ range 999700 400000 ∷ range 150000 100 ∷ range 60000 100 ∷ range 40000 10 ∷ range 40000 10 ∷ range 500 10 ∷
+    range 20000 10 ∷ range 20000 10 ∷ range 0 1 ∷ range 15000 10 ∷ range 100000 50 ∷ range 150000 50 ∷ range 0 1 ∷ []
 
--- 1 where the code may not be absent
-abbrev pub required : List ℕ
-required = 0 ∷ 1 ∷ 1 ∷ 1 ∷ 1 ∷ 1 ∷ 0 ∷ 0 ∷ 0 ∷ 0 ∷ 0 ∷ 0 ∷ 0 ∷ 0 ∷ []
-
-least-at : (k : ℕ) → k < CODES → getD least k 0 ≡ leastOf k
+pub range-at : (k : ℕ) → k < CODES → getD ranges k 0 ≡ rangeOf k
 unfolding statusOf
-least-at k h = eqb→eq (getD least k 0) (leastOf k) (at (λ i x. eqb x (leastOf i)) least tt k h)
+range-at k h = eqb→eq (getD ranges k 0) (rangeOf k) (at (λ i x. eqb x (rangeOf i)) ranges tt k h)
 
-greatest-at : (k : ℕ) → k < CODES → getD greatest k 0 ≡ greatestOf k
-unfolding statusOf
-greatest-at k h = eqb→eq (getD greatest k 0) (greatestOf k) (at (λ i x. eqb x (greatestOf i)) greatest tt k h)
+or-false : (b : Bool) → (b || false) ≡ b
+or-false true = refl
+or-false false = refl
 
-required-at : (k : ℕ) → k < CODES → eqb (getD required k 0) 0 ≡ not (requiredOf k)
-unfolding statusOf
-required-at k h =
-    same-eq (eqb (getD required k 0) 0) (not (requiredOf k)) (at (λ i x. same (eqb x 0) (not (requiredOf i))) required tt k h)
+module _ (k x range : ℕ) (h : k < CODES) (e : range ≡ rangeOf k) where
+  least-is : range % 4294967296 ≡ leastOf k
+  unfolding statusOf
+  least-is = rw e (eqb→eq (rangeOf k % 4294967296) (leastOf k) (at (λ i y. eqb (rangeOf i % 4294967296) (leastOf i)) ranges tt k h))
 
--- the range test by the tables
-module _ (k x : ℕ) (h : k < CODES) where
-  pub absent : x ≡ 0 → eqb (getD required k 0) 0 ≡ inRange k x
+  greatest-is : range / 4294967296 ≡ greatestOf k
+  unfolding statusOf
+  greatest-is = rw e (eqb→eq (rangeOf k / 4294967296) (greatestOf k) (at (λ i y. eqb (rangeOf i / 4294967296) (greatestOf i)) ranges tt k h))
+
+  least-some : 1 ≤ leastOf k
+  unfolding statusOf
+  least-some = leb→le 1 (leastOf k) (at (λ i y. leb 1 (leastOf i)) ranges tt k h)
+
+  required-is : (eqb k 0 || ltb 5 k) ≡ not (requiredOf k)
+  unfolding statusOf
+  required-is =
+      same-eq (eqb k 0 || ltb 5 k) (not (requiredOf k)) (at (λ i y. same (eqb i 0 || ltb 5 i) (not (requiredOf i))) ranges tt k h)
+
+  tested : ((eqb x 0 && (eqb k 0 || ltb 5 k)) || (leb (range % 4294967296) x && leb x (range / 4294967296))) ≡ inRange k x
   unfolding inRange
-  absent e = simp (eq-eqb _ _ e) (required-at k h)
+  tested = rw (least-is, greatest-is, required-is) (go (not (requiredOf k)) (leb x (greatestOf k)) (eqb x 0) (leb (leastOf k) x) refl refl)
+    where
+      go : (a c t u : Bool) → eqb x 0 ≡ t → leb (leastOf k) x ≡ u → ((t && a) || (u && c)) ≡ ifElse t a (ifElse u c false)
+      go a c true true p q = absurd (omega (arith, eqb-true x 0 p, leb-true (leastOf k) x q, least-some))
+      go a c true false p q = or-false a
+      go a c false true p q = refl
+      go a c false false p q = refl
 
-  pub above : (x ≡ 0 → ⊥) → getD least k 0 ≤ x → leb x (getD greatest k 0) ≡ inRange k x
-  unfolding inRange
-  above n l =
-      let m : leastOf k ≤ x = rw (least-at k h) at l in
-      rw (greatest-at k h) (simp (ne-eqb _ _ n, le-leb _ _ m))
+  -- the code at fault, by the test
+  pub fault-before : (fault : ℕ) → ((eqb x 0 && (eqb k 0 || ltb 5 k)) || (leb (range % 4294967296) x && leb x (range / 4294967296))) ≡ true → fault ≡ ifElse (inRange k x) fault k
+  fault-before fault t = rw (sym tested ∙ t)
 
-  pub below : (x ≡ 0 → ⊥) → x < getD least k 0 → inRange k x ≡ false
-  unfolding inRange
-  below n l =
-      let m : x < leastOf k = rw (least-at k h) at l in
-      simp (ne-eqb _ _ n, lt-leb _ _ m)
+  pub fault-here : (fault : ℕ) → ((eqb x 0 && (eqb k 0 || ltb 5 k)) || (leb (range % 4294967296) x && leb x (range / 4294967296))) ≡ false → k ≡ ifElse (inRange k x) fault k
+  fault-here fault t = rw (sym tested ∙ t)

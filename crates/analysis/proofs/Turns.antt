@@ -1,65 +1,144 @@
--- One turn of each loop over the codes, and the cases of the check. Assumes nothing.
+-- One turn of the walk over the codes, and the cases of the check. Assumes nothing.
 use mathlib.Core.Path.{_≡_, refl, ap, sym, _∙_}
 use mathlib.Core.List.{List, [], _∷_}
 use mathlib.Core.Bool.{Bool, true, false}
-use Prim.Native.Nat.{ℕ, suc, _+_, _≤_, _<_}
+use Prim.Native.Nat.{ℕ, suc, _+_, _-_, _*_, _≤_, _<_}
 use native.Mathlib.Omega.{arith}
 use native.Mathlib.Numerals.{add-one}
 use lib.ListN.{length, getD, drop, drop-of-length-le}
 use lib.Seq.{drop-cons}
 use lib.Dec.{eqb, leb}
-use borrow.Author.Tests.{le-leb, lt-leb, eqb-false}
-use Rattle.analysis.specs.Register.{CODES}
+use borrow.Author.Tests.{le-leb, lt-leb, eq-eqb, ne-eqb, eqb-false}
+use Rattle.analysis.specs.Register.{CODES, ifElse}
 use Rattle.analysis.specs.declared.Checked.{Checked}
 use Rattle.analysis.specs.declared.Checked.the-variants.{InRange, Refused}
-use Rattle.analysis.specs.Check.{inRange, allInRange, totalOf, totalFits, refusalBy, refusalOf, AtFault, answerOf, Checking, Fault}
+use Rattle.analysis.specs.Check.{inRange, allInRange, totalOf, totalFits, refusalBy, refusalOf, AtFault, codeOf, answerOf, Checking, Fault}
 
-module _ (k : ℕ) (a : List ℕ) (h : k < length a) where
-  pub all-go : inRange k (getD a k 0) ≡ true → allInRange k (drop k a) ≡ allInRange (k + 1) (drop (k + 1) a)
-  all-go z = rw (drop-cons a k 0 h, add-one, z)
+-- ---- the number of a refusal
 
-  pub all-stop : inRange k (getD a k 0) ≡ false → allInRange k (drop k a) ≡ false
-  all-stop z = rw (drop-cons a k 0 h, z)
+module _ (fault sum : ℕ) where
+  pub refused-range : (fault ≡ CODES → ⊥) → 5 ≡ refusalBy (eqb fault CODES) (totalFits sum)
+  refused-range f = rw (ne-eqb fault CODES f)
 
-module _ (k : ℕ) (a : List ℕ) (h : length a ≤ k) where
-  pub all-end : allInRange k (drop k a) ≡ true
-  all-end = rw drop-of-length-le
+  pub refused-low : fault ≡ CODES → sum < 999900 → 6 ≡ refusalBy (eqb fault CODES) (totalFits sum)
+  unfolding totalFits
+  refused-low f h = simp (eq-eqb fault CODES f, lt-leb 999900 sum h)
 
-pub fits-low : (t : ℕ) → t < 999900 → totalFits t ≡ false
-unfolding totalFits
-fits-low t h = simp (lt-leb _ _ h)
+  pub refused-not : fault ≡ CODES → 999900 ≤ sum → sum ≤ 1000100 → 0 ≡ refusalBy (eqb fault CODES) (totalFits sum)
+  unfolding totalFits
+  refused-not f h l = simp (eq-eqb fault CODES f, le-leb 999900 sum h, le-leb sum 1000100 l)
 
-pub fits-high : (t : ℕ) → 999900 ≤ t → totalFits t ≡ leb t 1000100
-unfolding totalFits
-fits-high t h = simp (le-leb _ _ h)
+  pub refused-high : fault ≡ CODES → 999900 ≤ sum → 1000100 < sum → 6 ≡ refusalBy (eqb fault CODES) (totalFits sum)
+  unfolding totalFits
+  refused-high f h l = simp (eq-eqb fault CODES f, le-leb 999900 sum h, lt-leb sum 1000100 l)
+
+-- ---- the answer with a number
+
+module _ (n m fault : ℕ) (e : n ≡ m) where
+  pub answer-none : n ≡ 0 → InRange ≡ answerOf m fault
+  answer-none z = rw (eq-eqb m 0 (sym e ∙ z))
+
+  pub answer-range : n ≡ 5 → Refused n fault ≡ answerOf m fault
+  answer-range z = rw (sym e ∙ z, z)
+
+  pub answer-total : (n ≡ 0 → ⊥) → (n ≡ 5 → ⊥) → Refused n 0 ≡ answerOf m fault
+  answer-total z w = rw (sym e) (rw (ne-eqb n 0 z, ne-eqb n 5 w))
+
+-- ---- the walk from the last code to the first
+
+-- what is found from `code` on: the lowest code at fault, CODES where there is none, and the sum
+pub record Walked (a : List ℕ) (fault sum code : ℕ) : Type 0 where
+  pub long : length a ≡ CODES
+  pub most : code ≤ CODES
+  pub within : fault ≤ CODES
+  pub ranges : eqb fault CODES ≡ allInRange code (drop code a)
+  pub at-fault : fault < CODES → AtFault a fault
+  pub total : sum ≡ totalOf (drop code a)
+  pub small : sum ≤ (CODES - code) * 4294967295
+
+pub walk-none : (a : List ℕ) → length a ≡ CODES → Walked a CODES 0 CODES
+walk-none a l =
+    record {
+      long = l;
+      most = omega arith;
+      within = omega arith;
+      ranges = rw (drop-of-length-le a {i = CODES} (omega arith));
+      at-fault = λ h. absurd (omega arith);
+      total = rw (drop-of-length-le a {i = CODES} (omega arith));
+      small = omega arith;
+    }
+
+module _ (a : List ℕ) (fault sum code next : ℕ) (w : Walked a fault sum code) (h : 0 < code) (s : (next ≡ sum + getD a (code - 1) 0) × (next ≤ sum + 4294967295)) where
+  go-total : (k : ℕ) → code ≡ suc k → next ≡ sum + getD a k 0 → next ≡ totalOf (drop k a)
+  go-total k e f = rw (drop-cons a k 0 (omega (arith, w .long, w .most))) (omega (arith, w .total, ap (λ n. totalOf (drop n a)) e))
+
+  go-total-here : next ≡ totalOf (drop (code - 1) a)
+  go-total-here = go-total (code - 1) (omega arith) (s .0)
+
+  all-next : (k : ℕ) (b : Bool) → code ≡ suc k → inRange k (getD a k 0) ≡ b → allInRange k (drop k a) ≡ elim b [ true ↦ allInRange code (drop code a) | false ↦ false ]
+  all-next k true e f = rw (drop-cons a k 0 (omega (arith, w .long, w .most)), f, e)
+  all-next k false e f = rw (drop-cons a k 0 (omega (arith, w .long, w .most)), f)
+
+  pub walk-next : (found : ℕ) → found ≡ ifElse (inRange (code - 1) (getD a (code - 1) 0)) fault (code - 1) → Walked a found next (code - 1)
+  walk-next found e = go (inRange (code - 1) (getD a (code - 1) 0)) refl e
+    where
+      go : (b : Bool) → inRange (code - 1) (getD a (code - 1) 0) ≡ b → found ≡ ifElse b fault (code - 1) → Walked a found next (code - 1)
+      go true f g =
+          rw g
+          (record {
+            long = w .long;
+            most = omega (arith, w .most);
+            within = w .within;
+            ranges = w .ranges ∙ sym (all-next (code - 1) true (omega arith) f);
+            at-fault = w .at-fault;
+            total = go-total-here;
+            small = omega (arith, w .small, w .most, s .1);
+          })
+      go false f g =
+          rw g
+          (record {
+            long = w .long;
+            most = omega (arith, w .most);
+            within = omega (arith, w .most);
+            ranges = ne-eqb (code - 1) CODES (λ z. omega (arith, w .most)) ∙ sym (all-next (code - 1) false (omega arith) f);
+            at-fault = λ _. f;
+            total = go-total-here;
+            small = omega (arith, w .small, w .most, s .1);
+          })
+
+-- ---- the check
 
 five : (t u : Bool) → refusalBy t u ≡ 5 → t ≡ false
 five false u h = refl
 five true true h = absurd (omega arith)
 five true false h = absurd (omega arith)
 
-six : (t u : Bool) → (refusalBy t u ≡ 0 → ⊥) → (refusalBy t u ≡ 5 → ⊥) → refusalBy t u ≡ 6
-six false u n m = absurd (m refl)
-six true true n m = absurd (n refl)
-six true false n m = refl
+own-code : (r : Checked) (n fault : ℕ) (b c : Bool) → eqb n 0 ≡ b → eqb n 5 ≡ c → r ≡ answerOf n fault → r ≡ answerOf n (codeOf r)
+own-code r n fault true c p q e = rw p (rw p at e)
+own-code r n fault false true p q e =
+    let f : r ≡ Refused n fault = rw (p, q) at e in
+    rw (p, q) (f ∙ ap (Refused n) (sym (ap codeOf f)))
+own-code r n fault false false p q e = rw (p, q) (rw (p, q) at e)
 
--- the number that the code finds is that of the analysis, and the answers with it
-module _ (a : List ℕ) (code : ℕ) (f : Fault a code) (fits : Bool) (e : fits ≡ totalFits (totalOf a)) (n : ℕ) (r : n ≡ refusalBy (eqb code CODES) fits) where
-  number : n ≡ refusalOf a
+module _ (a : List ℕ) (fault sum code : ℕ) (r : Checked) (z : code ≤ 0) (w : Walked a fault sum code) (e : r ≡ answerOf (refusalBy (eqb fault CODES) (totalFits sum)) fault) where
+  found : Fault a fault
+  found =
+      let y : code ≡ 0 = omega arith in
+      record { within = w .within; ranges = rw y at (w .ranges); fault = w .at-fault }
+
+  number : refusalBy (eqb fault CODES) (totalFits sum) ≡ refusalOf a
   unfolding refusalOf
-  number = r ∙ rw (f .ranges, e)
+  number =
+      let y : code ≡ 0 = omega arith in
+      rw (found .ranges, rw y at (w .total))
 
-  pub answer-none : n ≡ 0 → Checking a InRange
-  answer-none z = let d : refusalOf a ≡ 0 = sym number ∙ z in record { answer = rw d; code = λ h. absurd (omega arith) }
-
-  pub answer-range : n ≡ 5 → Checking a (Refused n code)
-  answer-range z =
-      let d : refusalOf a ≡ 5 = sym number ∙ z in
-      let g : code < CODES = let x = eqb-false code CODES (five (eqb code CODES) fits (sym r ∙ z)) in let y = f .within in omega (arith, x) in
-      record { answer = rw (z, d); code = λ _. f .fault g }
-
-  pub answer-total : (n ≡ 0 → ⊥) → (n ≡ 5 → ⊥) → Checking a (Refused n 0)
-  answer-total z w =
-      let s : n ≡ 6 = r ∙ six (eqb code CODES) fits (λ y. z (r ∙ y)) (λ y. w (r ∙ y)) in
-      let d : refusalOf a ≡ 6 = sym number ∙ s in
-      record { answer = rw (s, d); code = λ h. absurd (omega arith) }
+  pub checking : Checking a r
+  checking =
+      let f : r ≡ answerOf (refusalOf a) fault = e ∙ ap (λ n. answerOf n fault) number in
+      record {
+        answer = own-code r (refusalOf a) fault (eqb (refusalOf a) 0) (eqb (refusalOf a) 5) refl refl f;
+        code = λ h.
+            let g : fault < CODES = let x = eqb-false fault CODES (five (eqb fault CODES) (totalFits sum) (number ∙ h)) in let y = found .within in omega (arith, x) in
+            let d : codeOf r ≡ fault = ap codeOf (rw h at f) in
+            rw d (found .fault g);
+      }

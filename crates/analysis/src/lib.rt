@@ -2,8 +2,10 @@
 // No public function has a `requires`.
 ghost use mathlib.Core.Path.{_≡_};
 ghost use Prim.Native.Nat.{ℕ, _+_, _<_, _≤_};
-ghost use Rattle.analysis.specs.Register.{CODES};
-ghost use Rattle.analysis.specs.Check.{inRange, totalOf, totalFits, refusalBy, refusalOf, answerOf, codeOf, AtFault, Fault};
+ghost use lib.Dec.{eqb};
+ghost use Rattle.analysis.specs.Register.{CODES, ifElse};
+ghost use Rattle.analysis.specs.Packed.{rangeOf};
+ghost use Rattle.analysis.specs.Check.{inRange, totalFits, refusalBy, refusalOf, answerOf, codeOf, AtFault};
 
 // Indices of an analysis: the codes 1 to 13, and 0, which is no code.
 pub const CODES: usize = 14;
@@ -19,56 +21,37 @@ pub enum Checked {
     Refused { number: u32, code: u32 },
 }
 
-// Least and greatest amount of each code; one that may have no amount has the least 1 and the greatest 0.
-const LEAST: [u32; CODES] = [1, 400000, 100, 100, 10, 10, 10, 10, 10, 1, 10, 50, 50, 1];
+// The range of each code in one number: the greatest amount times this, and the least amount.
+const ABOVE: u64 = 4294967296;
 
-const GREATEST: [u32; CODES] = [
-    0,
-    999700,
-    150000,
-    60000,
-    40000,
-    40000,
-    500,
-    20000,
-    20000,
-    0,
-    15000,
-    100000,
-    150000,
-    0,
+// The ranges by code; one that may have no amount has the least 1 and the greatest 0.
+const RANGES: [u64; CODES] = [
+    1,
+    999700 * ABOVE + 400000,
+    150000 * ABOVE + 100,
+    60000 * ABOVE + 100,
+    40000 * ABOVE + 10,
+    40000 * ABOVE + 10,
+    500 * ABOVE + 10,
+    20000 * ABOVE + 10,
+    20000 * ABOVE + 10,
+    1,
+    15000 * ABOVE + 10,
+    100000 * ABOVE + 50,
+    150000 * ABOVE + 50,
+    1,
 ];
 
-// 1 where the code may not be absent.
-const REQUIRED: [u8; CODES] = [0, 1, 1, 1, 1, 1, 0, 0, 0, 0, 0, 0, 0, 0];
-
-// Is the amount in the code's range? 0 is, where the code may be absent.
-fn in_range(code: usize, amount: u32) -> bool
-    requires { ⌜ code < CODES ⌝ }
-    ensures { λ r. ⌜ r ≡ inRange code amount ⌝ }
+// The code where its amount is out of its range, else the code at fault so far. 0 is in range where the code may be absent:
+// all but 1 to 5.
+fn fault_at(code: usize, amount: u32, range: u64, fault: usize) -> usize
+    requires { ⌜ (code < CODES) × (range ≡ rangeOf code) ⌝ }
+    ensures { λ r. ⌜ r ≡ ifElse (inRange code amount) fault code ⌝ }
 {
-    if amount == 0 {
-        return REQUIRED[code] == 0;
-    }
-    if LEAST[code] <= amount {
-        return amount <= GREATEST[code];
-    }
-    false
-}
-
-// The lowest code at fault, or CODES where there is none.
-fn first_fault(amounts: [u32; CODES]) -> usize
-    ensures { λ r. ⌜ Fault amounts r ⌝ }
-{
-    let mut code: usize = 0;
-    while code < CODES {
-        let fits = in_range(code, amounts[code]);
-        if !fits {
-            return code;
-        }
-        code += 1;
-    }
-    code
+    let x = amount as u64;
+    let absent = (x == 0) & ((code == 0) | (5 < code));
+    let fits = absent | ((range % ABOVE <= x) & (x <= range / ABOVE));
+    if fits { fault } else { code }
 }
 
 // One amount more: 14 of them stay far below the greatest u64.
@@ -79,60 +62,56 @@ fn plus(sum: u64, amount: u32) -> u64
     sum + amount as u64
 }
 
-// The amounts added as whole numbers.
-fn total(amounts: [u32; CODES]) -> u64
-    ensures { λ r. ⌜ r ≡ totalOf amounts ⌝ }
+// 5 where a code is at fault, then 6 where the total is out of its range, else 0.
+fn refusal(fault: usize, sum: u64) -> u32
+    ensures { λ r. ⌜ r ≡ refusalBy (eqb fault CODES) (totalFits sum) ⌝ }
 {
-    let mut sum: u64 = 0;
-    let mut code: usize = 0;
-    while code < CODES {
-        sum = plus(sum, amounts[code]);
-        code += 1;
-    }
-    sum
-}
-
-// Is the total in its range?
-fn total_fits(sum: u64) -> bool
-    ensures { λ r. ⌜ r ≡ totalFits sum ⌝ }
-{
-    if sum < 999900 {
-        return false;
-    }
-    sum <= 1000100
-}
-
-// 5 where an amount is out of its range, then 6 where the total is, else 0.
-fn refusal(ranges: bool, total: bool) -> u32
-    ensures { λ r. ⌜ r ≡ refusalBy ranges total ⌝ }
-{
-    if !ranges {
+    if fault != CODES {
         return 5;
     }
-    if !total {
+    if sum < 999900 {
         return 6;
     }
-    0
+    if sum <= 1000100 {
+        return 0;
+    }
+    6
 }
 
-// Is the analysis in range, or with which number is it refused?
-pub fn check(a: Analysis) -> Checked
-    ensures { λ r. ⌜ r ≡ answerOf (refusalOf (a .amounts)) (codeOf r) ⌝ }
-    ensures { λ r. ⌜ (refusalOf (a .amounts) ≡ 5 → AtFault (a .amounts) (codeOf r)) ⌝ }
+// The answer: 5 carries the code at fault, 6 none.
+fn answer(fault: usize, sum: u64) -> Checked
+    requires { ⌜ fault ≤ CODES ⌝ }
+    ensures { λ r. ⌜ r ≡ answerOf (refusalBy (eqb fault CODES) (totalFits sum)) fault ⌝ }
 {
-    let amounts = a.amounts;
-    let code = first_fault(amounts);
-    let sum = total(amounts);
-    let fits = total_fits(sum);
-    let number = refusal(code == CODES, fits);
+    let number = refusal(fault, sum);
     if number == 0 {
         return Checked::InRange;
     }
     if number == 5 {
         return Checked::Refused {
             number,
-            code: code as u32,
+            code: fault as u32,
         };
     }
     Checked::Refused { number, code: 0 }
+}
+
+// Is the analysis in range, or with which number is it refused? One walk from the last code to the first finds the
+// lowest code at fault, CODES where there is none, and the total.
+pub fn check(a: Analysis) -> Checked
+    ensures { λ r. ⌜ r ≡ answerOf (refusalOf (a .amounts)) (codeOf r) ⌝ }
+    ensures { λ r. ⌜ (refusalOf (a .amounts) ≡ 5 → AtFault (a .amounts) (codeOf r)) ⌝ }
+{
+    let amounts = a.amounts;
+    let ranges = RANGES;
+    let mut fault: usize = CODES;
+    let mut sum: u64 = 0;
+    let mut code: usize = CODES;
+    while 0 < code {
+        code -= 1;
+        let amount = amounts[code];
+        sum = plus(sum, amount);
+        fault = fault_at(code, amount, ranges[code], fault);
+    }
+    answer(fault, sum)
 }

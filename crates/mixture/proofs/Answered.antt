@@ -1,6 +1,6 @@
--- From the check's answer to the answers of simplification and of the inert mixture. Assumes nothing.
-use Prim.Native.Nat.{ℕ, _-_}
-use mathlib.Core.Path.{_≡_, refl, sym, ap, _∙_}
+-- From the check's answer to the answer of simplification. Assumes nothing.
+use Prim.Native.Nat.{ℕ}
+use mathlib.Core.Path.{_≡_, refl, sym, _∙_, subst}
 use mathlib.Core.List.{List}
 use mathlib.Core.Bool.{Bool, true, false}
 use native.Mathlib.Omega.{arith}
@@ -11,12 +11,9 @@ use Rattle.analysis.specs.Register.{ifElse}
 use Rattle.analysis.specs.Check.{refusalOf, answerOf, codeOf, Checking}
 use Rattle.analysis.specs.declared.Checked.{Checked}
 use Rattle.analysis.specs.declared.Checked.the-variants.{InRange, Refused}
-use Rattle.mixture.specs.Scaling.{WHOLE, scaledOf}
-use Rattle.mixture.specs.Simplification.{COMPONENTS, tenthsOf}
-use Rattle.mixture.specs.declared.InertMixture.the-variants.{Amounts}
-use Rattle.mixture.specs.declared.InertMixture.the-variants as inert
-use Rattle.mixture.specs.Inert.{inertFirst, inertSecond}
-use Rattle.mixture.specs.Answers.{mixtureOf, InertAnswer}
+use Rattle.mixture.specs.Simplification.{COMPONENTS, simplifiedOf}
+use Rattle.mixture.specs.Inert.{inertFirst}
+use Rattle.mixture.specs.Answers.{mixtureOf, inertN1}
 
 pub refusal-none : (a : List ℕ) (r : Checked) → Checking a r → r ≡ InRange → refusalOf a ≡ 0
 refusal-none a r h e = go (refusalOf a) (codeOf r) (eqb (refusalOf a) 0) refl (sym (h .answer) ∙ e)
@@ -37,28 +34,20 @@ refusal-some a r number code h e = go (refusalOf a) (codeOf r) (eqb (refusalOf a
         cc
     go n k false q f = refl
 
--- the mixture beside an answer
-pub mixture-in-range : (a x m : List ℕ) → refusalOf a ≡ 0 → x ≡ tenthsOf a → m ≡ scaledOf x → m ≡ mixtureOf a
-mixture-in-range a x m h e f = rw (eq-eqb (refusalOf a) 0 h) (f ∙ ap scaledOf e)
+-- the check's promise of an equal answer
+pub same-answer : (a : List ℕ) (x y : Checked) → Checking a x → y ≡ x → Checking a y
+same-answer a x y h e = subst (Checking a) (sym e) h
 
-pub mixture-refused : (a : List ℕ) → eqb (refusalOf a) 0 ≡ false → replicate COMPONENTS 0 ≡ mixtureOf a
-mixture-refused a h = rw h
+-- the mixture and n1 beside an answer
+module _ (a : List ℕ) where
+  pub mixture-in-range : refusalOf a ≡ 0 → (m : List ℕ) → m ≡ simplifiedOf a → m ≡ mixtureOf a
+  mixture-in-range h m e = rw (eq-eqb (refusalOf a) 0 h) e
 
--- the answer of the inert mixture
-pub inert-in-range : (a : List ℕ) (n1 n2 : ℕ) → refusalOf a ≡ 0 → n1 ≡ inertFirst a → n2 ≡ WHOLE - n1 → InertAnswer a (Amounts n1 n2 0)
-inert-in-range a n1 n2 h e f =
-    record {
-      answer = rw (eq-eqb (refusalOf a) 0 h) (let g : n2 ≡ inertSecond a = omega arith in cc);
-      code = λ q. absurd (omega arith);
-    }
+  pub inert-in-range : refusalOf a ≡ 0 → (n1 : ℕ) → n1 ≡ inertFirst a → n1 ≡ inertN1 a
+  inert-in-range h n1 e = rw (eq-eqb (refusalOf a) 0 h) e
 
-pub inert-refused : (a : List ℕ) (r : Checked) (number code : ℕ) → Checking a r → r ≡ Refused number code
-    → InertAnswer a (inert.Refused number code)
-inert-refused a r number code h e =
-    let n = refusal-some a r number code h e in
-    let c : codeOf r ≡ code = ap codeOf e in
-    let f : Refused number code ≡ Refused (refusalOf a) (ifElse (eqb (refusalOf a) 5) code 0) = sym e ∙ h .answer ∙ rw (n, c) refl in
-    record {
-      answer = rw n (cc);
-      code = λ q. rw c at (h .code q);
-    }
+  pub mixture-refused : eqb (refusalOf a) 0 ≡ false → (m : List ℕ) → m ≡ replicate COMPONENTS 0 → m ≡ mixtureOf a
+  mixture-refused h m e = rw h e
+
+  pub inert-refused : eqb (refusalOf a) 0 ≡ false → (n1 : ℕ) → n1 ≡ 0 → n1 ≡ inertN1 a
+  inert-refused h n1 e = rw h e

@@ -1,24 +1,27 @@
 -- What the loops over an array add: sums of its first elements, lists filled element by element. Assumes nothing.
-use Prim.Native.Nat.{ℕ, zero, suc, _+_, _-_, _≤_, _<_}
+use Prim.Native.Nat.{ℕ, zero, suc, _+_, _*_, _-_, _≤_, _<_}
 use mathlib.Core.Path.{_≡_, refl, sym, ap, _∙_}
 use mathlib.Core.List.{List, [], _∷_, map}
 use mathlib.Core.Bool.{Bool, true, false}
-use native.Mathlib.Nat.{not-suc-le-zero, div-le-of-le-mul}
+use native.Mathlib.Nat.{not-suc-le-zero, div-le-of-le-mul, div-add-mod', mul-le-mul-left}
 use native.Mathlib.Numerals.{add-one}
 use native.Mathlib.Omega.{arith}
 use lib.Dec.{eqb, ltb}
 use lib.ListN.{getD, set, take, length, length-set, length-map}
 use lib.Seq.{take-all, ext-getD, getD-set-same, getD-set-other}
-use borrow.Author.Tests.{eqb-true, eqb-false, lt-ltb, le-ltb}
+use borrow.Author.Tests.{eqb-true, eqb-false, ne-eqb, lt-ltb, le-ltb}
+use Rattle.analysis.specs.Register.{ifElse}
 use Rattle.analysis.specs.Check.{totalOf}
-use Rattle.mixture.specs.Scaling.{WHOLE, quotientOf, quotientsOf, remaindersOf, missingOf, greatestTo, greatestPlace, distributed, scaledOf}
+use Rattle.mixture.specs.Scaling.{WHOLE, quotientOf, remainderOf, quotientsOf, remaindersOf, missingOf, greatestTo, greatestPlace, distributed, scaledOf}
 use Rattle.mixture.specs.Share.{getD-map}
 use Rattle.mixture.specs.Total.{sum-set, quotients-whole}
+use Rattle.mixture.specs.Simplification.{COMPONENTS, butaneOf, tenthsOf}
+use Rattle.mixture.specs.Factor.{factorOf}
 use Rattle.mixture.specs.Limits.{LIMIT, Limited}
 
 -- ---- amounts up to the limit
 
-pub limited-four : (w x y z : ℕ) → w ≤ LIMIT → x ≤ LIMIT → y ≤ LIMIT → z ≤ LIMIT → Limited (w ∷ x ∷ y ∷ z ∷ [])
+limited-four : (w x y z : ℕ) → w ≤ LIMIT → x ≤ LIMIT → y ≤ LIMIT → z ≤ LIMIT → Limited (w ∷ x ∷ y ∷ z ∷ [])
 limited-four w x y z hw hx hy hz = record { long = refl; small = at }
   where
     at : (i : ℕ) → getD (w ∷ x ∷ y ∷ z ∷ []) i 0 ≤ LIMIT
@@ -27,6 +30,68 @@ limited-four w x y z hw hx hy hz = record { long = refl; small = at }
     at (suc (suc zero)) = hy
     at (suc (suc (suc zero))) = hz
     at (suc (suc (suc (suc i)))) = omega arith
+
+-- the four components, one by one
+pub tenths-four : (a : List ℕ) (w x y z : ℕ) → (w ≡ 10 * getD a 1 0) × (w ≤ 42949672950) → (x ≡ 10 * getD a 2 0) × (x ≤ 42949672950)
+    → (y ≡ 10 * getD a 3 0) × (y ≤ 42949672950) → (z ≡ butaneOf a) × (z ≤ LIMIT)
+    → ((w ∷ x ∷ y ∷ z ∷ []) ≡ tenthsOf a) × Limited (w ∷ x ∷ y ∷ z ∷ [])
+unfolding tenthsOf
+tenths-four a w x y z hw hx hy hz =
+    (rw (hw .0, hx .0, hy .0, hz .0), limited-four w x y z (omega (arith, hw .1)) (omega (arith, hx .1)) (omega (arith, hy .1)) (hz .1))
+
+-- ---- factors
+
+pub weighted-small : (f x : ℕ) → x ≤ 4294967295 → f * x ≤ f * 4294967295
+weighted-small f x h = mul-le-mul-left f h
+
+module _ (code : ℕ) where
+  pub factor-butanes : code < 6 → 10 ≡ factorOf code
+  factor-butanes h = rw (lt-ltb code 6 h)
+
+  pub factor-pentanes : 6 ≤ code → code < 9 → 23 ≡ factorOf code
+  factor-pentanes l h = rw (le-ltb code 6 l, lt-ltb code 9 h)
+
+  pub factor-hexanes : 9 ≤ code → code ≡ 10 → 53 ≡ factorOf code
+  factor-hexanes l h = rw h
+
+  pub factor-none : 9 ≤ code → (code ≡ 10 → ⊥) → 0 ≡ factorOf code
+  factor-none l h = rw (le-ltb code 6 (omega arith), le-ltb code 9 l, ne-eqb code 10 h)
+
+-- butane of the codes from 4 to below `code`, and the sum of their factors
+abbrev pub butaneTo : List ℕ → ℕ → ℕ
+butaneTo a zero = 0
+butaneTo a (suc k) = butaneTo a k + ifElse (ltb k 4) 0 (factorOf k * getD a k 0)
+
+abbrev pub factorsTo : ℕ → ℕ
+factorsTo zero = 0
+factorsTo (suc k) = factorsTo k + ifElse (ltb k 4) 0 (factorOf k)
+
+pub record Butane (a : List ℕ) (t code : ℕ) : Type 0 where
+  pub first : 4 ≤ code
+  pub last : code ≤ 11
+  pub same : t ≡ butaneTo a code
+  pub small : t ≤ factorsTo code * 4294967295
+  pub few : factorsTo code ≤ code * 53
+
+pub butane-none : (a : List ℕ) → Butane a 0 4
+butane-none a = record { first = omega arith; last = omega arith; same = refl; small = omega arith; few = omega arith }
+
+pub butane-next : (a : List ℕ) (code t f w : ℕ) → code < 11 → (f ≡ factorOf code) × (f ≤ 53) → (w ≡ f * getD a code 0) × (w ≤ f * 4294967295) → Butane a t code → Butane a (t + w) (code + 1)
+butane-next a code t f w h g d b =
+    record {
+      first = omega (arith, b .first);
+      last = omega arith;
+      same = rw (add-one code) (rw (le-ltb code 4 (b .first)) (let e = b .same in let k = d .0 in let l = g .0 in cc));
+      small = rw (add-one code) (rw (le-ltb code 4 (b .first), ← g .0) (omega (arith, b .small, d .1)));
+      few = rw (add-one code) (rw (le-ltb code 4 (b .first), ← g .0) (omega (arith, b .few, g .1)));
+    }
+
+pub butane-all : (a : List ℕ) (code t : ℕ) → 11 ≤ code → Butane a t code → (t ≡ butaneOf a) × (t ≤ LIMIT)
+butane-all a code t h b =
+    let e : code ≡ 11 = omega (arith, b .last) in
+    let g : t ≡ butaneTo a 11 = rw e at (b .same) in
+    let k : t ≤ factorsTo 11 * 4294967295 = rw e at (b .small) in
+    (omega arith, omega arith)
 
 -- ---- the sum of the first elements
 
@@ -87,35 +152,108 @@ fill-map n f xs l i e h w =
     ext-getD 0 l (map f xs) (w .size ∙ sym e ∙ sym (length-map xs f))
     (λ k m. w .there k (omega (arith, w .size)) ∙ sym (getD-map f xs k (omega (arith, w .size))))
 
--- ---- quotients
+-- ---- quotients and remainders
 
 pub quotient-small : (x t : ℕ) → x ≤ t → quotientOf t x ≤ WHOLE
 quotient-small x t h = div-le-of-le-mul t (omega arith)
 
--- those of amounts that are not all 0 add up to no more than the whole
-pub quotients-fit : (xs q : List ℕ) (t n : ℕ) → length xs ≡ n → 0 < totalOf xs → t ≡ totalOf xs → q ≡ quotientsOf xs t
-    → (length q ≡ n) × (totalOf q ≤ WHOLE)
-quotients-fit xs q t n l h e f =
-    let g : q ≡ quotientsOf xs (totalOf xs) = f ∙ ap (quotientsOf xs) e in
-    rw g (length-map xs (quotientOf (totalOf xs)) ∙ l, quotients-whole xs h)
+pub rest-left : (x t q : ℕ) → q ≡ quotientOf t x → q * t + remainderOf t x ≡ WHOLE * x
+rest-left x t q e = rw e (div-add-mod' (WHOLE * x) t)
+
+-- the first i quotients and remainders of amounts whose sum is t, and the parts of the whole that are left
+pub record Shared (t : ℕ) (xs q r : List ℕ) (m i : ℕ) : Type 0 where
+  pub quotients : Filled COMPONENTS (λ k. quotientOf t (getD xs k 0)) q i
+  pub remainders : Filled COMPONENTS (λ k. remainderOf t (getD xs k 0)) r i
+  pub left : m + totalOf (take i (quotientsOf xs t)) ≡ WHOLE
+
+pub shared-none : (t : ℕ) (xs : List ℕ) → Shared t xs (0 ∷ 0 ∷ 0 ∷ 0 ∷ []) (0 ∷ 0 ∷ 0 ∷ 0 ∷ []) WHOLE 0
+shared-none t xs =
+    record {
+      quotients = record { size = refl; most = omega arith; there = λ k h. absurd (omega arith) };
+      remainders = record { size = refl; most = omega arith; there = λ k h. absurd (omega arith) };
+      left = refl;
+    }
+
+module _ (t : ℕ) (xs q r : List ℕ) (m i : ℕ) (l : Limited xs) (e : t ≡ totalOf xs) (p : 0 < t) (w : Shared t xs q r m i) where
+  fits : totalOf (quotientsOf xs t) ≤ WHOLE
+  fits = rw e (quotients-whole xs (rw e at p))
+
+  long : length (quotientsOf xs t) ≡ COMPONENTS
+  long = length-map xs (quotientOf t) ∙ l .long
+
+  module _ (h : i < COMPONENTS) (share : ℕ) (f : share ≡ quotientOf t (getD xs i 0)) where
+    part : (share ≤ m) × (m - share + totalOf (take (i + 1) (quotientsOf xs t)) ≡ WHOLE)
+    part =
+        let g : getD (quotientsOf xs t) i 0 ≡ share = getD-map (quotientOf t) xs i (omega (arith, l .long)) ∙ sym f in
+        rw g at (left-next (quotientsOf xs t) i m WHOLE (omega (arith, long)) fits (w .left))
+
+    pub share-left : share ≤ m
+    share-left = part .0
+
+    pub shared-next : (rest : ℕ) → rest ≡ remainderOf t (getD xs i 0) → Shared t xs (set q i share) (set r i rest) (m - share) (i + 1)
+    shared-next rest g =
+        record {
+          quotients = fill-next COMPONENTS _ q i share h f (w .quotients);
+          remainders = fill-next COMPONENTS _ r i rest h g (w .remainders);
+          left = part .1;
+        }
+
+  module _ (h : COMPONENTS ≤ i) where
+    all-quotients : q ≡ quotientsOf xs t
+    all-quotients = fill-map COMPONENTS (quotientOf t) xs q i (l .long) h (w .quotients)
+
+    all-remainders : r ≡ remaindersOf xs t
+    all-remainders = fill-map COMPONENTS (remainderOf t) xs r i (l .long) h (w .remainders)
+
+    all-left : m ≡ missingOf (quotientsOf xs t)
+    all-left = left-all (quotientsOf xs t) i m WHOLE (omega (arith, long)) (w .left)
+
+    pub shared-fits : (length q ≡ COMPONENTS) × (length r ≡ COMPONENTS) × (totalOf q + m ≤ WHOLE)
+    shared-fits = (w .quotients .size, w .remainders .size, omega (arith, ap totalOf all-quotients, all-left, fits))
+
+    -- the mixture, the missing parts given out
+    pub shared-all : (s : List ℕ) → s ≡ distributed m q r → s ≡ scaledOf xs
+    unfolding scaledOf
+    shared-all s f = cc (all-quotients, all-remainders, all-left)
 
 -- ---- the greatest of the first elements
 
-pub greatest-none : (rs : List ℕ) → 0 ≡ greatestTo rs 0
-unfolding greatestTo
-greatest-none rs = refl
+-- p is the place of the greatest of the first i, and v stands there
+pub record Greatest (rs : List ℕ) (p v i : ℕ) : Type 0 where
+  pub some : 0 < i
+  pub most : i ≤ COMPONENTS
+  pub place : p ≡ greatestTo rs i
+  pub below : p < COMPONENTS
+  pub value : v ≡ getD rs p 0
 
-pub greatest-here : (rs : List ℕ) (i p : ℕ) → p ≡ greatestTo rs i → getD rs p 0 < getD rs i 0 → i ≡ greatestTo rs (i + 1)
+pub greatest-one : (rs : List ℕ) → Greatest rs 0 (getD rs 0 0) 1
 unfolding greatestTo
-greatest-here rs i p e h =
-    let t : ltb (getD rs (greatestTo rs i) 0) (getD rs i 0) ≡ true = lt-ltb (getD rs (greatestTo rs i) 0) (getD rs i 0) (rw e at h) in
-    rw (add-one i) (rw (t, greatestTo))
+greatest-one rs = record { some = omega arith; most = omega arith; place = first; below = omega arith; value = refl }
+  where
+    first : 0 ≡ greatestTo rs 1
+    first = rw (le-ltb (getD rs 0 0) (getD rs 0 0) (omega arith), greatestTo)
 
-pub greatest-there : (rs : List ℕ) (i p : ℕ) → p ≡ greatestTo rs i → getD rs i 0 ≤ getD rs p 0 → p ≡ greatestTo rs (i + 1)
-unfolding greatestTo
-greatest-there rs i p e h =
-    let t : ltb (getD rs (greatestTo rs i) 0) (getD rs i 0) ≡ false = le-ltb (getD rs (greatestTo rs i) 0) (getD rs i 0) (rw e at h) in
-    rw (add-one i) (rw (t, greatestTo) e)
+pub greatest-same : (rs : List ℕ) (p q v u i : ℕ) → p ≡ q → v ≡ u → Greatest rs q u i → Greatest rs p v i
+greatest-same rs p q v u i e f g = rw (e, f) g
+
+module _ (rs : List ℕ) (p v i : ℕ) (h : i < COMPONENTS) (g : Greatest rs p v i) where
+  pub greatest-here : v < getD rs i 0 → Greatest rs i (getD rs i 0) (i + 1)
+  unfolding greatestTo
+  greatest-here l = record { some = omega arith; most = omega arith; place = here; below = h; value = refl }
+    where
+      here : i ≡ greatestTo rs (i + 1)
+      here =
+          let t : ltb (getD rs (greatestTo rs i) 0) (getD rs i 0) ≡ true = lt-ltb (getD rs (greatestTo rs i) 0) (getD rs i 0) (rw (g .value, g .place) at l) in
+          rw (add-one i) (rw (t, greatestTo))
+
+  pub greatest-there : getD rs i 0 ≤ v → Greatest rs p v (i + 1)
+  unfolding greatestTo
+  greatest-there l = record { some = omega arith; most = omega arith; place = there; below = g .below; value = g .value }
+    where
+      there : p ≡ greatestTo rs (i + 1)
+      there =
+          let t : ltb (getD rs (greatestTo rs i) 0) (getD rs i 0) ≡ false = le-ltb (getD rs (greatestTo rs i) 0) (getD rs i 0) (rw (g .value, g .place) at l) in
+          rw (add-one i) (rw (t, greatestTo) (g .place))
 
 -- ---- the missing parts
 
@@ -143,9 +281,3 @@ pub distributed-all : (m : ℕ) (q r : List ℕ) → m ≤ 0 → q ≡ distribut
 unfolding distributed
 distributed-all zero q r h = refl
 distributed-all (suc m) q r h = absurd (not-suc-le-zero h)
-
--- from the amounts to the mixture, step by step
-pub scaled-from : (xs q r s : List ℕ) (t m : ℕ) → t ≡ totalOf xs → q ≡ quotientsOf xs t → r ≡ remaindersOf xs t
-    → m ≡ missingOf q → s ≡ distributed m q r → s ≡ scaledOf xs
-unfolding scaledOf
-scaled-from xs q r s t m et eq er em es = cc

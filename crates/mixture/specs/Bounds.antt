@@ -11,7 +11,7 @@ use Rattle.analysis.specs.Check.{totalOf, greatestOf, refusalOf}
 use Rattle.analysis.specs.Ranges.{WithinRanges, within-ranges, total-sum, total-go, total-end}
 use Rattle.mixture.specs.Scaling.{WHOLE, quotientOf, remaindersOf}
 use Rattle.mixture.specs.Simplification.{COMPONENTS, amountOf, tenthsOf, tenthsTotal, simplifiedOf}
-use Rattle.mixture.specs.Inert.{methaneShare, inertFirst, inertSecond}
+use Rattle.mixture.specs.Inert.{methaneShare, inertFirst, inertSecond, inertOf}
 use Rattle.mixture.specs.Total.{scaled-length, scaled-sum}
 use Rattle.mixture.specs.Largest.{Before, largest-first}
 use Rattle.mixture.specs.Share.{NearShare, scaled-near, scaled-positive}
@@ -67,6 +67,10 @@ module _ (a : List ℕ) (p : 0 < tenthsTotal a) where
 
   pub inert-total : inertFirst a + inertSecond a ≡ WHOLE
   inert-total = let l = inert-greatest in omega arith
+
+  -- n1, n2 and n3 make a whole, for n3 is 0
+  pub inert-sum : totalOf (inertOf a) ≡ WHOLE
+  inert-sum = let l = inert-greatest in omega arith
 
 -- ---- an analysis in range
 

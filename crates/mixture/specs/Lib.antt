@@ -1,5 +1,6 @@
 pub mod Scaling
 pub mod Simplification
+pub mod Factor
 pub mod Inert
 pub mod Limits
 pub mod Answers

@@ -5,14 +5,15 @@ use analysis::CODES;
 use analysis::Checked;
 ghost use mathlib.Core.Path.{_≡_};
 ghost use Prim.Native.Nat.{ℕ, _+_, _*_, _<_, _≤_};
-ghost use lib.ListN.{getD, length};
+ghost use lib.ListN.{length, replicate};
 ghost use Rattle.analysis.specs.Check.{totalOf};
-ghost use Rattle.mixture.specs.Scaling.{WHOLE, quotientOf, remainderOf, quotientsOf, remaindersOf, missingOf, greatestPlace, distributed, scaledOf};
-ghost use Rattle.mixture.specs.Simplification.{COMPONENTS, butaneOf, tenthsOf, tenthsTotal};
+ghost use Rattle.mixture.specs.Scaling.{WHOLE, quotientOf, remainderOf, greatestPlace, distributed, scaledOf};
+ghost use Rattle.mixture.specs.Simplification.{COMPONENTS, butaneOf, tenthsOf, tenthsTotal, simplifiedOf};
 ghost use Rattle.mixture.specs.Limits.{LIMIT, Limited};
 ghost use Rattle.analysis.specs.Check.{refusalOf, answerOf, codeOf, AtFault};
-ghost use Rattle.mixture.specs.Answers.{mixtureOf, inertAnswer, inertCode};
+ghost use Rattle.mixture.specs.Answers.{mixtureOf, inertN1};
 ghost use Rattle.mixture.specs.Inert.{halvesUp, methaneShare, inertFirst};
+ghost use Rattle.mixture.specs.Factor.{factorOf};
 
 // Methane, ethane, propane, butane.
 pub const COMPONENTS: usize = 4;
@@ -28,84 +29,106 @@ pub struct Mixture {
     pub amounts: [u32; COMPONENTS],
 }
 
-// The check's answer, and the mixture of an analysis in range; zeros beside a refusal.
+// The check's answer, and of an analysis in range the mixture and n1 of the inert mixture, of which n2 is the rest of
+// 1000000 and n3 is 0; zeros beside a refusal.
 pub struct Simplified {
     pub answer: Checked,
     pub mixture: Mixture,
+    pub inert: u32,
 }
 
-// The amounts at which system 20 is taken, or refused 5 with a code at fault, or 6 with code 0.
-pub enum InertMixture {
-    Amounts { n1: u32, n2: u32, n3: u32 },
-    Refused { number: u32, code: u32 },
-}
-
-// The simplified mixture of an analysis in range, else its refusal beside zeros.
+// The simplified mixture and the inert mixture of an analysis in range, else its refusal beside zeros. Nitrogen does not
+// enter.
 pub fn simplify(a: Analysis) -> Simplified
     ensures { λ r. ⌜ r .answer ≡ answerOf (refusalOf (a .amounts)) (codeOf (r .answer)) ⌝ }
     ensures { λ r. ⌜ (refusalOf (a .amounts) ≡ 5 → AtFault (a .amounts) (codeOf (r .answer))) ⌝ }
     ensures { λ r. ⌜ r .mixture .amounts ≡ mixtureOf (a .amounts) ⌝ }
+    ensures { λ r. ⌜ r .inert ≡ inertN1 (a .amounts) ⌝ }
 {
     let amounts = a.amounts;
     let answer = analysis::check(a);
     match answer {
-        Checked::InRange => {
-            let mixture = Mixture {
-                amounts: scale(tenths(&amounts)),
-            };
-            Simplified { answer, mixture }
-        }
-        Checked::Refused { number: _, code: _ } => {
-            let mixture = Mixture {
-                amounts: [0; COMPONENTS],
-            };
-            Simplified { answer, mixture }
-        }
+        Checked::InRange => in_range(&amounts),
+        Checked::Refused { number, code } => refused(number, code),
     }
 }
 
-// The inert mixture of an analysis in range, else its refusal. Nitrogen does not enter.
-pub fn inert(a: Analysis) -> InertMixture
-    ensures { λ r. ⌜ r ≡ inertAnswer (a .amounts) (inertCode r) ⌝ }
-    ensures { λ r. ⌜ (refusalOf (a .amounts) ≡ 5 → AtFault (a .amounts) (inertCode r)) ⌝ }
+// The mixtures of amounts whose T is not 0, beside the answer of an analysis in range.
+fn in_range(a: &[u32; CODES]) -> Simplified
+    requires { ⌜ 0 < tenthsTotal (now a) ⌝ }
+    ensures { λ r. ⌜ (r .answer ≡ Checked.InRange) × (r .mixture .amounts ≡ simplifiedOf (now (a .entry))) × (r .inert ≡ inertFirst (now (a .entry))) ⌝ }
 {
-    let amounts = a.amounts;
-    let answer = analysis::check(a);
-    match answer {
-        Checked::InRange => {
-            let n1 = inert_first(&amounts);
-            InertMixture::Amounts {
-                n1,
-                n2: WHOLE - n1,
-                n3: 0,
-            }
-        }
-        Checked::Refused { number, code } => InertMixture::Refused { number, code },
+    let x = tenths(a);
+    let total = sum(&x);
+    Simplified {
+        answer: Checked::InRange,
+        mixture: Mixture {
+            amounts: scale(x, total),
+        },
+        inert: methane_share(total, a[11]),
     }
 }
 
-// The same number, for sums and products.
-fn wide(x: u32) -> u64
-    ensures { λ r. ⌜ (r ≡ x) × (r < 4294967296) ⌝ }
+// A refusal, beside zeros.
+fn refused(number: u32, code: u32) -> Simplified
+    ensures { λ r. ⌜ (r .answer ≡ Checked.Refused number code) × (r .mixture .amounts ≡ replicate COMPONENTS 0) × (r .inert ≡ 0) ⌝ }
 {
-    x as u64
+    Simplified {
+        answer: Checked::Refused { number, code },
+        mixture: Mixture {
+            amounts: [0; COMPONENTS],
+        },
+        inert: 0,
+    }
 }
 
-// Butane in tenths of a part: butanes at 1, pentanes at 2.3, hexanes+ at 5.3.
+// An amount by a factor in tenths.
+fn weighted(x: u32, factor: u64) -> u64
+    requires { ⌜ factor ≤ 53 ⌝ }
+    ensures { λ r. ⌜ (r ≡ factor * x) × (r ≤ factor * 4294967295) ⌝ }
+{
+    factor * x as u64
+}
+
+// The factor of a code of butane in tenths: butanes 1, pentanes 2.3, hexanes+ 5.3.
+fn factor(code: usize) -> u64
+    ensures { λ r. ⌜ (r ≡ factorOf code) × (r ≤ 53) ⌝ }
+{
+    if code < 6 {
+        return 10;
+    }
+    if code < 9 {
+        return 23;
+    }
+    if code == 10 {
+        return 53;
+    }
+    0
+}
+
+// Butane in tenths of a part, of the codes 4 to 10.
 fn butane(a: &[u32; CODES]) -> u64
     ensures { λ r. ⌜ (r ≡ butaneOf (now (a .entry))) × (r ≤ LIMIT) ⌝ }
 {
-    let butanes = 10 * (wide(a[4]) + wide(a[5]));
-    let pentanes = 23 * (wide(a[6]) + wide(a[7]) + wide(a[8]));
-    let hexanes = 53 * wide(a[10]);
-    butanes + pentanes + hexanes
+    let mut t: u64 = 0;
+    let mut code: usize = 4;
+    while code < 11 {
+        t += weighted(a[code], factor(code));
+        code += 1;
+    }
+    t
 }
 
 // The four components in tenths of a part.
 fn tenths(a: &[u32; CODES]) -> [u64; COMPONENTS]
     ensures { λ r. ⌜ (r ≡ tenthsOf (now (a .entry))) × Limited r ⌝ }
 {
-    [10 * wide(a[1]), 10 * wide(a[2]), 10 * wide(a[3]), butane(a)]
+    [
+        weighted(a[1], 10),
+        weighted(a[2], 10),
+        weighted(a[3], 10),
+        butane(a),
+    ]
 }
 
 // The sum of the amounts.
@@ -131,53 +154,11 @@ fn quotient(x: u64, total: u64) -> u32
 }
 
 // The remainder of this division.
-fn remainder(x: u64, total: u64) -> u64
-    requires { ⌜ (x ≤ LIMIT) × (0 < total) ⌝ }
+fn remainder(x: u64, total: u64, quotient: u32) -> u64
+    requires { ⌜ (x ≤ LIMIT) × (0 < total) × (quotient ≡ quotientOf total x) ⌝ }
     ensures { λ r. ⌜ r ≡ remainderOf total x ⌝ }
 {
-    WIDE_WHOLE * x % total
-}
-
-// Each amount scaled to 1000000 / total of itself, rounded down.
-fn quotients(x: &[u64; COMPONENTS], total: u64) -> [u32; COMPONENTS]
-    requires { ⌜ Limited (now x) × (total ≡ totalOf (now x)) × (0 < total) ⌝ }
-    ensures { λ r. ⌜ r ≡ quotientsOf (now (x .entry)) total ⌝ }
-{
-    let mut q = [0u32; COMPONENTS];
-    let mut i = 0;
-    while i < COMPONENTS {
-        q[i] = quotient(x[i], total);
-        i += 1;
-    }
-    q
-}
-
-// The remainders of these divisions.
-fn remainders(x: &[u64; COMPONENTS], total: u64) -> [u64; COMPONENTS]
-    requires { ⌜ Limited (now x) × (0 < total) ⌝ }
-    ensures { λ r. ⌜ r ≡ remaindersOf (now (x .entry)) total ⌝ }
-{
-    let mut r = [0u64; COMPONENTS];
-    let mut i = 0;
-    while i < COMPONENTS {
-        r[i] = remainder(x[i], total);
-        i += 1;
-    }
-    r
-}
-
-// The parts missing from 1000000.
-fn missing(q: &[u32; COMPONENTS]) -> u32
-    requires { ⌜ (length (now q) ≡ COMPONENTS) × (totalOf (now q) ≤ WHOLE) ⌝ }
-    ensures { λ r. ⌜ r ≡ missingOf (now (q .entry)) ⌝ }
-{
-    let mut m: u32 = WHOLE;
-    let mut i = 0;
-    while i < COMPONENTS {
-        m -= q[i];
-        i += 1;
-    }
-    m
+    WIDE_WHOLE * x - quotient as u64 * total
 }
 
 // The place of the greatest remainder, of equal ones the first.
@@ -186,9 +167,12 @@ fn greatest(r: &[u64; COMPONENTS]) -> usize
     ensures { λ p. ⌜ (p ≡ greatestPlace (now (r .entry))) × (p < COMPONENTS) ⌝ }
 {
     let mut p = 0;
-    let mut i = 0;
+    let mut most = r[0];
+    let mut i = 1;
     while i < COMPONENTS {
-        if r[p] < r[i] {
+        let x = r[i];
+        if most < x {
+            most = x;
             p = i;
         }
         i += 1;
@@ -218,15 +202,24 @@ fn distribute(
     q
 }
 
-// Amounts, not all 0, in parts of 1000000.
-fn scale(x: [u64; COMPONENTS]) -> [u32; COMPONENTS]
-    requires { ⌜ Limited x × (0 < totalOf x) ⌝ }
+// Amounts, not all 0, in parts of 1000000: one division each, then the missing parts.
+fn scale(x: [u64; COMPONENTS], total: u64) -> [u32; COMPONENTS]
+    requires { ⌜ Limited x × (total ≡ totalOf x) × (0 < total) ⌝ }
     ensures { λ r. ⌜ r ≡ scaledOf x ⌝ }
 {
-    let total = sum(&x);
-    let q = quotients(&x, total);
-    let r = remainders(&x, total);
-    distribute(missing(&q), q, r)
+    let mut q = [0u32; COMPONENTS];
+    let mut r = [0u64; COMPONENTS];
+    let mut missing: u32 = WHOLE;
+    let mut i = 0;
+    while i < COMPONENTS {
+        let amount = x[i];
+        let share = quotient(amount, total);
+        q[i] = share;
+        r[i] = remainder(amount, total, share);
+        missing -= share;
+        i += 1;
+    }
+    distribute(missing, q, r)
 }
 
 // n / d rounded to the nearest whole number, halves up.
@@ -242,14 +235,5 @@ fn methane_share(total: u64, co2: u32) -> u32
     requires { ⌜ (0 < total) × (total ≤ LIMIT * COMPONENTS) ⌝ }
     ensures { λ r. ⌜ (r ≡ methaneShare total co2) × (r ≤ WHOLE) ⌝ }
 {
-    halves_up(WIDE_WHOLE * total, total + 10 * wide(co2)) as u32
-}
-
-// n1 of amounts whose T is not 0.
-fn inert_first(a: &[u32; CODES]) -> u32
-    requires { ⌜ 0 < tenthsTotal (now a) ⌝ }
-    ensures { λ r. ⌜ (r ≡ inertFirst (now (a .entry))) × (r ≤ WHOLE) ⌝ }
-{
-    let x = tenths(a);
-    methane_share(sum(&x), a[11])
+    halves_up(WIDE_WHOLE * total, total + weighted(co2, 10)) as u32
 }

@@ -23,7 +23,7 @@ use Rattle.sheet.specs.Split.{noSplit}
 use Rattle.sheet.specs.declared.Split.{Split}
 use Rattle.mixture.specs.Simplification.{simplifiedOf}
 use Rattle.mixture.specs.Inert.{inertFirst}
-use Rattle.mixture.specs.Answers.{mixtureOf}
+use Rattle.mixture.specs.Answers.{mixtureOf, inertN1}
 use Rattle.systems.specs.Choice.{choiceOf}
 use Rattle.systems.specs.declared.Choice.{Choice}
 use Rattle.split.specs.Split.{RECORDS, cellsOf, numberAt}
@@ -116,16 +116,19 @@ module _ (a : List ℕ) (long : length a ≡ 14) (passed : refusalOf a ≡ 0) wh
   mixture-in : mixtureOf a ≡ simplifiedOf a
   mixture-in = ap (λ (n : ℕ). ifElse (eqb n 0) (simplifiedOf a) (replicate 4 0)) passed
 
-  module _ (mix : List ℕ) (choice : Choice) (n1 : ℕ) (m : mix ≡ mixtureOf a) (c : choice ≡ choiceOf mix) (n : n1 ≡ inertFirst a) where
+  module _ (mix : List ℕ) (choice : Choice) (n1 : ℕ) (m : mix ≡ mixtureOf a) (c : choice ≡ choiceOf mix) (n : n1 ≡ inertN1 a) where
     mix-is : mix ≡ mixOf a
     mix-is = m ∙ mixture-in
+
+    inert-is : n1 ≡ inertFirst a
+    inert-is = n ∙ ap (λ (k : ℕ). ifElse (eqb k 0) (inertFirst a) 0) passed
 
     choice-is : choice ≡ choiceOf (mixOf a)
     choice-is = c ∙ ap choiceOf mix-is
 
     pub given-proposal : Proposal mix (choice .systems) (choice .count) n1
     given-proposal =
-        rw (choice-is, mix-is, n)
+        rw (choice-is, mix-is, inert-is)
         (record { chosen = chosen a; few = omega (arith, million a long passed); inert = inert-million a long passed })
 
     pub given-room : 3 * choice .count ≤ RECORDS
@@ -133,7 +136,7 @@ module _ (a : List ℕ) (long : length a ≡ 14) (passed : refusalOf a ≡ 0) wh
 
     pub split-in : (p : Split) (r : Answer) → r ≡ splitBy (choice .systems) (choice .count) mix n1 p → r ≡ splitAnswer a p (codeOf r)
     unfolding splitAnswer
-    split-in p r e = e ∙ rw (choice-is, mix-is, n, passed)
+    split-in p r e = e ∙ rw (choice-is, mix-is, inert-is, passed)
 
     -- the search, of which the guarded one is the same
     module _ (allowance most : ℕ) (l : most ≡ min allowance 4000) (found : Found) (f : found ≡ findOf mix (choice .systems) (choice .count) 500000 16 most) where
@@ -149,7 +152,7 @@ module _ (a : List ℕ) (long : length a ≡ 14) (passed : refusalOf a ≡ 0) wh
 
       pub search-in : (r : Outcome) → r ≡ foundOutcome (choice .systems) (choice .count) n1 found → r ≡ searchOutcome a allowance (codeOf (r .answer))
       unfolding searchOutcome
-      search-in r e = e ∙ rw (choice-is, n, found-is, passed)
+      search-in r e = e ∙ rw (choice-is, inert-is, found-is, passed)
 
   -- neither is refused 5
   not-five : (x : Answer) → RatedOr 7 11 x → numberOf x ≡ 5 → ⊥

@@ -12,7 +12,6 @@ ghost use Rattle.analysis.specs.Register.{ifElse};
 ghost use Rattle.analysis.specs.Check.{refusalOf, AtFault};
 ghost use Rattle.sheet.specs.Split.{noSplit};
 ghost use Rattle.sheet.specs.Read.{FaultIn};
-ghost use Rattle.mixture.specs.Inert.{inertFirst};
 ghost use Rattle.split.specs.Split.{SYSTEMS, RECORDS};
 ghost use Rattle.split.specs.Rating.{ratingOf};
 ghost use Rattle.split.specs.Proposed.{Proposal};
@@ -21,7 +20,6 @@ ghost use Rattle.rating.specs.Rate.{LIMIT, ROUNDS, splitBy, splitAnswer,
 ghost use Rattle.rating.specs.Given.{FoundFit};
 use analysis::Analysis;
 use analysis::Checked;
-use mixture::InertMixture;
 use records::CELLS;
 use records::COMPONENTS;
 use records::RECORDS;
@@ -56,12 +54,13 @@ pub fn rate_split(a: Analysis, p: Split) -> Answer
     let answer = simplified.answer;
     let mixture = simplified.mixture;
     let mix = mixture.amounts;
+    let inert = simplified.inert;
     match answer {
         Checked::Refused { number, code } => Answer::Refused {
             number,
             place: code,
         },
-        Checked::InRange => split_by(systems::choose(mix), mix, first_inert(a), p),
+        Checked::InRange => split_by(systems::choose(mix), mix, inert, p),
     }
 }
 
@@ -75,12 +74,13 @@ pub fn rate_by_search(a: Analysis, allowance: u32) -> Outcome
     let answer = simplified.answer;
     let mixture = simplified.mixture;
     let mix = mixture.amounts;
+    let inert = simplified.inert;
     match answer {
         Checked::Refused { number, code } => refused(number, code),
         Checked::InRange => {
             let choice = systems::choose(mix);
             let found = search::find(mix, choice, LIMIT, LEVEL, at_most(allowance));
-            found_outcome(choice, mix, first_inert(a), found)
+            found_outcome(choice, mix, inert, found)
         }
     }
 }
@@ -178,18 +178,6 @@ fn rating_of(choice: Choice, mix: [u32; COMPONENTS], cells: [u32; CELLS], n1: u3
             number: _,
             place: _,
         } => 0,
-    }
-}
-
-// n1 of the inert mixture of an analysis in range.
-fn first_inert(a: Analysis) -> u32
-    requires { ⌜ refusalOf (a .amounts) ≡ 0 ⌝ }
-    ensures { λ r. ⌜ r ≡ inertFirst (a .amounts) ⌝ }
-{
-    let inert = mixture::inert(a);
-    match inert {
-        InertMixture::Amounts { n1, n2: _, n3: _ } => n1,
-        InertMixture::Refused { number: _, code: _ } => 0,
     }
 }
 

@@ -61,12 +61,13 @@ module _ (s : List ℕ) where
 -- ---- the amounts
 
 module _ (n : ℕ) (s : List ℕ) where
-  pub zero-found : (place : ℕ) → ZeroRecord n s place → place < n → AmountsRefused n s (checked.Refused 5 (getD s (1 + 5 * place) 0))
-  zero-found place z h =
-      record {
+  pub zero-found : (place at : ℕ) → at ≡ 1 + 5 * place → ZeroRecord n s place → place < n → AmountsRefused n s (checked.Refused 5 (getD s at 0))
+  zero-found place at e z h =
+      rw e
+      (record {
         answer = rw (amounts-zero n s (z .some h));
         code = λ _. inl (record { place = place; listed = h; code-there = refl; amount-there = z .zero-there h });
-      }
+      })
 
   pub checked-found : (place : ℕ) → ZeroRecord n s place → n ≤ place → (a : List ℕ) → a ≡ amountsOf n s → (r : Checked) → Checking a r → AmountsRefused n s r
   checked-found place z h a e r k =

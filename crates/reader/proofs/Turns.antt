@@ -1,43 +1,74 @@
 -- One turn of each loop over records, and what the tests say of the definitions. Assumes nothing.
 use mathlib.Core.Path.{_≡_, refl, ap, sym, _∙_}
 use mathlib.Core.List.{List, [], _∷_, _++_}
-use mathlib.Core.Bool.{Bool, true, false}
+use mathlib.Core.Bool.{Bool, true, false, _||_}
 use Prim.Native.Nat.{ℕ, zero, suc, _+_, _-_, _*_, _≤_, _<_}
 use native.Mathlib.Omega.{arith}
 use native.Mathlib.Numerals.{add-one}
-use lib.ListN.{length, getD, set, drop, replicate, length-replicate, replicate-append-replicate}
-use lib.Seq.{sets, sets-eq, drop-at}
-use lib.Dec.{eqb, eqb→eq}
-use borrow.Author.Tests.{eq-eqb, ne-eqb}
-use Rattle.analysis.specs.Register.{CODES, statusOf}
+use native.Mathlib.Nat.{sub-zero}
+use lib.ListN.{length, getD, set, drop, replicate, length-set, length-replicate, replicate-append-replicate}
+use lib.Seq.{sets, sets-eq, set-out, drop-at}
+use lib.Dec.{T, eqb, ltb, eqb→eq}
+use borrow.Author.Tests.{eq-eqb, ne-eqb, lt-ltb, ltb-true, ltb-false}
+use Rattle.analysis.specs.Register.{CODES, statusOf, ifElse}
 use Rattle.analysis.specs.Table.{at}
 use Rattle.sheet.specs.declared.Reading.the-variants.{Read, Refused}
 use Rattle.sheet.specs.Bytes.{numberAt}
 use Rattle.sheet.specs.Components.{refusalBy, codeRefusal, codesReading, amountsFrom, zeroListed}
-use Rattle.sheet.specs.Split.{RECORDS, byteColumn, amountColumn, padded}
+use Rattle.sheet.specs.declared.Split.{Split}
+use Rattle.sheet.specs.Split.{RECORDS, byteColumn, amountColumn, padded, splitAt}
+use Rattle.sheet.specs.Forth.{length-byte-column, length-amount-column}
+use Rattle.reader.specs.Find.{ZeroRecord}
 use Rattle.sheet.specs.Cases.{status-above, code-status, code-order, code-fine}
 
--- the code's table is the register's
-abbrev refusals : List ℕ
-refusals = 2 ∷ 0 ∷ 0 ∷ 0 ∷ 0 ∷ 0 ∷ 0 ∷ 0 ∷ 0 ∷ 3 ∷ 0 ∷ 0 ∷ 0 ∷ 3 ∷ []
+-- the code's tests of a code are the register's
+abbrev tested : ℕ → ℕ
+tested c = ifElse (eqb c 0 || ltb 13 c) 2 (ifElse (eqb c 9 || eqb c 13) 3 0)
 
-refusal-at : (c : ℕ) → c < CODES → getD refusals c 0 ≡ refusalBy (statusOf c)
+abbrev places : List ℕ
+places = 0 ∷ 0 ∷ 0 ∷ 0 ∷ 0 ∷ 0 ∷ 0 ∷ 0 ∷ 0 ∷ 0 ∷ 0 ∷ 0 ∷ 0 ∷ 0 ∷ []
+
+or-true : (b : Bool) → (b || true) ≡ true
+or-true true = refl
+or-true false = refl
+
+tested-low : (c : ℕ) → c < CODES → T (eqb (tested c) (refusalBy (statusOf c)))
 unfolding statusOf
-refusal-at c h = eqb→eq (getD refusals c 0) (refusalBy (statusOf c)) (at (λ k x. eqb x (refusalBy (statusOf k))) refusals tt c h)
+tested-low c h = at (λ k x. eqb (tested k) (refusalBy (statusOf k))) places tt c h
+
+tested-is : (c : ℕ) → tested c ≡ refusalBy (statusOf c)
+tested-is c = go (ltb c CODES) refl
+  where
+    low : c < CODES → tested c ≡ refusalBy (statusOf c)
+    low h = eqb→eq (tested c) (refusalBy (statusOf c)) (tested-low c h)
+
+    go : (b : Bool) → ltb c CODES ≡ b → tested c ≡ refusalBy (statusOf c)
+    go true e = low (ltb-true c CODES e)
+    go false e =
+        let h = ltb-false c CODES e in
+        rw (lt-ltb 13 c (omega arith), or-true) (sym (status-above c h))
 
 module _ (c p : ℕ) where
-  pub beyond : CODES ≤ c → codeRefusal c p ≡ 2
-  beyond h = let e = status-above c h in code-status c p (λ z. omega arith) ∙ e
+  pub not-live : (eqb c 0 || ltb 13 c) ≡ true → codeRefusal c p ≡ 2
+  not-live h =
+      let e : refusalBy (statusOf c) ≡ 2 = sym (tested-is c) ∙ rw h in
+      code-status c p (λ z. omega arith) ∙ e
 
-  module _ (h : c < CODES) where
-    pub by-status : (getD refusals c 0 ≡ 0 → ⊥) → codeRefusal c p ≡ getD refusals c 0
-    by-status n = code-status c p (λ z. n (refusal-at c h ∙ z)) ∙ sym (refusal-at c h)
+  module _ (h : (eqb c 0 || ltb 13 c) ≡ false) where
+    pub by-status : (eqb c 9 || eqb c 13) ≡ true → codeRefusal c p ≡ 3
+    by-status k =
+        let e : refusalBy (statusOf c) ≡ 3 = sym (tested-is c) ∙ rw (h, k) in
+        code-status c p (λ z. omega arith) ∙ e
 
-    pub by-order : getD refusals c 0 ≡ 0 → c ≤ p → codeRefusal c p ≡ 4
-    by-order e l = code-order c p (sym (refusal-at c h) ∙ e) l
+    module _ (k : (eqb c 9 || eqb c 13) ≡ false) where
+      live-code : refusalBy (statusOf c) ≡ 0
+      live-code = sym (tested-is c) ∙ rw (h, k)
 
-    pub fine : getD refusals c 0 ≡ 0 → p < c → codeRefusal c p ≡ 0
-    fine e l = code-fine c p (sym (refusal-at c h) ∙ e) l
+      pub by-order : c ≤ p → codeRefusal c p ≡ 4
+      by-order l = code-order c p live-code l
+
+      pub fine : p < c → codeRefusal c p ≡ 0
+      fine l = code-fine c p live-code l
 
 module _ (n i : ℕ) (s : List ℕ) (at p : ℕ) where
   pub codes-go : i < n → codeRefusal (getD s at 0) p ≡ 0 → codesReading (n - i) s at i p ≡ codesReading (n - (i + 1)) s (at + 5) (i + 1) (getD s at 0)
@@ -66,6 +97,36 @@ module _ (n i : ℕ) (s : List ℕ) (at : ℕ) (a : List ℕ) where
       let e : n - i ≡ 0 = omega arith in
       rw e
 
+-- the amounts so far and the records from place i on give those of all
+pub record Listed (s : List ℕ) (n : ℕ) (a : List ℕ) (i at : ℕ) : Type 0 where
+  pub most : i ≤ n
+  pub there : at ≡ 1 + 5 * i
+  pub long : length a ≡ CODES
+  pub same : amountsFrom (n - i) s at a ≡ amountsFrom n s 1 (replicate CODES 0)
+
+pub listed-none : (s : List ℕ) (n : ℕ) → Listed s n (replicate CODES 0) 0 1
+listed-none s n = record { most = omega arith; there = omega arith; long = refl; same = rw sub-zero }
+
+module _ (s : List ℕ) (n : ℕ) (a : List ℕ) (i at : ℕ) (w : Listed s n a i at) where
+  module _ (h : i < n) (b : List ℕ) where
+    next : b ≡ set a (getD s at 0) (numberAt s (at + 1)) → Listed s n b (i + 1) (at + 5)
+    next e =
+        record {
+          most = omega arith;
+          there = omega (arith, w .there);
+          long = ap length e ∙ length-set a (getD s at 0) (numberAt s (at + 1)) ∙ w .long;
+          same = ap (λ (x : List ℕ). amountsFrom (n - (i + 1)) s (at + 5) x) e ∙ sym (amounts-go n i s at a h) ∙ w .same;
+        }
+
+    pub listed-in : (x : ℕ) → x ≡ numberAt s (at + 1) → b ≡ set a (getD s at 0) x → Listed s n b (i + 1) (at + 5)
+    listed-in x f e = next (e ∙ ap (λ (y : ℕ). set a (getD s at 0) y) f)
+
+    pub listed-out : CODES ≤ getD s at 0 → b ≡ a → Listed s n b (i + 1) (at + 5)
+    listed-out k e = next (e ∙ sym (set-out a (getD s at 0) (numberAt s (at + 1)) (omega (arith, w .long))))
+
+  pub listed-all : n ≤ i → a ≡ amountsFrom n s 1 (replicate CODES 0)
+  listed-all h = sym (amounts-end n i s at a h) ∙ w .same
+
 module _ (n i : ℕ) (s : List ℕ) (at : ℕ) where
   pub zero-go : i < n → (numberAt s (at + 1) ≡ 0 → ⊥) → zeroListed (n - i) s at ≡ zeroListed (n - (i + 1)) s (at + 5)
   zero-go h f =
@@ -81,6 +142,39 @@ module _ (n i : ℕ) (s : List ℕ) (at : ℕ) where
   zero-end h =
       let e : n - i ≡ 0 = omega arith in
       rw e
+
+-- one of the records from place i on is at 0 where one of all is
+pub record Looked (s : List ℕ) (n i at : ℕ) : Type 0 where
+  pub most : i ≤ n
+  pub there : at ≡ 1 + 5 * i
+  pub same : zeroListed (n - i) s at ≡ zeroListed n s 1
+
+pub looked-none : (s : List ℕ) (n : ℕ) → Looked s n 0 1
+looked-none s n = record { most = omega arith; there = omega arith; same = rw sub-zero }
+
+module _ (s : List ℕ) (n i at : ℕ) (w : Looked s n i at) where
+  module _ (h : i < n) (x : ℕ) (f : x ≡ numberAt s (at + 1)) where
+    pub looked-next : (x ≡ 0 → ⊥) → Looked s n (i + 1) (at + 5)
+    looked-next k =
+        record { most = omega arith; there = omega (arith, w .there); same = sym (zero-go n i s at h (λ z. k (f ∙ z))) ∙ w .same }
+
+    pub looked-zero : x ≡ 0 → ZeroRecord n s i
+    looked-zero k =
+        record {
+          within = omega arith;
+          none = λ l. absurd (omega arith);
+          some = λ _. sym (sym (zero-stop n i s at h (sym f ∙ k)) ∙ w .same);
+          zero-there = λ _. sym (ap (λ (j : ℕ). numberAt s (j + 1)) (w .there)) ∙ sym f ∙ k;
+        }
+
+  pub looked-all : n ≤ i → ZeroRecord n s i
+  looked-all h =
+      record {
+        within = w .most;
+        none = λ _. sym (sym (zero-end n i s at h) ∙ w .same);
+        some = λ l. absurd (omega arith);
+        zero-there = λ l. absurd (omega arith);
+      }
 
 -- a turn that stores an element of a column
 module _ (m i : ℕ) (s : List ℕ) (v w : ℕ) (e : w ≡ v + 6) (xs : List ℕ) where
@@ -119,3 +213,33 @@ sets-padded vs h =
     ∙ ap (λ (j : ℕ). vs ++ drop j (replicate RECORDS 0)) z
     ∙ ap (λ (j : ℕ). vs ++ drop (length vs) (replicate j 0)) e
     ∙ ap (λ (l : List ℕ). vs ++ l) (drop-same (length vs) (RECORDS - length vs) 0)
+
+-- the columns so far and the records from place i on give those of all
+pub record Columns (s : List ℕ) (at m : ℕ) (xs ys zs : List ℕ) (i w : ℕ) : Type 0 where
+  pub most : i ≤ m
+  pub there : w ≡ at + 6 * i
+  pub systems : sets xs i (byteColumn (m - i) s w) ≡ sets (replicate RECORDS 0) 0 (byteColumn m s at)
+  pub codes : sets ys i (byteColumn (m - i) s (w + 1)) ≡ sets (replicate RECORDS 0) 0 (byteColumn m s (at + 1))
+  pub amounts : sets zs i (amountColumn (m - i) s (w + 2)) ≡ sets (replicate RECORDS 0) 0 (amountColumn m s (at + 2))
+
+pub columns-none : (s : List ℕ) (at m : ℕ) → Columns s at m (replicate RECORDS 0) (replicate RECORDS 0) (replicate RECORDS 0) 0 at
+columns-none s at m =
+    record { most = omega arith; there = omega arith; systems = rw sub-zero; codes = rw sub-zero; amounts = rw sub-zero }
+
+module _ (s : List ℕ) (at m : ℕ) (xs ys zs : List ℕ) (i w : ℕ) (l : Columns s at m xs ys zs i w) where
+  pub columns-next : i < m → (n : ℕ) → n ≡ numberAt s (w + 2) → Columns s at m (set xs i (getD s w 0)) (set ys i (getD s (w + 1) 0)) (set zs i n) (i + 1) (w + 6)
+  columns-next t n f =
+      record {
+        most = omega arith;
+        there = omega (arith, l .there);
+        systems = sym (bytes-go m i s w (w + 6) refl xs t) ∙ l .systems;
+        codes = sym (bytes-go m i s (w + 1) (w + 6 + 1) (omega arith) ys t) ∙ l .codes;
+        amounts = rw f (sym (column-go m i s (w + 2) (w + 6 + 2) (omega arith) zs t) ∙ l .amounts);
+      }
+
+  pub columns-all : m ≤ i → m ≤ RECORDS → (r : Split) → r ≡ record { count = m; systems = xs; codes = ys; amounts = zs } → r ≡ splitAt m s at
+  columns-all t k r e =
+      let x = sym (bytes-end m i s w xs t) ∙ l .systems ∙ sets-padded (byteColumn m s at) (omega (arith, length-byte-column m s at)) in
+      let y = sym (bytes-end m i s (w + 1) ys t) ∙ l .codes ∙ sets-padded (byteColumn m s (at + 1)) (omega (arith, length-byte-column m s (at + 1))) in
+      let z = sym (column-end m i s (w + 2) zs t) ∙ l .amounts ∙ sets-padded (amountColumn m s (at + 2)) (omega (arith, length-amount-column m s (at + 2))) in
+      e ∙ (λ j. record { count = m; systems = x j; codes = y j; amounts = z j })

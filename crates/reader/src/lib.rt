@@ -8,7 +8,7 @@ ghost use Rattle.sheet.specs.Components.{codeRefusal, codesReading, amountsFrom
 ghost use Rattle.sheet.specs.Split.{RECORDS, splitAt};
 ghost use Rattle.sheet.specs.Sheet.{LISTED, sectionsOf};
 ghost use Rattle.sheet.specs.Read.{refusedSheet, readOf, numberOf, codeOf, FaultIn};
-ghost use Rattle.reader.specs.Find.{ZeroRecord, AmountsRefused};
+ghost use Rattle.reader.specs.Find.{AmountsRefused};
 use analysis::Analysis;
 use analysis::CODES;
 use analysis::Checked;
@@ -74,20 +74,15 @@ fn sections(s: &[u8]) -> Sections
     }
 }
 
-// The refusal of a code in components by the register: 2 unknown or legal in splits only, 3 retired; 0 where it is live.
-const REFUSALS: [u32; CODES] = [2, 0, 0, 0, 0, 0, 0, 0, 0, 3, 0, 0, 0, 3];
-
-// The refusal of the code `c` after the code `p`, or 0.
+// The refusal of the code `c` after the code `p`, or 0: 2 unknown or legal in splits only, 3 retired, 4 not above `p`.
 fn code_refusal(c: u8, p: u8) -> u32
     ensures { λ r. ⌜ r ≡ codeRefusal c p ⌝ }
 {
-    let k = c as usize;
-    if CODES <= k {
+    if (c == 0) | (13 < c) {
         return 2;
     }
-    let refusal = REFUSALS[k];
-    if refusal != 0 {
-        return refusal;
+    if (c == 9) | (c == 13) {
+        return 3;
     }
     if c <= p {
         return 4;
@@ -120,24 +115,6 @@ fn codes(s: &[u8], n: usize) -> Reading
         at += 5;
     }
     Reading::Read
-}
-
-// The place of the first of `n` component records with the amount 0, or `n`.
-fn zero_record(s: &[u8], n: usize) -> usize
-    requires { ⌜ 1 + 5 * n ≤ length (now s) ⌝ }
-    ensures { λ r. ⌜ ZeroRecord n (now (s .entry)) r ⌝ }
-{
-    let mut i: usize = 0;
-    let mut at: usize = 1;
-    while i < n {
-        let x = amount_at(s, at + 1);
-        if x == 0 {
-            return i;
-        }
-        i += 1;
-        at += 5;
-    }
-    i
 }
 
 // The amounts of `n` component records, by code.
@@ -219,13 +196,18 @@ fn amounts_refused(s: &[u8], n: usize, a: Analysis) -> Checked
     requires { ⌜ (1 + 5 * n ≤ length (now s)) × (a .amounts ≡ amountsFrom n (now s) 1 (replicate CODES 0)) ⌝ }
     ensures { λ r. ⌜ AmountsRefused n (now (s .entry)) r ⌝ }
 {
-    let place = zero_record(s, n);
-    if place < n {
-        let at = 1 + 5 * place;
-        return Checked::Refused {
-            number: 5,
-            code: s[at] as u32,
-        };
+    let mut i: usize = 0;
+    let mut at: usize = 1;
+    while i < n {
+        let x = amount_at(s, at + 1);
+        if x == 0 {
+            return Checked::Refused {
+                number: 5,
+                code: s[at] as u32,
+            };
+        }
+        i += 1;
+        at += 5;
     }
     analysis::check(a)
 }

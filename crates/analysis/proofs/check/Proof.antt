@@ -1,63 +1,76 @@
--- `analysis::check` meets its contract. Assumes nothing.
-use mathlib.Core.Path.{_≡_, sym, ap, _∙_, refl}
-use Prim.Native.Nat.{ℕ, suc, _+_, _-_, _*_, _≤_, _<_}
-use native.Mathlib.Omega.{arith}
-use Rattle.analysis.proofs.Turns.{answer-none, answer-range, answer-total}
+-- `analysis::check` meets its contract. The loop's invariant: the lowest code at fault and the sum from this code on. Assumes nothing.
+use mathlib.Core.Path.{_≡_}
+use Prim.Native.Nat.{_-_, _<_}
+use lib.ListN.{length}
+use Rattle.analysis.specs.Register.{CODES}
+use Rattle.analysis.proofs.Tables.{range-at}
+use Rattle.analysis.proofs.Turns.{Walked, walk-none, walk-next, checking}
 use borrow.Author.Needs.{needs}
 use Rattle.analysis.proofs.check.Statement.{statement}
 use Rattle.analysis.proofs.check.Tie as tie
 
-first-fault-requires : tie.Need-first-fault-requires
-first-fault-requires c κs = search needs
+abbrev Inv-loop : tie.InvT-loop
+Inv-loop amounts ranges fault₀ sum₀ code₀ fault sum code = Walked amounts fault sum code
 
-total-requires : tie.Need-total-requires
-total-requires c κs = search needs
+abbrev μ-loop : tie.MeasureT-loop
+μ-loop amounts ranges fault₀ sum₀ code₀ fault sum code = code
 
-total-fits-requires : tie.Need-total-fits-requires
-total-fits-requires c κs = search needs
+loop-holds : tie.Need-loop-holds Inv-loop μ-loop
+loop-holds c = let l : length (c .before .args .a .amounts) ≡ 14 = search needs in walk-none _ l
 
-refusal-requires : tie.Need-refusal-requires
-refusal-requires c κs = search needs
+sub-code : tie.Need-sub-code Inv-loop μ-loop
+sub-code c = search needs
 
-returns : tie.Need-returns
+mul-amount : tie.Need-mul-amount Inv-loop μ-loop
+mul-amount c = search needs
+
+array-read-amount : tie.Need-array-read-amount Inv-loop μ-loop
+array-read-amount c = search needs
+
+plus-requires : tie.Need-plus-requires Inv-loop μ-loop
+plus-requires c κs = search needs
+
+mul-fault-at : tie.Need-mul-fault-at Inv-loop μ-loop
+mul-fault-at c = search needs
+
+array-read-fault-at : tie.Need-array-read-fault-at Inv-loop μ-loop
+array-read-fault-at c = search needs
+
+fault-at-requires : tie.Need-fault-at-requires Inv-loop μ-loop
+fault-at-requires c κs = let h : c .before .before .loop .code - 1 < CODES = search needs in (h, range-at _ h)
+
+loop-less : tie.Need-loop-less Inv-loop μ-loop
+loop-less c = search needs
+
+loop-again : tie.Need-loop-again Inv-loop μ-loop
+loop-again c =
+    let b = c .before .before in
+    walk-next _ _ _ _ _ (b .before .loop .inv) (b .loop-test .taken) (c .before .plus .ensures) _ (c .fault-at .ensures)
+
+answer-requires : tie.Need-answer-requires Inv-loop μ-loop
+answer-requires c κs = c .before .loop .inv .within
+
+returns : tie.Need-returns Inv-loop μ-loop
 returns c =
-    let f = c .before .before .before .before .first-fault .ensures in
-    let s = c .before .before .before .total .ensures in
-    let t = c .before .before .total-fits .ensures in
-    let n = c .before .refusal .ensures in
-    let h = answer-none _ _ f _ (rw s at t) _ n (c .if1 .taken) in
-    (h .answer, h .code)
-
-cast-t8 : tie.Need-cast-t8
-cast-t8 c = search needs
-
-returns-2 : tie.Need-returns-2
-returns-2 c =
-    let f = c .before .before .before .before .before .first-fault .ensures in
-    let s = c .before .before .before .before .total .ensures in
-    let t = c .before .before .before .total-fits .ensures in
-    let n = c .before .before .refusal .ensures in
-    let h = answer-range _ _ f _ (rw s at t) _ n (c .if2 .taken) in
-    (h .answer, h .code)
-
-returns-3 : tie.Need-returns-3
-returns-3 c =
-    let f = c .before .before .before .before .before .first-fault .ensures in
-    let s = c .before .before .before .before .total .ensures in
-    let t = c .before .before .before .total-fits .ensures in
-    let n = c .before .before .refusal .ensures in
-    let h = answer-total _ _ f _ (rw s at t) _ n (c .before .if1 .left) (c .if2 .left) in
+    let b = c .before in
+    let h = checking _ _ _ _ _ (b .loop-test .left) (b .before .loop .inv) (c .answer .ensures) in
     (h .answer, h .code)
 
 pub check-spec : {M : Type 1} → statement M
 check-spec =
     tie.close
     (tie.spec
-    first-fault-requires
-    total-requires
-    total-fits-requires
-    refusal-requires
-    returns
-    cast-t8
-    returns-2
-    returns-3)
+    Inv-loop
+    μ-loop
+    loop-holds
+    sub-code
+    mul-amount
+    array-read-amount
+    plus-requires
+    mul-fault-at
+    array-read-fault-at
+    fault-at-requires
+    loop-less
+    loop-again
+    answer-requires
+    returns)

@@ -11,11 +11,8 @@ use Rattle.mixture.proofs.methane_share.Tie as tie
 mul-halves-up : tie.Need-mul-halves-up
 mul-halves-up c = search needs
 
-wide-requires : tie.Need-wide-requires
-wide-requires c κs = search needs
-
-mul-halves-up-2 : tie.Need-mul-halves-up-2
-mul-halves-up-2 c = search needs
+weighted-requires : tie.Need-weighted-requires
+weighted-requires c κs = search needs
 
 add-halves-up : tie.Need-add-halves-up
 add-halves-up c = search needs
@@ -30,7 +27,7 @@ unfolding methaneShare
 share c =
     let a = c .before .before .args in
     let e : c .halves-up .result ≡ methaneShare (a .total) (a .co2) =
-    c .halves-up .ensures ∙ ap (λ w. halvesUp (WHOLE * a .total) (a .total + 10 * w)) (c .before .wide .ensures .0) in
+    c .halves-up .ensures ∙ ap (λ w. halvesUp (WHOLE * a .total) (a .total + w)) (c .before .weighted .ensures .0) in
     (e, omega (arith, share-greatest (a .total) (a .co2) (c .before .before .pre .0)))
 
 cast-result : tie.Need-cast-result
@@ -44,8 +41,7 @@ methane-share-spec =
     tie.close
     (tie.spec
     mul-halves-up
-    wide-requires
-    mul-halves-up-2
+    weighted-requires
     add-halves-up
     halves-up-requires
     cast-result

@@ -1,7 +1,9 @@
-use mathlib.Core.Path.{_≡_}
+-- `mixture::simplify` meets its contract. Assumes nothing.
+use mathlib.Core.Path.{_≡_, sym, _∙_}
 use lib.ListN.{length}
+use Rattle.analysis.specs.Check.{Checking}
 use Rattle.mixture.specs.Bounds.{tenths-positive}
-use Rattle.mixture.proofs.Answered.{refusal-none, refusal-some, mixture-in-range, mixture-refused}
+use Rattle.mixture.proofs.Answered.{refusal-none, refusal-some, same-answer, mixture-in-range, inert-in-range, mixture-refused, inert-refused}
 use borrow.Author.Needs.{needs}
 use Rattle.mixture.proofs.simplify.Statement.{statement}
 use Rattle.mixture.proofs.simplify.Tie as tie
@@ -12,33 +14,38 @@ check-requires c κs = search needs
 enum-told : tie.Need-enum-told
 enum-told c = search needs
 
-tenths-requires : tie.Need-tenths-requires
-tenths-requires c κs = search needs
-
-scale-requires : tie.Need-scale-requires
-scale-requires c κs =
-    let k = c .before .before .before .before in
-    let start = k .before .before in
-    let a = start .args .a .amounts in
+in-range-requires : tie.Need-in-range-requires
+in-range-requires c κs =
+    let k = c .before .before .before in
+    let a = k .before .before .args .a .amounts in
     let l : length a ≡ 14 = search needs in
-    let p = tenths-positive a l (refusal-none a _ (record { answer = k .check .ensures .0; code = k .check .ensures .1 }) (c .before .before .enum-told .given .1)) in
-    (c .tenths .ensures .1, rw (c .tenths .ensures .0) p)
+    tenths-positive a l (refusal-none a _ (record { answer = k .check .ensures .0; code = k .check .ensures .1 }) (c .before .enum-told .given .1))
 
-enum-told-2 : tie.Need-enum-told-2
-enum-told-2 c = search needs
+enum-known-answer : tie.Need-enum-known-answer
+enum-known-answer c = search needs
+
+refused-requires : tie.Need-refused-requires
+refused-requires c κs = search needs
 
 returns : tie.Need-returns
 returns c =
-    let k = c .before .before .before .before .before in
+    let k = c .before .before .before .before in
     let a = k .before .before .args .a .amounts in
-    let n = refusal-none a _ (record { answer = k .check .ensures .0; code = k .check .ensures .1 }) (c .before .before .before .enum-told .given .1) in
-    (k .check .ensures .0, (k .check .ensures .1, mixture-in-range a _ _ n (c .before .tenths .ensures .0) (c .scale .ensures)))
+    let e = c .before .before .enum-told .given .1 in
+    let h : Checking a (k .check .result) = record { answer = k .check .ensures .0; code = k .check .ensures .1 } in
+    let n = refusal-none a _ h e in
+    let s = same-answer a _ _ h (c .in-range .ensures .0 ∙ sym e) in
+    (s .answer, (s .code, (mixture-in-range a n _ (c .in-range .ensures .1), inert-in-range a n _ (c .in-range .ensures .2))))
 
 returns-2 : tie.Need-returns-2
 returns-2 c =
-    let k = c .before .before in
+    let k = c .before .before .before .before in
     let a = k .before .before .args .a .amounts in
-    (k .check .ensures .0, (k .check .ensures .1, mixture-refused a (refusal-some a _ _ _ (record { answer = k .check .ensures .0; code = k .check .ensures .1 }) (c .enum-told2 .given .1))))
+    let e = c .before .before .answer .given .1 in
+    let h : Checking a (k .check .result) = record { answer = k .check .ensures .0; code = k .check .ensures .1 } in
+    let n = refusal-some a _ _ _ h e in
+    let s = same-answer a _ _ h (c .refused .ensures .0 ∙ sym e) in
+    (s .answer, (s .code, (mixture-refused a n _ (c .refused .ensures .1), inert-refused a n _ (c .refused .ensures .2))))
 
 pub simplify-spec : {M : Type 1} → statement M
 simplify-spec =
@@ -46,8 +53,8 @@ simplify-spec =
     (tie.spec
     check-requires
     enum-told
-    tenths-requires
-    scale-requires
-    enum-told-2
+    in-range-requires
+    enum-known-answer
+    refused-requires
     returns
     returns-2)

@@ -9,69 +9,53 @@ use Rattle.rating.proofs.rate_by_search.Reads as reads
 use Rattle.rating.proofs.rate_by_search.Lts as lts
 use Rattle.mixture.proofs.simplify.Reads as simplify-reads
 use Rattle.rating.proofs.at_most.Reads as at-most-reads
-use Rattle.rating.proofs.first_inert.Reads as first-inert-reads
 use Rattle.rating.proofs.found_outcome.Reads as found-outcome-reads
 use Rattle.rating.proofs.refused.Reads as refused-reads
 use Rattle.search.proofs.find.Reads as find-reads
 use Rattle.systems.proofs.choose.Reads as choose-reads
 
--- src/lib.rt:68:9
 simplify-requires : tie.Need-simplify-requires
 simplify-requires c κs = search needs
 
--- src/lib.rt:73:28
 enum-known-answer : tie.Need-enum-known-answer
 enum-known-answer c = search needs
 
--- src/lib.rt:73:46
 refused-requires : tie.Need-refused-requires
 refused-requires c κs = search needs
 
--- src/lib.rt:75:17
 enum-told : tie.Need-enum-told
 enum-told c = search needs
 
--- src/lib.rt:75:17
 choose-requires : tie.Need-choose-requires
 choose-requires c κs = search needs
 
--- src/lib.rt:76:65
 at-most-requires : tie.Need-at-most-requires
 at-most-requires c κs = search needs
 
--- src/lib.rt:76:17
 find-requires : tie.Need-find-requires
 find-requires c κs = search needs
 
--- src/lib.rt:77:40
-first-inert-requires : tie.Need-first-inert-requires
-first-inert-requires c κs = let s = c .before .before .before .before .before .before .before .simplify .ensures in
-    in-range _ _ (record { answer = s .0; code = s .1 .0 }) (c .before .before .before .enum-told .given .1)
-
--- src/lib.rt:77:13
 found-outcome-requires : tie.Need-found-outcome-requires
-found-outcome-requires c κs = let b = c .before .before .before .before .before .before .before .before in
+found-outcome-requires c κs = let b = c .before .before .before .before .before .before .before in
     let a = b .before .args .a .amounts in
     let l : length a ≡ 14 = search needs in
     let s = b .simplify .ensures in
-    let p = in-range _ _ (record { answer = s .0; code = s .1 .0 }) (c .before .before .before .before .enum-told .given .1) in (
-      given-proposal a l p _ _ _ (s .1 .1) (c .before .before .before .choose .ensures) (c .first-inert .ensures),
-      found-fit a l p _ _ _ (s .1 .1) (c .before .before .before .choose .ensures) (c .first-inert .ensures) (b .before .args .allowance) _ (c .before .before .at-most .ensures) _ (c .before .find .ensures),
+    let p = in-range _ _ (record { answer = s .0; code = s .1 .0 }) (c .before .before .before .enum-told .given .1) in (
+      given-proposal a l p _ _ _ (s .1 .1 .0) (c .before .before .choose .ensures) (s .1 .1 .1),
+      found-fit a l p _ _ _ (s .1 .1 .0) (c .before .before .choose .ensures) (s .1 .1 .1) (b .before .args .allowance) _ (c .before .at-most .ensures) _ (c .find .ensures),
     )
 
--- src/lib.rt:64:1
 returns : tie.Need-returns
 returns c = let b = c .before .before .before .before .before .before in
     search-away-is _ _ _ _ _ (turned-away _ _ (record { answer = b .simplify .ensures .0; code = b .simplify .ensures .1 .0 }) _ _ (c .before .before .answer .given .1)) (c .refused .ensures)
 
--- src/lib.rt:64:1
 returns-2 : tie.Need-returns-2
-returns-2 c = let b = c .before .before .before .before .before .before .before .before .before in
+returns-2 c = let b = c .before .before .before .before .before .before .before .before in
     let a = b .before .args .a .amounts in
     let l : length a ≡ 14 = search needs in
     let s = b .simplify .ensures in
-    let p = in-range _ _ (record { answer = s .0; code = s .1 .0 }) (c .before .before .before .before .before .enum-told .given .1) in
-    let e = search-in a l p _ _ _ (s .1 .1) (c .before .before .before .before .choose .ensures) (c .before .first-inert .ensures) (b .before .args .allowance) _ (c .before .before .before .at-most .ensures) _ (c .before .before .find .ensures) _ (c .found-outcome .ensures) in
+    let p = in-range _ _ (record { answer = s .0; code = s .1 .0 }) (c .before .before .before .before .enum-told .given .1) in
+    let e = search-in a l p _ _ _ (s .1 .1 .0) (c .before .before .before .choose .ensures) (s .1 .1 .1) (b .before .args .allowance) _ (c .before .before .at-most .ensures) _ (c .before .find .ensures) _ (c .found-outcome .ensures) in
     (e, λ z. absurd (search-not-five a l p _ _ _ e z))
 
 pub rate-by-search-spec : {M : Type 1} → statement M
@@ -85,7 +69,6 @@ rate-by-search-spec =
     choose-requires
     at-most-requires
     find-requires
-    first-inert-requires
     found-outcome-requires
     returns
     returns-2)

@@ -1,28 +1,20 @@
 -- `reader::amounts` meets its contract. The loop's invariant: the amounts so far and the records from place i on give those of all. Assumes nothing.
-use mathlib.Core.Path.{_≡_, sym, ap, _∙_, refl}
-use Prim.Native.Nat.{ℕ, suc, _+_, _-_, _*_, _≤_, _<_}
-use native.Mathlib.Omega.{arith}
-use Rattle.analysis.specs.Register.{CODES}
-use native.Mathlib.Nat.{sub-zero}
-use mathlib.Core.List.{List}
 use mathlib.Core.Logic.{⊎-elim}
-use lib.ListN.{length, getD, set, replicate, length-set}
-use lib.Seq.{set-out}
-use Rattle.sheet.specs.Bytes.{numberAt}
-use Rattle.sheet.specs.Components.{amountsFrom}
-use Rattle.reader.proofs.Turns.{amounts-go, amounts-end}
+use Prim.Native.Nat.{_-_}
+use native.Mathlib.Omega.{arith}
+use Rattle.reader.proofs.Turns.{Listed, listed-none, listed-in, listed-out, listed-all}
 use borrow.Author.Needs.{needs}
 use Rattle.reader.proofs.amounts.Statement.{statement}
 use Rattle.reader.proofs.amounts.Tie as tie
 
 abbrev Inv-loop : tie.InvT-loop
-Inv-loop s n a₀ i₀ at₀ a i at = (i ≤ n) × (at ≡ 1 + 5 * i) × (length a ≡ CODES) × (amountsFrom (n - i) s at a ≡ amountsFrom n s 1 (replicate CODES 0))
+Inv-loop s n a₀ i₀ at₀ a i at = Listed s n a i at
 
 abbrev μ-loop : tie.MeasureT-loop
 μ-loop s n a₀ i₀ at₀ a i at = n - i
 
 loop-holds : tie.Need-loop-holds Inv-loop μ-loop
-loop-holds c = (search needs, search needs, search needs, simp sub-zero)
+loop-holds c = listed-none _ _
 
 shared-slice-read-c : tie.Need-shared-slice-read-c Inv-loop μ-loop
 shared-slice-read-c c = search needs
@@ -53,27 +45,15 @@ loop-less c = search needs
 
 loop-again : tie.Need-loop-again Inv-loop μ-loop
 loop-again c =
-    let a = c .before .before .before .before .before .before .args in
-    let l = c .before .before .before .before .loop in
+    let l = c .before .before .before .before .loop .inv in
     let t = c .before .before .before .loop-test .taken in
-    let go = amounts-go (a .n) (l .i) (a .s .now) (l .at) (l .a) t in
-    let f = c .before .amount-at .ensures in
-    let same : c .if1 .a ≡ set (l .a) (getD (a .s .now) (l .at) 0) (numberAt (a .s .now) (l .at + 1)) =
     ⊎-elim
-    (λ w. w .1 ∙ ap (λ (x : ℕ). set (l .a) (getD (a .s .now) (l .at) 0) x) f)
-    (λ w. w .1 ∙ sym (set-out _ _ _ (search needs)))
-    (c .if1 .came) in (
-      search needs,
-      search needs,
-      ap length same ∙ simp length-set (l .inv .2),
-      ap (λ (x : List ℕ). amountsFrom (a .n - (l .i + 1)) (a .s .now) (l .at + 5) x) same ∙ sym go ∙ l .inv .3,
-    )
+    (λ w. listed-in _ _ _ _ _ l t _ _ (c .before .amount-at .ensures) (w .1))
+    (λ w. listed-out _ _ _ _ _ l t _ (w .0 .left) (w .1))
+    (c .if1 .came)
 
 returns : tie.Need-returns Inv-loop μ-loop
-returns c =
-    let a = c .before .before .before .args in
-    let l = c .before .loop in
-    sym (amounts-end (a .n) (l .i) (a .s .now) (l .at) (l .a) (c .loop-test .left)) ∙ l .inv .3
+returns c = listed-all _ _ _ _ _ (c .before .loop .inv) (c .loop-test .left)
 
 pub amounts-spec : {M : Type 1} → statement M
 amounts-spec =

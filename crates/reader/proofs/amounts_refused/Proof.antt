@@ -1,45 +1,76 @@
--- `reader::amounts_refused` meets its contract. Assumes nothing.
-use mathlib.Core.Path.{_≡_, sym, ap, _∙_, refl}
-use Prim.Native.Nat.{ℕ, suc, _+_, _-_, _*_, _≤_, _<_}
+-- `reader::amounts_refused` meets its contract. The loop's invariant: one of the records from place i on is at 0 where one of all is. Assumes nothing.
+use Prim.Native.Nat.{_-_}
 use native.Mathlib.Omega.{arith}
+use Rattle.reader.proofs.Turns.{Looked, looked-none, looked-next, looked-zero, looked-all}
 use Rattle.reader.proofs.Answers.{zero-found, checked-found}
 use borrow.Author.Needs.{needs}
 use Rattle.reader.proofs.amounts_refused.Statement.{statement}
 use Rattle.reader.proofs.amounts_refused.Tie as tie
 
-zero-record-requires : tie.Need-zero-record-requires
-zero-record-requires c κs = search needs
+abbrev Inv-loop : tie.InvT-loop
+Inv-loop s n a i₀ at₀ i at = Looked s n i at
 
-mul-at : tie.Need-mul-at
-mul-at c = search needs
+abbrev μ-loop : tie.MeasureT-loop
+μ-loop s n a i₀ at₀ i at = n - i
 
-add-at : tie.Need-add-at
+loop-holds : tie.Need-loop-holds Inv-loop μ-loop
+loop-holds c = looked-none _ _
+
+add-amount-at : tie.Need-add-amount-at Inv-loop μ-loop
+add-amount-at c = search needs
+
+amount-at-requires : tie.Need-amount-at-requires Inv-loop μ-loop
+amount-at-requires c κs = search needs
+
+shared-slice-read-t10 : tie.Need-shared-slice-read-t10 Inv-loop μ-loop
+shared-slice-read-t10 c = search needs
+
+cast-t11 : tie.Need-cast-t11 Inv-loop μ-loop
+cast-t11 c = omega (arith, c .shared-slice-known2 .given (c .before .before .before .before .loop .at))
+
+returns : tie.Need-returns Inv-loop μ-loop
+returns c =
+    let b = c .before .before .before in
+    let l = b .before .loop .inv in
+    zero-found _ _ _ _ (l .there) (looked-zero _ _ _ _ l (b .loop-test .taken) _ (c .before .before .amount-at .ensures) (c .before .if1 .taken)) (b .loop-test .taken)
+
+add-i : tie.Need-add-i Inv-loop μ-loop
+add-i c = search needs
+
+add-at : tie.Need-add-at Inv-loop μ-loop
 add-at c = search needs
 
-shared-slice-read-t9 : tie.Need-shared-slice-read-t9
-shared-slice-read-t9 c = search needs
+loop-less : tie.Need-loop-less Inv-loop μ-loop
+loop-less c = search needs
 
-cast-t10 : tie.Need-cast-t10
-cast-t10 c = omega (arith, c .shared-slice-known2 .given (1 + 5 * c .before .before .zero-record .result))
+loop-again : tie.Need-loop-again Inv-loop μ-loop
+loop-again c =
+    let b = c .before .before in
+    looked-next _ _ _ _ (b .before .loop .inv) (b .loop-test .taken) _ (c .before .amount-at .ensures) (c .if1 .left)
 
-returns : tie.Need-returns
-returns c = zero-found _ _ _ (c .before .before .zero-record .ensures) (c .before .if1 .taken)
-
-check-requires : tie.Need-check-requires
+check-requires : tie.Need-check-requires Inv-loop μ-loop
 check-requires c κs = search needs
 
-returns-2 : tie.Need-returns-2
-returns-2 c = checked-found _ _ _ (c .before .before .zero-record .ensures) (c .before .if1 .left) _ (c .before .before .before .before .pre .1) _ (record { answer = c .check .ensures .0; code = c .check .ensures .1 })
+returns-2 : tie.Need-returns-2 Inv-loop μ-loop
+returns-2 c =
+    let b = c .before in
+    checked-found _ _ _ (looked-all _ _ _ _ (b .before .loop .inv) (b .loop-test .left)) (b .loop-test .left) _ (b .before .before .before .pre .1) _ (record { answer = c .check .ensures .0; code = c .check .ensures .1 })
 
 pub amounts-refused-spec : {M : Type 1} → statement M
 amounts-refused-spec =
     tie.close
     (tie.spec
-    zero-record-requires
-    mul-at
-    add-at
-    shared-slice-read-t9
-    cast-t10
+    Inv-loop
+    μ-loop
+    loop-holds
+    add-amount-at
+    amount-at-requires
+    shared-slice-read-t10
+    cast-t11
     returns
+    add-i
+    add-at
+    loop-less
+    loop-again
     check-requires
     returns-2)

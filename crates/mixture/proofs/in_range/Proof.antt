@@ -1,11 +1,14 @@
-use mathlib.Core.Path.{_≡_, ap, _∙_}
+-- `mixture::in_range` meets its contract. Assumes nothing.
+use mathlib.Core.Path.{_≡_, refl, ap, _∙_}
+use Prim.Native.Nat.{_<_}
 use native.Mathlib.Omega.{arith}
 use Rattle.analysis.specs.Check.{totalOf}
+use Rattle.mixture.specs.Scaling.{scaledOf}
 use Rattle.mixture.specs.Simplification.{amountOf, tenthsTotal}
 use Rattle.mixture.specs.Inert.{methaneShare}
 use borrow.Author.Needs.{needs}
-use Rattle.mixture.proofs.inert_first.Statement.{statement}
-use Rattle.mixture.proofs.inert_first.Tie as tie
+use Rattle.mixture.proofs.in_range.Statement.{statement}
+use Rattle.mixture.proofs.in_range.Tie as tie
 
 tenths-requires : tie.Need-tenths-requires
 tenths-requires c κs = search needs
@@ -13,30 +16,37 @@ tenths-requires c κs = search needs
 sum-requires : tie.Need-sum-requires
 sum-requires c κs = search needs
 
+scale-requires : tie.Need-scale-requires
+scale-requires c κs =
+    let t = c .before .before in
+    let e : c .sum .result ≡ tenthsTotal (t .before .args .a .now) = c .sum .ensures .0 ∙ ap totalOf (t .tenths .ensures .0) in
+    (t .tenths .ensures .1, c .sum .ensures .0, omega (arith, t .before .pre))
+
 element-copy-out-methane-share : tie.Need-element-copy-out-methane-share
 element-copy-out-methane-share c = search needs
 
 methane-share-requires : tie.Need-methane-share-requires
 methane-share-requires c κs =
-    let s = c .before in
+    let s = c .before .before in
     let t = s .before .before in
     let e : s .sum .result ≡ tenthsTotal (t .before .args .a .now) = s .sum .ensures .0 ∙ ap totalOf (t .tenths .ensures .0) in
-    omega (arith, s .sum .ensures .1, t .before .pre)
+    (omega (arith, t .before .pre), s .sum .ensures .1)
 
 returns : tie.Need-returns
 returns c =
-    let s = c .before .before in
+    let s = c .before .before .before in
     let t = s .before .before in
     let a = t .before .args .a .now in
     let e : s .sum .result ≡ tenthsTotal a = s .sum .ensures .0 ∙ ap totalOf (t .tenths .ensures .0) in
-    (c .methane-share .ensures .0 ∙ ap (λ n. methaneShare n (amountOf a 11)) e, c .methane-share .ensures .1)
+    (refl, c .before .before .scale .ensures ∙ ap scaledOf (t .tenths .ensures .0), c .methane-share .ensures .0 ∙ ap (λ n. methaneShare n (amountOf a 11)) e)
 
-pub inert-first-spec : {M : Type 1} → statement M
-inert-first-spec =
+pub in-range-spec : {M : Type 1} → statement M
+in-range-spec =
     tie.close
     (tie.spec
     tenths-requires
     sum-requires
+    scale-requires
     element-copy-out-methane-share
     methane-share-requires
     returns)
