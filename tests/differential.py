@@ -5,6 +5,7 @@
   python3 tests/differential.py DRIVER --long N SEED    N sheets of another seed
   ... --brief                                           the last line only
   ... --jobs N                                          processes at once; as many as processors if not said
+  ... --wait                                            the driver is being built meanwhile: its cases wait for it
 
 Seeded and repeatable, whatever the number of processes. Every answer and every buffer byte is compared, guards around
 the buffers included; a found split is put back as a proposed one; the distance of ratings from the exact fraction
@@ -29,7 +30,7 @@ DEFAULT_SHEETS, DEFAULT_SEED = 100000, 1
 PART = 5000                 # sheets of one part: a seed and a run of the driver of its own
 SEARCH_ONE_IN = 32          # good sheets that ask for a search
 EXACT = 150                 # ratings of proposed splits compared with the exact fraction, in a part
-SECONDS = 600               # the longest that the driver may take for a part
+SECONDS = 600               # the longest that the driver may take for a part, or to be built
 DISTANCE = 40               # units; every rating is nearer than this to the exact one
 WORD = struct.calcsize('P')
 U32, U64, I64 = 1 << 32, 1 << 64, 1 << 63
@@ -373,6 +374,15 @@ def kept_cases(cases, exact):
 
 # ------------------------------------------------------------ the driver
 
+def await_driver(driver):
+    """Waits for the driver; its folder has a file `failed` where it could not be built."""
+    begin, failed = time.time(), os.path.join(os.path.dirname(driver), 'failed')
+    while not os.path.exists(driver):
+        if os.path.exists(failed) or time.time() - begin > SECONDS:
+            raise Difference('the driver was not built')
+        time.sleep(0.1)
+
+
 def run(driver, lines, *options):
     with tempfile.TemporaryFile() as given:
         given.write(''.join(line + '\n' for line in lines).encode())
@@ -406,7 +416,7 @@ def compare(driver, cases, tally):
 
 def part(job):
     """One part: (difference or None, tally, exact ratings compared, farthest)."""
-    driver, seed, sheets, first = job
+    driver, seed, sheets, first, wait = job
     tally, exact, cases = {}, Exact(seed), Cases()
     try:
         if first:
@@ -415,6 +425,8 @@ def part(job):
         call_cases(cases, seed, sheets)
         for kind, sheet in itertools.islice(gases.sheets(seed, SEARCH_ONE_IN), sheets):
             sheet_cases(cases, exact, kind, sheet)
+        if wait:
+            await_driver(driver)
         compare(driver, cases, tally)
     except Difference as difference:
         return '%s\n  (seed %d of this part)' % (difference, seed), tally, 0, 0
@@ -434,9 +446,10 @@ def main():
     parser.add_argument('--long', nargs=2, type=int, metavar=('N', 'SEED'))
     parser.add_argument('--brief', action='store_true')
     parser.add_argument('--jobs', type=int, default=os.cpu_count() or 1)
+    parser.add_argument('--wait', action='store_true')
     options = parser.parse_args()
     sheets, seed = options.long or (DEFAULT_SHEETS, DEFAULT_SEED)
-    jobs = [(options.driver, seed * 100000 + i, min(PART, sheets - i * PART), i == 0)
+    jobs = [(options.driver, seed * 100000 + i, min(PART, sheets - i * PART), i == 0, options.wait)
             for i in range(-(-sheets // PART))]
     begin, tally, compared, farthest = time.time(), {}, 0, 0
     with multiprocessing.Pool(options.jobs) as pool:

@@ -2,7 +2,7 @@
 """The published examples through a driver (tests/driver.c) and the reference, compared, with the published methane
 number and the difference beside each.
 
-  python3 tests/published.py DRIVER [--brief]
+  python3 tests/published.py DRIVER [--brief] [--wait]       --wait: the driver is being built meanwhile
 
 A difference from a published number is no failure: the papers solve for equal partial numbers, and the search ends
 within 0.05. A difference between driver and reference ends with 1, as does a figure that the scope fixes.
@@ -98,10 +98,15 @@ def fixed(driver):
 
 
 def main():
-    arguments = [a for a in sys.argv[1:] if a != '--brief']
+    arguments = [a for a in sys.argv[1:] if a not in ('--brief', '--wait')]
     if len(arguments) != 1:
         sys.exit(__doc__)
     driver, brief = arguments[0], '--brief' in sys.argv
+    if '--wait' in sys.argv:
+        try:
+            d.await_driver(driver)
+        except d.Difference as difference:
+            sys.exit('published: %s' % difference)
     count = fixed(driver)
     answers = dict(line.split(' ', 1) for line in lines('published-answers.txt'))
     cases, table, largest = d.Cases(), [], 0.0

@@ -1,18 +1,22 @@
 #!/usr/bin/env bash
 # The C interface: builds the library's archive, compiles the driver and the example against it with the header, and
 # compares what the example prints. SAUGRINTE_LIB names another archive or a C file to take in the archive's place.
+# The driver gets its name once it is whole: the other tests wait for it, or for a file `failed`.
 set -euo pipefail
 cd "$(dirname "$0")/../.."
 
 out=target/interface
 mkdir -p "$out"
+rm -f "$out/failed" "$out/driver"
+trap 'status=$?; [ "$status" -eq 0 ] || touch "$out/failed"; exit "$status"' EXIT
 lib=${SAUGRINTE_LIB:-target/staticlib/libplant.a}
 if [ -z "${SAUGRINTE_LIB:-}" ]; then
   rt staticlib plant >"$out/staticlib.log" 2>&1 || { cat "$out/staticlib.log"; exit 1; }
 fi
 
 warnings='-std=c11 -Wall -Wextra -Werror'
-gcc -O3 $warnings -Iinclude tests/driver.c "$lib" -o "$out/driver"
+gcc -O3 $warnings -Iinclude tests/driver.c "$lib" -o "$out/driver.new"
+mv "$out/driver.new" "$out/driver"
 gcc -O3 $warnings -Iinclude examples/rate.c "$lib" -o "$out/rate-example"
 echo '#include "saugrinte.h"' | gcc -x c++ -fsyntax-only -Wall -Wextra -Werror -Iinclude - 2>"$out/header.log" \
   || { grep -q 'cc1plus' "$out/header.log" || { cat "$out/header.log"; exit 1; }; }

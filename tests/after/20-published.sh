@@ -1,5 +1,5 @@
 #!/usr/bin/env bash
-# The published examples through the library and the reference. 10-interface.sh has built the driver.
+# The published examples through the library and the reference. 10-interface.sh builds the driver, before or meanwhile.
 set -euo pipefail
 cd "$(dirname "$0")/../.."
-python3 tests/published.py target/interface/driver --brief
+python3 tests/published.py target/interface/driver --brief --wait

@@ -12,6 +12,7 @@ Command line: reads a sheet on standard input, prints the display line.
 import sys
 from decimal import Decimal
 from fractions import Fraction
+from functools import lru_cache
 from typing import NamedTuple
 
 PARTS = 1000000            # parts in the whole
@@ -258,6 +259,7 @@ def cut(number, divisor):
     return number // divisor if number >= 0 else -(-number // divisor)
 
 
+@lru_cache(maxsize=1 << 14)
 def work(system, n1, n2, d):
     """The working rule, for legal amounts."""
     result = 0

@@ -8,7 +8,7 @@ ghost use Rattle.analysis.specs.Check.{AtFault};
 ghost use Rattle.sheet.specs.Read.{readOf, FaultIn};
 ghost use Rattle.sheet.specs.Write.{writtenOf, leftOf};
 ghost use Rattle.ternary.specs.Answer.{partialOf};
-ghost use Rattle.ternary.specs.Whole.{wholeNumber};
+ghost use Rattle.whole.specs.Whole.{wholeNumber};
 ghost use Rattle.controller.specs.Record.{recordOf};
 ghost use Rattle.rating.specs.Rate.{splitAnswer, searchOutcome, sheetOutcome, numberOf, codeOf};
 ghost use Rattle.plant.specs.Interface.{SmallFigures, codeIn, replyOf, figuresOf, columnOf, partialReply, partialIn, readReply, readColumn, readCount, writtenReply, writtenLength, splitFrom, size};
@@ -290,5 +290,5 @@ pub extern "C" fn saugrinte_controller(rating: i64, spread: u64) -> ControllerRe
 pub extern "C" fn saugrinte_whole_number(rating: i64) -> i64
     ensures { λ r. ⌜ r ≡ wholeNumber rating ⌝ }
 {
-    ternary::whole_number(rating)
+    whole::whole_number(rating)
 }

@@ -34,7 +34,7 @@ fn put_answer(answer: Answer) {
         } => {
             put(b"RATED");
             put_signed(rating);
-            put_signed(ternary::whole_number(rating));
+            put_signed(whole::whole_number(rating));
             put_count(spread);
             put_count(rounds as u64);
         }

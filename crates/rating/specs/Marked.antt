@@ -3,7 +3,8 @@ use mathlib.Core.Path.{_≡_, refl, ap, _∙_}
 use mathlib.Core.List.{List, [], _∷_}
 use Prim.Native.Nat.{ℕ}
 use lib.ListN.{length}
-use Rattle.ternary.specs.Marked.{MarkedNumbers, marked-numbers, MarkedWholes, marked-wholes}
+use Rattle.ternary.specs.Marked.{MarkedNumbers, marked-numbers}
+use Rattle.whole.specs.Marked.{MarkedWholes, marked-wholes}
 use Rattle.mixture.specs.Simplification.{simplifiedOf}
 use Rattle.mixture.specs.Inert.{inertOf}
 use Rattle.mixture.specs.Marked.{tableA1, marked}

@@ -67,7 +67,7 @@ fn put_answer(answer: Answer) {
         } => {
             put(b"RATED");
             put_signed(rating);
-            put_signed(ternary::whole_number(rating));
+            put_signed(whole::whole_number(rating));
             put_number(spread);
             put_number(rounds as u64);
         }

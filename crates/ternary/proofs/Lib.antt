@@ -1,11 +1,7 @@
 pub mod Bits
 pub mod Combine
 pub mod Estimate
-pub mod Ratios
 pub mod Rows
 pub mod Signs
-pub mod Steps
 pub mod Systems
 pub mod Tables
-pub mod WholeNumbers
-pub mod Zeros

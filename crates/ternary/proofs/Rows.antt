@@ -1,41 +1,41 @@
 -- What the loop over a row keeps, and that its values stay small. Assumes nothing.
 use mathlib.Core.Path.{_≡_, refl, sym, ap, ap₂, _∙_}
-use Prim.Native.Nat.{ℕ, suc, _+_, _-_, _≤_, _<_}
+use Prim.Native.Nat.{ℕ, zero, suc, _+_, _-_, _≤_, _<_}
 use native.Mathlib.Omega.{arith}
-use lib.IntN.{ℤ, natAbs}
+use lib.IntN.{ℤ, pos, natAbs}
 use Rattle.ternary.specs.Size.{horner-le, part-le}
 use Rattle.ternary.specs.WorkingRule.{stepZ, horner, coefs, sumAbs}
+use Rattle.ternary.proofs.Signs.{zero-step}
 
-pub row-last : (a : ℕ → ℤ) (n d i total : ℕ) → total ≡ suc i → a i ≡ horner n d (coefs a i (total - i))
+-- before the loop: no coefficient yet
+pub row-none : (a : ℕ → ℤ) (n d i total : ℕ) → total ≡ i → pos 0 ≡ horner n d (coefs a i (total - i))
 unfolding horner coefs
-row-last a n d i total e = rw one-left
+row-none a n d i total e = rw none-left
   where
-    one-left : total - i ≡ 1
-    one-left = omega arith
+    none-left : total - i ≡ 0
+    none-left = omega arith
 
-row-next : (a : ℕ → ℤ) (n d j k : ℕ) → stepZ (horner n d (coefs a (suc j) (suc k))) n d (a j) ≡ horner n d (coefs a j (suc (suc k)))
+row-next : (a : ℕ → ℤ) (n d j k : ℕ) → stepZ (horner n d (coefs a (suc j) k)) n d (a j) ≡ horner n d (coefs a j (suc k))
 unfolding horner coefs
-row-next a n d j k = refl
+row-next a n d j zero = zero-step n d (a j)
+row-next a n d j (suc k) = refl
 
 sum-next : (a : ℕ → ℤ) (j k : ℕ) → natAbs (a j) + sumAbs (coefs a (suc j) k) ≡ sumAbs (coefs a j (suc k))
 unfolding sumAbs coefs
 sum-next a j k = refl
 
-module _ (a : ℕ → ℤ) (n d i total : ℕ) (i>0 : 0 < i) (i<total : i < total) where
+module _ (a : ℕ → ℤ) (n d i total : ℕ) (i>0 : 0 < i) (i≤total : i ≤ total) where
   there : i ≡ suc (i - 1)
   there = omega arith
 
-  left : total - i ≡ suc (total - suc i)
+  left : total - (i - 1) ≡ suc (total - i)
   left = omega arith
-
-  left′ : total - (i - 1) ≡ suc (total - i)
-  left′ = omega arith
 
   pub row-more : stepZ (horner n d (coefs a i (total - i))) n d (a (i - 1)) ≡ horner n d (coefs a (i - 1) (total - (i - 1)))
   row-more =
-      ap₂ (λ (x y : ℕ). stepZ (horner n d (coefs a x y)) n d (a (i - 1))) there left
-      ∙ row-next a n d (i - 1) (total - suc i)
-      ∙ ap (λ (x : ℕ). horner n d (coefs a (i - 1) x)) (ap suc (sym left) ∙ sym left′)
+      ap (λ (x : ℕ). stepZ (horner n d (coefs a x (total - i))) n d (a (i - 1))) there
+      ∙ row-next a n d (i - 1) (total - i)
+      ∙ ap (λ (x : ℕ). horner n d (coefs a (i - 1) x)) (sym left)
 
   pub row-room : (m : ℕ) → n ≤ d → total ≤ m → sumAbs (coefs a 0 m) ≤ 2000000000000 → natAbs (horner n d (coefs a i (total - i))) + natAbs (a (i - 1)) ≤ 2000000000000
   row-room m n≤d t≤ h =

@@ -1,165 +1,129 @@
--- The signed side of a step: biased by a multiple of d, divided as a natural number, and put back. Assumes nothing.
+-- The signed side of a step: the share of an accumulator's magnitude, with its sign and the next coefficient. Assumes nothing.
 use mathlib.Core.Path.{_≡_, refl, sym, ap, ap₂, _∙_, subst, subst⁻¹}
-use mathlib.Core.Bool.{true, false}
-use mathlib.Core.List.{[], _∷_}
-use Prim.Native.Nat.{ℕ, zero, suc, _+_, _-_, _*_, _/_, _%_, _^_, _≤_, _<_}
+use mathlib.Core.Bool.{Bool, true, false}
+use Prim.Native.Nat.{ℕ, zero, suc, _+_, _*_, _/_, _^_, _≤_, _<_, zero-le}
 use native.Mathlib.Nat as N
 use native.Mathlib.Omega.{arith}
 use lib.Dec.{T, lit<, ltb→lt}
-use lib.IntN.{ℤ, pos, negsuc, negℤ, natAbs, _+ℤ_, _-ℤ_, _*ℤ_}
+use lib.IntN.{ℤ, pos, negsuc, negℤ, natAbs, _+ℤ_, _-ℤ_, _*ℤ_, zero-*ℤ, +ℤ-idl, +ℤ-comm}
 use lib.Signed.{quotZ, ltZ, nonNeg, mag}
 use mir.Syntax.{w64}
 use mir.Val.{Fits, SFits, toZ, ofZ}
 use mir.ValLaws.{toZ-ofZ, toZ-pos}
-use Rattle.integer.specs.Ring.{mag-le, natAbs-+, natAbs--}
-use Rattle.integer.specs.Order.{sub-ge}
-use Rattle.integer.specs.Normal.{E, X, _⊕_, ⊖, solve, env}
+use Rattle.integer.specs.Ring.{mag-le, natAbs-+, natAbs--, natAbs-neg}
 use Rattle.ternary.specs.WorkingRule.{stepZ}
-use Rattle.ternary.specs.Precomputed.{roundingOf}
-use Rattle.ternary.proofs.Estimate.{quotient-is}
 
--- ---- biased
-
-up : ℤ → ℕ → ℕ
-up (pos x) l = x + l
-up (negsuc x) l = l - suc x
-
-bias-is : (acc : ℤ) (l : ℕ) → natAbs acc ≤ l → acc +ℤ pos l ≡ pos (up acc l)
-unfolding up
-bias-is (pos x) l h = refl
-bias-is (negsuc x) l h = sub-ge l (suc x) h
-
-up-le : (acc : ℤ) (l : ℕ) → up acc l ≤ natAbs acc + l
-unfolding up
-up-le (pos x) l = N.le-refl (x + l)
-up-le (negsuc x) l = omega arith
+-- ---- sizes in 64 bits
 
 sfits-small : (z : ℤ) → natAbs z ≤ 2000000000000000000 → SFits w64 z
 sfits-small z h = record { sfits = N.lt-of-le-of-lt (N.le-trans (mag-le z) h) (lit< tt) }
 
-as-pos : (m : ℕ) → m ≤ 2000000000000000000 → toZ w64 m ≡ pos m
-as-pos m h = toZ-pos w64 m (N.lt-of-le-of-lt h (lit< tt))
+-- ---- over whole numbers
 
-module _ (acc : ℤ) (l : ℕ) (fa : SFits w64 acc) (h : natAbs acc ≤ l) (l≤ : l ≤ 2200000000000) where
-  sum-is : toZ w64 (ofZ w64 acc) +ℤ toZ w64 l ≡ pos (up acc l)
-  sum-is = ap₂ _+ℤ_ (toZ-ofZ w64 acc fa) (as-pos l (N.le-trans l≤ (N.le-of-lt (lit< tt)))) ∙ bias-is acc l h
-
-  up-small : up acc l ≤ 4400000000000
-  up-small = omega (arith, up-le acc l)
-
-  pos-fits : SFits w64 (pos (up acc l))
-  pos-fits = sfits-small (pos (up acc l)) (N.le-trans up-small (N.le-of-lt (lit< tt)))
-
-  pub bias-add : SFits w64 (toZ w64 (ofZ w64 acc) +ℤ toZ w64 l)
-  bias-add = subst⁻¹ (SFits w64) sum-is pos-fits
-
-  back : toZ w64 (ofZ w64 (toZ w64 (ofZ w64 acc) +ℤ toZ w64 l)) ≡ pos (up acc l)
-  back = ap (λ (v : ℤ). toZ w64 (ofZ w64 v)) sum-is ∙ toZ-ofZ w64 (pos (up acc l)) pos-fits
-
-  pub bias-cast : T (nonNeg (toZ w64 (ofZ w64 (toZ w64 (ofZ w64 acc) +ℤ toZ w64 l)))) × Fits w64 (natAbs (toZ w64 (ofZ w64 (toZ w64 (ofZ w64 acc) +ℤ toZ w64 l))))
-  bias-cast = (subst⁻¹ (λ (v : ℤ). T (nonNeg v)) back tt, subst⁻¹ (λ (v : ℤ). Fits w64 (natAbs v)) back (record { fits = N.lt-of-le-of-lt up-small (lit< tt) }))
-
-  pub bias-result : pos (natAbs (toZ w64 (ofZ w64 (toZ w64 (ofZ w64 acc) +ℤ toZ w64 l)))) ≡ acc +ℤ pos l
-  bias-result = ap (λ (v : ℤ). pos (natAbs v)) back ∙ sym (bias-is acc l h)
-
--- ---- rounding
-
-neg-rounding : (z : ℤ) (d : ℕ) → ltZ z (pos 0) ≡ true → d - 1 ≡ roundingOf z d
-neg-rounding (pos x) d e = absurd (N.not-suc-le-zero (ltb→lt x 0 (subst⁻¹ T e tt)))
-neg-rounding (negsuc x) d e = refl
-
-pos-rounding : (z : ℤ) (d : ℕ) → ltZ z (pos 0) ≡ false → 0 ≡ roundingOf z d
-pos-rounding (pos x) d e = refl
-pos-rounding (negsuc x) d e = absurd (subst T e tt)
-
-pub rounding-neg : (z : ℤ) (d : ℕ) → SFits w64 z → ltZ (toZ w64 (ofZ w64 z)) (pos 0) ≡ true → d - 1 ≡ roundingOf z d
-rounding-neg z d f e = neg-rounding z d (subst (λ (v : ℤ). ltZ v (pos 0) ≡ true) (toZ-ofZ w64 z f) e)
-
-pub rounding-pos : (z : ℤ) (d : ℕ) → SFits w64 z → ltZ (toZ w64 (ofZ w64 z)) (pos 0) ≡ false → 0 ≡ roundingOf z d
-rounding-pos z d f e = pos-rounding z d (subst (λ (v : ℤ). ltZ v (pos 0) ≡ false) (toZ-ofZ w64 z f) e)
-
--- ---- unbiased
-
-module _ (q l : ℕ) (c : ℤ) (fc : SFits w64 c) (q≤ : q ≤ 4200000000001) (l≤ : l ≤ 2200000000000) (c≤ : natAbs c ≤ 2000000000000) where
-  diff-is : toZ w64 (ofZ w64 c) -ℤ toZ w64 l ≡ c -ℤ pos l
-  diff-is = ap₂ _-ℤ_ (toZ-ofZ w64 c fc) (as-pos l (N.le-trans l≤ (N.le-of-lt (lit< tt))))
-
-  diff-le : natAbs (c -ℤ pos l) ≤ 4200000000000
-  diff-le = omega (arith, natAbs-- c (pos l))
-
-  diff-fits : SFits w64 (c -ℤ pos l)
-  diff-fits = sfits-small (c -ℤ pos l) (N.le-trans diff-le (N.le-of-lt (lit< tt)))
-
-  end-is : toZ w64 (ofZ w64 (toZ w64 (ofZ w64 c) -ℤ toZ w64 l)) +ℤ toZ w64 q ≡ (c -ℤ pos l) +ℤ pos q
-  end-is = ap₂ _+ℤ_ (ap (λ (v : ℤ). toZ w64 (ofZ w64 v)) diff-is ∙ toZ-ofZ w64 (c -ℤ pos l) diff-fits) (as-pos q (N.le-trans q≤ (N.le-of-lt (lit< tt))))
-
-  end-fits : SFits w64 ((c -ℤ pos l) +ℤ pos q)
-  end-fits = sfits-small ((c -ℤ pos l) +ℤ pos q) (omega (arith, natAbs-+ (c -ℤ pos l) (pos q), diff-le))
-
-  pub unbias-sub : SFits w64 (toZ w64 (ofZ w64 c) -ℤ toZ w64 l)
-  unbias-sub = subst⁻¹ (SFits w64) diff-is diff-fits
-
-  pub unbias-add : SFits w64 (toZ w64 (ofZ w64 (toZ w64 (ofZ w64 c) -ℤ toZ w64 l)) +ℤ toZ w64 q)
-  unbias-add = subst⁻¹ (SFits w64) end-is end-fits
-
-  pub unbias-result : toZ w64 (ofZ w64 (toZ w64 (ofZ w64 (toZ w64 (ofZ w64 c) -ℤ toZ w64 l)) +ℤ toZ w64 q)) ≡ (c -ℤ pos l) +ℤ pos q
-  unbias-result = ap (λ (v : ℤ). toZ w64 (ofZ w64 v)) end-is ∙ toZ-ofZ w64 ((c -ℤ pos l) +ℤ pos q) end-fits
-
--- ---- the step
+pub zero-step : (n d : ℕ) (c : ℤ) → stepZ (pos 0) n d c ≡ c
+zero-step n d c = ap (λ (x : ℤ). quotZ x (pos d) +ℤ c) (zero-*ℤ (pos n)) ∙ ap (λ (x : ℕ). pos x +ℤ c) (N.zero-div d) ∙ +ℤ-idl c
 
 quot-neg : (y d : ℕ) → quotZ (negℤ (pos y)) (pos d) ≡ negℤ (pos (y / d))
 quot-neg zero d = rw (N.zero-div d)
 quot-neg (suc y) d = refl
 
-neg-sum : (q t : ℕ) → q ≤ t → negℤ (pos q) +ℤ pos t ≡ pos (t - q)
-neg-sum zero t h = ap pos (omega arith)
-neg-sum (suc q) t h = sub-ge t (suc q) h
+neg-step : (acc c : ℤ) (n d : ℕ) → ltZ acc (pos 0) ≡ true → c -ℤ pos (natAbs acc * n / d) ≡ stepZ acc n d c
+neg-step (pos x) c n d t = absurd (N.not-suc-le-zero (ltb→lt x 0 (subst⁻¹ T t tt)))
+neg-step (negsuc x) c n d t = +ℤ-comm c (negℤ (pos (suc x * n / d))) ∙ ap (λ (v : ℤ). v +ℤ c) (sym (quot-neg (suc x * n) d))
 
-module _ (n d k x a : ℕ) (d>0 : 0 < d) where
-  above : a ≡ x + k * d → x * n / d + k * n ≡ (a * n + 0) / d
-  above e = sym (ap (λ (v : ℕ). v / d) shape ∙ N.add-mul-div-right (x * n) (k * n) d>0)
-    where
-      shape : a * n + 0 ≡ x * n + k * n * d
-      shape = omega (arith, ap (λ (v : ℕ). v * n) e, N.add-mul x (k * d) n, N.mul-assoc k d n, ap (λ (v : ℕ). k * v) (N.mul-comm d n), N.mul-assoc k n d)
+pos-step : (acc c : ℤ) (n d : ℕ) → ltZ acc (pos 0) ≡ false → c +ℤ pos (natAbs acc * n / d) ≡ stepZ acc n d c
+pos-step (pos x) c n d t = +ℤ-comm c (pos (x * n / d))
+pos-step (negsuc x) c n d t = absurd (subst T t tt)
 
-  module _ (h : x ≤ k * d) (e : a ≡ k * d - x) where
-    total : a * n + x * n ≡ k * n * d
-    total = sym (N.add-mul a x n) ∙ ap (λ (v : ℕ). v * n) there ∙ N.mul-assoc k d n ∙ ap (λ (v : ℕ). k * v) (N.mul-comm d n) ∙ sym (N.mul-assoc k n d)
-      where
-        there : a + x ≡ k * d
-        there = omega arith
+neg-sign : (acc : ℤ) → ltZ acc (pos 0) ≡ true → T (nonNeg (pos 0 -ℤ acc))
+neg-sign (pos x) t = absurd (N.not-suc-le-zero (ltb→lt x 0 (subst⁻¹ T t tt)))
+neg-sign (negsuc x) t = subst⁻¹ (λ (v : ℤ). T (nonNeg v)) (+ℤ-idl (pos (suc x))) tt
 
-    below-le : x * n / d ≤ k * n
-    below-le = N.le-of-mul-le-mul-right {k = d} (omega (arith, total, N.div-mul-le-self (x * n) d)) d>0
+pos-sign : (acc : ℤ) → ltZ acc (pos 0) ≡ false → T (nonNeg acc)
+pos-sign (pos x) t = tt
+pos-sign (negsuc x) t = absurd (subst T t tt)
 
-    below : k * n - x * n / d ≡ (a * n + (d - 1)) / d
-    below = quotient-is (k * n - x * n / d) (a * n + (d - 1)) (d - 1 - x * n % d) d shape (omega arith)
-      where
-        split : (k * n - x * n / d) * d + x * n / d * d ≡ k * n * d
-        split = sym (N.add-mul (k * n - x * n / d) (x * n / d) d) ∙ ap (λ (v : ℕ). v * d) (N.sub-add-cancel below-le)
+neg-size : (acc : ℤ) → natAbs (pos 0 -ℤ acc) ≡ natAbs acc
+neg-size acc = ap natAbs (+ℤ-idl (negℤ acc)) ∙ natAbs-neg acc
 
-        shape : a * n + (d - 1) ≡ (k * n - x * n / d) * d + (d - 1 - x * n % d)
-        shape = omega (arith, total, split, N.div-add-mod' (x * n) d, N.mod-lt (x * n) d>0)
+share-small : (x n d : ℕ) → n ≤ d → x * n / d ≤ x
+share-small x n zero h = rw (N.div-zero (x * n)) (zero-le)
+share-small x n (suc d) h = N.le-of-mul-le-mul-right {k = suc d} (N.le-trans (N.div-mul-le-self (x * n) (suc d)) (N.mul-le-mul-left x h)) (omega arith)
 
-share-is : (acc : ℤ) (n d k a : ℕ) → 0 < d → natAbs acc ≤ k * d → a ≡ up acc (k * d) → quotZ (acc *ℤ pos n) (pos d) +ℤ pos (k * n) ≡ pos ((a * n + roundingOf acc d) / d)
-unfolding up
-share-is (pos x) n d k a d>0 h e = ap pos (above n d k x a d>0 e)
-share-is (negsuc x) n d k a d>0 h e =
-    ap (λ (v : ℤ). v +ℤ pos (k * n)) (quot-neg (suc x * n) d)
-    ∙ neg-sum (suc x * n / d) (k * n) (below-le n d k (suc x) a d>0 h e)
-    ∙ ap pos (below n d k (suc x) a d>0 h e)
+-- ---- what `share` cites: its parameter as a natural number, and a natural number as its result
 
-put-back : (c l t : ℤ) → (c -ℤ l) +ℤ (t +ℤ l) ≡ t +ℤ c
-put-back c l t = solve (env (c ∷ l ∷ t ∷ [])) ((X 0 ⊕ ⊖ (X 1)) ⊕ (X 2 ⊕ X 1)) (X 2 ⊕ X 0) refl
+pub size-back : (a : ℤ) → SFits w64 a → natAbs (toZ w64 (ofZ w64 a)) ≡ natAbs a
+size-back a f = ap natAbs (toZ-ofZ w64 a f)
 
-pub step-is : (acc c : ℤ) (n d k a : ℕ) → 0 < d → natAbs acc ≤ k * d → pos a ≡ acc +ℤ pos (k * d) → (c -ℤ pos (k * n)) +ℤ pos ((a * n + roundingOf acc d) / d) ≡ stepZ acc n d c
-step-is acc c n d k a d>0 h e =
-    ap (λ (v : ℤ). (c -ℤ pos (k * n)) +ℤ v) (sym (share-is acc n d k a d>0 h (ap natAbs (e ∙ bias-is acc (k * d) h))))
-    ∙ put-back c (pos (k * n)) (quotZ (acc *ℤ pos n) (pos d))
+pub size-le : (a : ℤ) → SFits w64 a → natAbs a ≤ 2000000000000 → natAbs (toZ w64 (ofZ w64 a)) ≤ 2000000000000
+size-le a f h = rw (size-back a f) h
 
--- a call's result, and a parameter passed on, read back from the bits
-pub read-back : (z : ℤ) → SFits w64 z → toZ w64 (ofZ w64 z) ≡ z
-read-back z f = toZ-ofZ w64 z f
+pub cast-ok : (a : ℤ) → SFits w64 a → T (nonNeg a) → natAbs a ≤ 2000000000000 → T (nonNeg (toZ w64 (ofZ w64 a))) × Fits w64 (natAbs (toZ w64 (ofZ w64 a)))
+cast-ok a f s h = (subst⁻¹ (λ (v : ℤ). T (nonNeg v)) (toZ-ofZ w64 a f) s, record { fits = N.lt-of-le-of-lt (size-le a f h) (lit< tt) })
 
-pub both-back : (acc c : ℤ) → SFits w64 acc → SFits w64 c → natAbs acc + natAbs c ≤ 2000000000000 → natAbs (toZ w64 (ofZ w64 acc)) + natAbs (toZ w64 (ofZ w64 c)) ≤ 2000000000000
-both-back acc c fa fc h = rw (toZ-ofZ w64 acc fa, toZ-ofZ w64 c fc) h
+pub as-signed : (q : ℕ) → q ≤ 2000001000001 → SFits w64 (pos q)
+as-signed q h = record { sfits = N.lt-of-le-of-lt h (lit< tt) }
+
+pub share-is : (a : ℤ) (q n d : ℕ) → SFits w64 a → q ≤ 2000001000001 → q ≡ natAbs (toZ w64 (ofZ w64 a)) * n / d → toZ w64 q ≡ pos (natAbs a * n / d)
+share-is a q n d f h e = toZ-pos w64 q (N.lt-of-le-of-lt h (lit< tt)) ∙ ap pos (e ∙ ap (λ (x : ℕ). x * n / d) (size-back a f))
+
+-- ---- what `step` cites
+
+module _ (acc c : ℤ) (fa : SFits w64 acc) (fc : SFits w64 c) (small : natAbs acc + natAbs c ≤ 2000000000000) where
+  acc-le : natAbs acc ≤ 2000000000000
+  acc-le = omega arith
+
+  moved-neg : pos 0 -ℤ toZ w64 (ofZ w64 acc) ≡ pos 0 -ℤ acc
+  moved-neg = ap (λ (v : ℤ). pos 0 -ℤ v) (toZ-ofZ w64 acc fa)
+
+  neg-le : natAbs (pos 0 -ℤ acc) ≤ 2000000000000
+  neg-le = rw (neg-size acc) acc-le
+
+  neg-fits : SFits w64 (pos 0 -ℤ acc)
+  neg-fits = sfits-small (pos 0 -ℤ acc) (N.le-trans neg-le (N.le-of-lt (lit< tt)))
+
+  pub neg-ok : SFits w64 (pos 0 -ℤ toZ w64 (ofZ w64 acc))
+  neg-ok = subst⁻¹ (SFits w64) moved-neg neg-fits
+
+  neg-back : toZ w64 (ofZ w64 (pos 0 -ℤ toZ w64 (ofZ w64 acc))) ≡ pos 0 -ℤ acc
+  neg-back = ap (λ (v : ℤ). toZ w64 (ofZ w64 v)) moved-neg ∙ toZ-ofZ w64 (pos 0 -ℤ acc) neg-fits
+
+  sign-back : {b : Bool} → ltZ (toZ w64 (ofZ w64 acc)) (pos 0) ≡ b → ltZ acc (pos 0) ≡ b
+  sign-back t = ap (λ (v : ℤ). ltZ v (pos 0)) (sym (toZ-ofZ w64 acc fa)) ∙ t
+
+  pub neg-asked : ltZ (toZ w64 (ofZ w64 acc)) (pos 0) ≡ true → T (nonNeg (toZ w64 (ofZ w64 (pos 0 -ℤ toZ w64 (ofZ w64 acc))))) × (natAbs (toZ w64 (ofZ w64 (pos 0 -ℤ toZ w64 (ofZ w64 acc)))) ≤ 2000000000000)
+  neg-asked t = (subst⁻¹ (λ (v : ℤ). T (nonNeg v)) neg-back (neg-sign acc (sign-back t)), subst⁻¹ (λ (v : ℤ). natAbs v ≤ 2000000000000) neg-back neg-le)
+
+  pub pos-asked : ltZ (toZ w64 (ofZ w64 acc)) (pos 0) ≡ false → T (nonNeg (toZ w64 (ofZ w64 acc))) × (natAbs (toZ w64 (ofZ w64 acc)) ≤ 2000000000000)
+  pos-asked t = (subst⁻¹ (λ (v : ℤ). T (nonNeg v)) (toZ-ofZ w64 acc fa) (pos-sign acc (sign-back t)), size-le acc fa acc-le)
+
+  pub zero-is : (n d : ℕ) → ofZ w64 acc ≡ 0 → toZ w64 (ofZ w64 c) ≡ stepZ acc n d c
+  zero-is n d e = toZ-ofZ w64 c fc ∙ sym (zero-step n d c) ∙ ap (λ (v : ℤ). stepZ v n d c) (sym (ap (toZ w64) e) ∙ toZ-ofZ w64 acc fa)
+
+  module _ (n d : ℕ) (n≤d : n ≤ d) (r : ℤ) (fr : mag r < 2 ^ 63) where
+    small-share : natAbs acc * n / d ≤ natAbs acc
+    small-share = share-small (natAbs acc) n d n≤d
+
+    less-is : r ≡ pos (natAbs (toZ w64 (ofZ w64 (pos 0 -ℤ toZ w64 (ofZ w64 acc)))) * n / d) → toZ w64 (ofZ w64 c) -ℤ toZ w64 (ofZ w64 r) ≡ c -ℤ pos (natAbs acc * n / d)
+    less-is e = ap₂ _-ℤ_ (toZ-ofZ w64 c fc) (toZ-ofZ w64 r (record { sfits = fr }) ∙ e ∙ ap (λ (x : ℕ). pos (x * n / d)) (ap natAbs neg-back ∙ neg-size acc))
+
+    more-is : r ≡ pos (natAbs (toZ w64 (ofZ w64 acc)) * n / d) → toZ w64 (ofZ w64 c) +ℤ toZ w64 (ofZ w64 r) ≡ c +ℤ pos (natAbs acc * n / d)
+    more-is e = ap₂ _+ℤ_ (toZ-ofZ w64 c fc) (toZ-ofZ w64 r (record { sfits = fr }) ∙ e ∙ ap (λ (x : ℕ). pos (x * n / d)) (size-back acc fa))
+
+    less-fits : SFits w64 (c -ℤ pos (natAbs acc * n / d))
+    less-fits = sfits-small (c -ℤ pos (natAbs acc * n / d)) (omega (arith, natAbs-- c (pos (natAbs acc * n / d)), small-share))
+
+    more-fits : SFits w64 (c +ℤ pos (natAbs acc * n / d))
+    more-fits = sfits-small (c +ℤ pos (natAbs acc * n / d)) (omega (arith, natAbs-+ c (pos (natAbs acc * n / d)), small-share))
+
+    pub less-ok : r ≡ pos (natAbs (toZ w64 (ofZ w64 (pos 0 -ℤ toZ w64 (ofZ w64 acc)))) * n / d) → SFits w64 (toZ w64 (ofZ w64 c) -ℤ toZ w64 (ofZ w64 r))
+    less-ok e = subst⁻¹ (SFits w64) (less-is e) less-fits
+
+    pub more-ok : r ≡ pos (natAbs (toZ w64 (ofZ w64 acc)) * n / d) → SFits w64 (toZ w64 (ofZ w64 c) +ℤ toZ w64 (ofZ w64 r))
+    more-ok e = subst⁻¹ (SFits w64) (more-is e) more-fits
+
+    pub less-gives : ltZ (toZ w64 (ofZ w64 acc)) (pos 0) ≡ true → r ≡ pos (natAbs (toZ w64 (ofZ w64 (pos 0 -ℤ toZ w64 (ofZ w64 acc)))) * n / d) → toZ w64 (ofZ w64 (toZ w64 (ofZ w64 c) -ℤ toZ w64 (ofZ w64 r))) ≡ stepZ acc n d c
+    less-gives t e = ap (λ (v : ℤ). toZ w64 (ofZ w64 v)) (less-is e) ∙ toZ-ofZ w64 (c -ℤ pos (natAbs acc * n / d)) less-fits ∙ neg-step acc c n d (sign-back t)
+
+    pub more-gives : ltZ (toZ w64 (ofZ w64 acc)) (pos 0) ≡ false → r ≡ pos (natAbs (toZ w64 (ofZ w64 acc)) * n / d) → toZ w64 (ofZ w64 (toZ w64 (ofZ w64 c) +ℤ toZ w64 (ofZ w64 r))) ≡ stepZ acc n d c
+    more-gives t e = ap (λ (v : ℤ). toZ w64 (ofZ w64 v)) (more-is e) ∙ toZ-ofZ w64 (c +ℤ pos (natAbs acc * n / d)) more-fits ∙ pos-step acc c n d (sign-back t)

@@ -1,30 +1,50 @@
 -- A system's table keeps the rule of the coefficients, and its number is the partial number. Assumes nothing.
 use mathlib.Core.Path.{_≡_, refl, sym, ap, _∙_, subst⁻¹}
-use mathlib.Core.Bool.{Bool, true, false, not}
+use mathlib.Core.Bool.{Bool, true, false}
 use mathlib.Core.List.{List}
-use Prim.Native.Nat.{ℕ, _+_}
-use lib.Dec.{T}
+use Prim.Native.Nat.{ℕ, _+_, _-_, _≤_, _<_}
+use native.Mathlib.Omega.{arith}
 use lib.IntN.{ℤ}
 use Rattle.ternary.specs.WorkingRule.{worked, rowsOf}
-use Rattle.ternary.specs.Coefficients.{systems, placeIn}
+use Rattle.ternary.specs.Coefficients.{systems, placeIn, coeffOf}
 use Rattle.ternary.specs.Bound.{small}
 use Rattle.ternary.specs.Table.{inTable, Bounded}
 use Rattle.ternary.specs.Partial.{partialNumber}
-use Rattle.ternary.specs.Answer.{tableOf}
+use Rattle.ternary.specs.Answer.{isSystem, tableOf, isMixture, partialOf, partial-is, partial-12}
+use Rattle.ternary.specs.declared.Partial.{Partial}
+use Rattle.ternary.specs.declared.Partial.the-variants.{Number, Refused}
 
 pub small-table : (s : ℕ) (t : List ℤ) → t ≡ tableOf s → Bounded t
 unfolding tableOf
 small-table s t e = subst⁻¹ Bounded e (record { sum = small (placeIn systems s) })
 
-pub number-is : (s n1 n2 n3 : ℕ) (t : List ℤ) → t ≡ tableOf s → worked n1 n2 (n1 + n2 + n3) (rowsOf (inTable t)) ≡ partialNumber s n1 n2 n3
-unfolding tableOf partialNumber
-number-is s n1 n2 n3 t e = ap (λ (x : List ℤ). worked n1 n2 (n1 + n2 + n3) (rowsOf (inTable x))) e
+-- a result for a table and ratios that are those of a system, n1, n2 and d
+pub number-is : (s n1 n2 d n1′ n2′ d′ : ℕ) (t : List ℤ) → t ≡ tableOf s → n1′ ≡ n1 → n2′ ≡ n2 → d′ ≡ d → worked n1′ n2′ d′ (rowsOf (inTable t)) ≡ worked n1 n2 d (rowsOf (coeffOf s))
+unfolding tableOf
+number-is s n1 n2 d n1′ n2′ d′ t h e f g =
+    ap (λ (x : ℕ). worked x n2′ d′ (rowsOf (inTable t))) e
+    ∙ ap (λ (x : ℕ). worked n1 x d′ (rowsOf (inTable t))) f
+    ∙ ap (λ (x : ℕ). worked n1 n2 x (rowsOf (inTable t))) g
+    ∙ ap (λ (x : List ℤ). worked n1 n2 d (rowsOf (inTable x))) h
 
--- what a negated test says
-pub not-yes : (b x : Bool) → b ≡ x → not b ≡ true → x ≡ false
-not-yes true x e h = absurd (subst⁻¹ T h tt)
-not-yes false x e h = sym e
+-- ---- what `of_sum` answers: d is the sum of n1, n2 and the third amount
 
-pub not-no : (b x : Bool) → b ≡ x → not b ≡ false → x ≡ true
-not-no true x e h = sym e
-not-no false x e h = absurd (subst⁻¹ T (sym h) tt)
+module _ (s n1 n2 d : ℕ) (known : isSystem s ≡ true) (h : n1 + n2 ≤ d) where
+  whole : n1 + n2 + (d - n1 - n2) ≡ d
+  whole = omega arith
+
+  pub sum-refused : isMixture d ≡ false → Refused 12 ≡ partialOf s n1 n2 (d - n1 - n2)
+  sum-refused k = sym (partial-12 s n1 n2 (d - n1 - n2) known (ap isMixture whole ∙ k))
+
+  pub sum-number : (z : ℤ) → z ≡ worked n1 n2 d (rowsOf (coeffOf s)) → 0 < d → d ≤ 1000000 → Number z ≡ partialOf s n1 n2 (d - n1 - n2)
+  unfolding partialNumber
+  sum-number z e k l =
+      ap Number (e ∙ ap (λ (x : ℕ). worked n1 n2 x (rowsOf (coeffOf s))) (sym whole))
+      ∙ sym (partial-is s n1 n2 (d - n1 - n2) known (omega (arith, whole)) (omega (arith, whole)))
+
+-- and from there to the three amounts
+pub sum-of : (s n1 n2 n3 : ℕ) → partialOf s n1 n2 (n1 + n2 + n3 - n1 - n2) ≡ partialOf s n1 n2 n3
+sum-of s n1 n2 n3 = ap (partialOf s n1 n2) third
+  where
+    third : n1 + n2 + n3 - n1 - n2 ≡ n3
+    third = omega arith

@@ -5,7 +5,6 @@ pub mod Size
 pub mod Bound
 pub mod Partial
 pub mod Answer
-pub mod Whole
 pub mod Precomputed
 pub mod Table
 pub mod Marked

@@ -1,10 +1,9 @@
--- The marked figures of partial numbers and whole numbers (document 01, "Gases and their figures"), computed. Assumes nothing.
+-- The marked figures of partial numbers (document 01, "Gases and their figures"), computed. Assumes nothing.
 use mathlib.Core.Path.{_≡_, refl}
-use lib.IntN.{ℤ, pos, negsuc}
+use lib.IntN.{ℤ, pos}
 use Rattle.ternary.specs.WorkingRule.{worked, rowsOf, horner, coefs}
 use Rattle.ternary.specs.Coefficients.{placeIn}
 use Rattle.ternary.specs.Partial.{partialNumber}
-use Rattle.ternary.specs.Whole.{wholeNumber}
 
 -- at all methane; system 2 at all propane, and at all butane
 pub record MarkedNumbers : Type 0 where
@@ -18,12 +17,3 @@ pub record MarkedNumbers : Type 0 where
 pub marked-numbers : MarkedNumbers
 unfolding partialNumber worked rowsOf horner coefs placeIn
 marked-numbers = record { inert = refl; four = refl; seven = refl; eight = refl; two-propane = refl; two-butane = refl }
-
-pub record MarkedWholes : Type 0 where
-  pub half : wholeNumber (pos 765000000) ≡ pos 77
-  pub below-half : wholeNumber (pos 764999999) ≡ pos 76
-  pub minus-half : wholeNumber (negsuc 4999999) ≡ pos 0
-  pub below-minus-half : wholeNumber (negsuc 5000000) ≡ negsuc 0
-
-pub marked-wholes : MarkedWholes
-marked-wholes = record { half = refl; below-half = refl; minus-half = refl; below-minus-half = refl }

@@ -122,16 +122,10 @@ const SYSTEM_20: [i64; 20] = [
 pub(crate) fn is_system(system: u32) -> bool
     ensures { λ r. ⌜ r ≡ isSystem system ⌝ }
 {
-    if system == 2 {
-        true
-    } else if system == 4 {
-        true
-    } else if system == 7 {
-        true
-    } else if system == 8 {
-        true
-    } else {
-        system == 20
+    match system {
+        2 | 4 | 7 | 20 => true,
+        8 => true,
+        _ => false,
     }
 }
 
@@ -140,15 +134,11 @@ pub(crate) fn table(system: u32) -> [i64; 20]
     requires { ⌜ isSystem system ≡ true ⌝ }
     ensures { λ r. ⌜ r ≡ tableOf system ⌝ }
 {
-    if system == 2 {
-        SYSTEM_2
-    } else if system == 4 {
-        SYSTEM_4
-    } else if system == 7 {
-        SYSTEM_7
-    } else if system == 8 {
-        SYSTEM_8
-    } else {
-        SYSTEM_20
+    match system {
+        2 => SYSTEM_2,
+        4 => SYSTEM_4,
+        7 => SYSTEM_7,
+        8 => SYSTEM_8,
+        _ => SYSTEM_20,
     }
 }

@@ -1,4 +1,4 @@
-// Partial numbers of the ternary systems (000 A.3.4), and the whole number of a rating.
+// Partial numbers of the ternary systems (000 A.3.4).
 //
 // A part is 0.0001 % by volume, a unit 0.0000001 of a methane number: document 01's own terms.
 // No public function has a `requires`.
@@ -7,8 +7,9 @@ mod ratio;
 mod rule;
 
 ghost use mathlib.Core.Path.{_≡_};
-ghost use Rattle.ternary.specs.Answer.{partialOf};
-ghost use Rattle.ternary.specs.Whole.{wholeNumber};
+ghost use mathlib.Core.Bool.{true};
+ghost use Prim.Native.Nat.{_+_, _-_, _≤_};
+ghost use Rattle.ternary.specs.Answer.{isSystem, partialOf};
 
 // The largest sum of amounts, in parts.
 const LIMIT: u64 = 1000000;
@@ -24,29 +25,19 @@ pub enum Partial {
 pub fn partial_number(system: u32, n1: u32, n2: u32, n3: u32) -> Partial
     ensures { λ r. ⌜ r ≡ partialOf system n1 n2 n3 ⌝ }
 {
-    if !coefficients::is_system(system) {
-        return Partial::Refused(13);
+    if coefficients::is_system(system) {
+        return of_sum(system, n1, n2, n1 as u64 + n2 as u64 + n3 as u64);
     }
-    let d = n1 as u64 + n2 as u64 + n3 as u64;
+    Partial::Refused(13)
+}
+
+// The partial number of one of the systems at n1, n2 and a third amount, of sum d.
+fn of_sum(system: u32, n1: u32, n2: u32, d: u64) -> Partial
+    requires { ⌜ (isSystem system ≡ true) × (n1 + n2 ≤ d) ⌝ }
+    ensures { λ r. ⌜ r ≡ partialOf system n1 n2 (d - n1 - n2) ⌝ }
+{
     if d == 0 || LIMIT < d {
         return Partial::Refused(12);
     }
-    let t = coefficients::table(system);
-    Partial::Number(rule::number(&t, n1 as u64, n2 as u64, d))
-}
-
-// The whole number of a rating in units: (rating + 5000000) / 10000000 rounded down, by a quotient towards zero and its
-// remainder, so that no sum leaves its 64 bits.
-pub fn whole_number(rating: i64) -> i64
-    ensures { λ r. ⌜ r ≡ wholeNumber rating ⌝ }
-{
-    let q = rating / 10000000;
-    let r = rating % 10000000;
-    if r < -5000000 {
-        q - 1
-    } else if r < 5000000 {
-        q
-    } else {
-        q + 1
-    }
+    Partial::Number(rule::number(system, n1, n2, d))
 }

@@ -1,92 +1,57 @@
 // The step of the working rule, n / d of an accumulator with its fraction dropped towards zero and the next coefficient,
-// by multiplications with a reciprocal of d in place of a division.
-//
-// The accumulator gets a bias, a multiple of d, so that it is not negative; its quotient is estimated twice from below and
-// corrected once; then the bias's own share is taken off again.
+// by multiplications with n / d in binary digits in place of a division.
 ghost use mathlib.Core.Path.{_≡_};
 ghost use Prim.Native.Nat.{_+_, _*_, _/_, _<_, _≤_};
-ghost use lib.IntN.{ℤ, pos, natAbs, _+ℤ_, _-ℤ_};
+ghost use lib.IntN.{ℤ, pos, natAbs};
+ghost use lib.Dec.{T};
+ghost use lib.Signed.{nonNeg};
 ghost use Rattle.ternary.specs.WorkingRule.{stepZ};
-ghost use Rattle.ternary.specs.Precomputed.{Precomputed, Dividend, roundingOf};
+ghost use Rattle.ternary.specs.Precomputed.{Precomputed};
 
-// A ratio n / d, at most 1, and what its steps use: 2^42 / d rounded down, n times that over 2^20 rounded down (nearly
-// 2^22 * n / d), a multiple of d that no accumulator exceeds, and n / d of that.
+// A ratio n / d, at most 1, and its binary digits: nearly 2^43 * n / d, as `high` times 2^22 and `low`.
 pub(crate) struct Ratio {
     pub n: u64,
     pub d: u64,
-    pub reciprocal: u64,
-    pub scaled: u64,
-    pub bias: u64,
-    pub share: u64,
+    pub high: u64,
+    pub low: u64,
 }
 
-// 2^42 / d: the one division of a partial number.
-pub(crate) fn reciprocal(d: u64) -> u64
-    requires { ⌜ (0 < d) × (d ≤ 1000000) ⌝ }
-    ensures { λ r. ⌜ r ≡ 4398046511104 / d ⌝ }
+// The ratio n / d. 2^63 / d is the one division of a partial number.
+pub(crate) fn ratio_of(n: u32, d: u64) -> Ratio
+    requires { ⌜ (n ≤ d) × (0 < d) × (d ≤ 1000000) ⌝ }
+    ensures { λ r. ⌜ (r .n ≡ n) × (r .d ≡ d) × Precomputed (r .n) (r .d) (r .high) (r .low) ⌝ }
 {
-    4398046511104 / d
-}
-
-// The ratio n / d, where m is 2^42 / d.
-pub(crate) fn ratio_of(n: u64, d: u64, m: u64) -> Ratio
-    requires { ⌜ (n ≤ d) × (0 < d) × (d ≤ 1000000) × (m ≡ 4398046511104 / d) ⌝ }
-    ensures { λ r. ⌜ (r .n ≡ n) × (r .d ≡ d) × Precomputed n d (r .reciprocal) (r .scaled) (r .bias) (r .share) ⌝ }
-{
-    let k = m / 2 + 1;
+    let scaled = n as u64 * (9223372036854775808 / d) / 1048576;
     Ratio {
-        n: n,
+        n: n as u64,
         d: d,
-        reciprocal: m,
-        scaled: n * m / 1048576,
-        bias: k * d,
-        share: k * n,
+        high: scaled / 4194304,
+        low: scaled % 4194304,
     }
 }
 
 // One step of the working rule: n / d of acc, its fraction dropped towards zero, and the next coefficient c.
 pub(crate) fn step(acc: i64, c: i64, w: Ratio) -> i64
-    requires { ⌜ (natAbs acc + natAbs c ≤ 2000000000000) × Precomputed (w .n) (w .d) (w .reciprocal) (w .scaled) (w .bias) (w .share) ⌝ }
+    requires { ⌜ (natAbs acc + natAbs c ≤ 2000000000000) × Precomputed (w .n) (w .d) (w .high) (w .low) ⌝ }
     ensures { λ r. ⌜ r ≡ stepZ acc (w .n) (w .d) c ⌝ }
 {
-    let a = biased(acc, w.bias);
-    let s = rounding(acc, w.d);
-    let q = quotient(a, s, w.n, w.d, w.reciprocal, w.scaled);
-    unbiased(q, w.share, c)
+    if acc < 0 {
+        return c - share(-acc, w);
+    }
+    if acc == 0 {
+        return c;
+    }
+    c + share(acc, w)
 }
 
-// The accumulator and its bias: not negative.
-fn biased(acc: i64, bias: u64) -> u64
-    requires { ⌜ (natAbs acc ≤ bias) × (bias ≤ 2200000000000) ⌝ }
-    ensures { λ r. ⌜ pos r ≡ acc +ℤ pos bias ⌝ }
+// n / d of a, which is not negative, its fraction dropped: an estimate from below by the digits of n / d, and one correction.
+fn share(a: i64, w: Ratio) -> i64
+    requires { ⌜ T (nonNeg a) × (natAbs a ≤ 2000000000000) × Precomputed (w .n) (w .d) (w .high) (w .low) ⌝ }
+    ensures { λ r. ⌜ r ≡ pos (natAbs a * (w .n) / (w .d)) ⌝ }
 {
-    (acc + (bias as i64)) as u64
-}
-
-// What a dividend gets added, so that rounding it down rounds a negative accumulator's share towards zero.
-fn rounding(acc: i64, d: u64) -> u64
-    requires { ⌜ 0 < d ⌝ }
-    ensures { λ r. ⌜ r ≡ roundingOf acc d ⌝ }
-{
-    if acc < 0 { d - 1 } else { 0 }
-}
-
-// (a * n + s) / d: an estimate from below by nearly 2^22 * n / d, one of the rest by the reciprocal m, and one correction.
-fn quotient(a: u64, s: u64, n: u64, d: u64, m: u64, scaled: u64) -> u64
-    requires { ⌜ Dividend a s n d m scaled ⌝ }
-    ensures { λ r. ⌜ r ≡ (a * n + s) / d ⌝ }
-{
-    let z = a * scaled / 4194304;
-    let r = a * n + s - z * d;
-    let y = r * m / 4398046511104;
-    let rest = r - y * d;
-    if rest < d { z + y } else { z + y + 1 }
-}
-
-// The quotient without the bias's share, and the coefficient c.
-fn unbiased(q: u64, share: u64, c: i64) -> i64
-    requires { ⌜ (q ≤ 4200000000001) × (share ≤ 2200000000000) × (natAbs c ≤ 2000000000000) ⌝ }
-    ensures { λ r. ⌜ r ≡ (c -ℤ pos share) +ℤ pos q ⌝ }
-{
-    (c - (share as i64)) + (q as i64)
+    let x = a as u64;
+    let d = w.d;
+    let q = (x * w.high + x * w.low / 4194304) / 2097152;
+    let rest = x * w.n - q * d;
+    if rest < d { q as i64 } else { (q + 1) as i64 }
 }

@@ -1,12 +1,12 @@
 -- The writer's answers: each is the one of the definition, by the tests that lead to it. Assumes nothing.
-use mathlib.Core.Path.{_≡_, refl, ap, sym, _∙_, subst}
+use mathlib.Core.Path.{_≡_, refl, ap, sym, _∙_, subst, subst⁻¹}
 use mathlib.Core.List.{List, [], _∷_, _++_}
 use mathlib.Core.Bool.{Bool, true, false}
 use Prim.Native.Nat.{ℕ, zero, suc, _+_, _*_, _≤_, _<_}
 use native.Mathlib.Omega.{arith}
 use lib.ListN.{length, drop}
-use lib.Dec.{eqb}
-use borrow.Author.Tests.{eqb-true, eqb-false}
+use lib.Dec.{eqb, ltb}
+use borrow.Author.Tests.{eqb-true, eqb-false, ltb-true, ltb-false, lt-ltb, le-ltb}
 use Rattle.analysis.specs.Register.{ifElse}
 use Rattle.analysis.specs.declared.Checked.{Checked}
 use Rattle.analysis.specs.declared.Checked.the-variants as checked
@@ -20,7 +20,16 @@ use Rattle.sheet.specs.Components.{countOf}
 use Rattle.sheet.specs.Sheet.{sheetOf}
 use Rattle.sheet.specs.Write.{writeRefusal, writtenOf, leftOf, codeOf, WrittenAs}
 use Rattle.sheet.specs.Cases.{never, length-sheet, number-count, number-check, number-short, number-none, number-back, written-length, written-refused, written-back, left-sheet, left-same}
-use Rattle.writer.specs.Answered.{Answered}
+use Rattle.writer.specs.Answered.{Answered, roomFor}
+
+-- room or none
+pub room-short : (len size : ℕ) → size < len → Refused 14 0 ≡ roomFor len size
+unfolding roomFor
+room-short len size h = ap (λ (t : Bool). elim t [ true ↦ Refused 14 0 | false ↦ Length len ]) (sym (lt-ltb size len h))
+
+pub room-length : (len size : ℕ) → len ≤ size → Length len ≡ roomFor len size
+unfolding roomFor
+room-length len size h = ap (λ (t : Bool). elim t [ true ↦ Refused 14 0 | false ↦ Length len ]) (sym (le-ltb size len h))
 
 module _ (a : List ℕ) (p : Split) (size : ℕ) where
   pub answer-count : allowedCount (p .count) ≡ false → Answered a p size (Refused 1 0)
@@ -72,6 +81,14 @@ module _ (a : List ℕ) (p : Split) (size : ℕ) where
       answer-length s =
           let g = number-none a p size h (in-range y k e) (omega (arith, exact)) in
           record { answer = ap Length exact ∙ sym (written-length a p size 0 g); code = λ z. absurd (omega arith) }
+
+      pub answer-room : (r : Written) → r ≡ roomFor len size → Answered a p size r
+      unfolding roomFor
+      answer-room r q = subst⁻¹ (λ (x : Written). Answered a p size x) q (go (ltb size len) refl)
+        where
+          go : (t : Bool) → ltb size len ≡ t → Answered a p size (elim t [ true ↦ Refused 14 0 | false ↦ Length len ])
+          go true f = answer-short (ltb-true size len f)
+          go false f = answer-length (ltb-false size len f)
 
 -- the buffer: as it was beside a refusal, the sheet at its start beside a length
 module _ (a : List ℕ) (p : Split) (b : List ℕ) (r : Written) (k : Answered a p (length b) r) where

@@ -1,13 +1,20 @@
 -- The writer's answer for a buffer of `size` bytes. Assumes nothing.
 use mathlib.Core.Path.{_≡_}
 use mathlib.Core.List.{List}
+use mathlib.Core.Bool.{true, false}
 use Prim.Native.Nat.{ℕ}
+use lib.Dec.{ltb}
 use Rattle.analysis.specs.Check.{AtFault}
 use Rattle.sheet.specs.declared.Split.{Split}
 use Rattle.sheet.specs.declared.Written.{Written}
+use Rattle.sheet.specs.declared.Written.the-variants.{Length, Refused}
 use Rattle.sheet.specs.Write.{writtenOf, numberOf, codeOf}
 
 -- fixed but for the code of 5, and that is a code at fault
 pub record Answered (a : List ℕ) (p : Split) (size : ℕ) (r : Written) : Type 0 where
   pub answer : r ≡ writtenOf a p size (codeOf r)
   pub code : numberOf r ≡ 5 → AtFault a (codeOf r)
+
+-- a length, or 14 where a buffer is shorter
+unfoldable pub roomFor : ℕ → ℕ → Written
+roomFor len size = elim (ltb size len) [ true ↦ Refused 14 0 | false ↦ Length len ]

@@ -3,7 +3,7 @@
 ghost use mathlib.Core.Path.{_≡_};
 ghost use Prim.Native.Nat.{ℕ, _+_, _*_, _<_, _≤_};
 ghost use mathlib.Core.List.{_∷_, _++_};
-ghost use lib.ListN.{length, drop, set};
+ghost use lib.ListN.{length, drop};
 ghost use lib.Seq.{sets};
 ghost use Rattle.analysis.specs.Register.{CODES};
 ghost use Rattle.sheet.specs.Bytes.{bytesOf};
@@ -12,7 +12,7 @@ ghost use Rattle.sheet.specs.Split.{RECORDS, splitBytes};
 ghost use Rattle.sheet.specs.Sheet.{sheetOf};
 ghost use Rattle.analysis.specs.Check.{AtFault};
 ghost use Rattle.sheet.specs.Write.{writtenOf, leftOf, numberOf, codeOf};
-ghost use Rattle.writer.specs.Answered.{Answered};
+ghost use Rattle.writer.specs.Answered.{Answered, roomFor};
 use analysis::Analysis;
 use analysis::CODES;
 use analysis::Checked;
@@ -20,23 +20,15 @@ use sheet::RECORDS;
 use sheet::Split;
 use sheet::Written;
 
-// One byte.
-fn put_byte(b: &mut [u8], at: usize, x: u8)
-    requires { ⌜ at < length (now b) ⌝ }
-    ensures { λ _. ⌜ now (b .exit) ≡ set (now (b .entry)) at x ⌝ }
-{
-    b[at] = x;
-}
-
 // An amount as four bytes, high byte first.
 fn put_amount(b: &mut [u8], at: usize, x: u32)
     requires { ⌜ at + 4 ≤ length (now b) ⌝ }
     ensures { λ _. ⌜ now (b .exit) ≡ sets (now (b .entry)) at (bytesOf x) ⌝ }
 {
-    put_byte(b, at, (x / 16777216) as u8);
-    put_byte(b, at + 1, (x / 65536 % 256) as u8);
-    put_byte(b, at + 2, (x / 256 % 256) as u8);
-    put_byte(b, at + 3, (x % 256) as u8);
+    b[at] = (x / 16777216) as u8;
+    b[at + 1] = (x / 65536 % 256) as u8;
+    b[at + 2] = (x / 256 % 256) as u8;
+    b[at + 3] = (x % 256) as u8;
 }
 
 // A component's record: code and amount.
@@ -44,7 +36,7 @@ fn put_component(b: &mut [u8], at: usize, code: u8, x: u32)
     requires { ⌜ at + 5 ≤ length (now b) ⌝ }
     ensures { λ _. ⌜ now (b .exit) ≡ sets (now (b .entry)) at (code ∷ bytesOf x) ⌝ }
 {
-    put_byte(b, at, code);
+    b[at] = code;
     put_amount(b, at + 1, x);
 }
 
@@ -53,7 +45,7 @@ fn put_record(b: &mut [u8], at: usize, system: u8, code: u8, x: u32)
     requires { ⌜ at + 6 ≤ length (now b) ⌝ }
     ensures { λ _. ⌜ now (b .exit) ≡ sets (now (b .entry)) at (system ∷ code ∷ bytesOf x) ⌝ }
 {
-    put_byte(b, at, system);
+    b[at] = system;
     put_component(b, at + 1, code, x);
 }
 
@@ -122,8 +114,15 @@ fn answer(a: Analysis, p: Split, size: usize) -> Written
         return Written::Refused { number, code };
     }
     let amounts = a.amounts;
-    let n = listed(amounts);
-    let len = 2 + 5 * n + 6 * m;
+    length_in(amounts, m, size)
+}
+
+// The length of a sheet of these amounts and m split records, where a buffer of `size` bytes has room.
+fn length_in(a: [u32; CODES], m: usize, size: usize) -> Written
+    requires { ⌜ m ≤ RECORDS ⌝ }
+    ensures { λ r. ⌜ r ≡ roomFor (2 + 5 * countOf a + 6 * m) size ⌝ }
+{
+    let len = 2 + 5 * listed(a) + 6 * m;
     if size < len {
         return Written::Refused {
             number: 14,
@@ -139,10 +138,10 @@ fn put_sheet(a: [u32; CODES], p: Split, b: &mut [u8])
     ensures { λ _. ⌜ now (b .exit) ≡ sheetOf a p ++ drop (length (sheetOf a p)) (now (b .entry)) ⌝ }
 {
     let n = listed(a);
-    put_byte(b, 0, n as u8);
+    b[0] = n as u8;
     let at = put_components(a, b);
     let m = p.count;
-    put_byte(b, at, m as u8);
+    b[at] = m as u8;
     put_split(p, b, at + 1);
 }
 

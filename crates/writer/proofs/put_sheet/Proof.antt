@@ -1,10 +1,10 @@
 -- `writer::put_sheet` meets its contract. Assumes nothing.
-use mathlib.Core.Path.{_≡_, sym, ap, _∙_, refl}
-use Prim.Native.Nat.{ℕ, suc, _+_, _-_, _*_, _≤_, _<_}
+use mathlib.Core.Path.{refl, _∙_}
+use Prim.Native.Nat.{_+_}
 use native.Mathlib.Omega.{arith}
-use lib.ListN.{length}
-use Rattle.sheet.specs.Components.{countOf, componentBytes}
-use Rattle.sheet.specs.Sheet.{sheetOf}
+use lib.ListN.{set, length-set}
+use Rattle.sheet.specs.Components.{componentBytes}
+use Rattle.sheet.specs.Split.{splitBytes}
 use Rattle.sheet.specs.Cases.{length-sheet}
 use Rattle.writer.proofs.Turns.{sheet-put, length-byte, length-run}
 use borrow.Author.Needs.{needs}
@@ -14,67 +14,75 @@ use Rattle.writer.proofs.put_sheet.Tie as tie
 listed-requires : tie.Need-listed-requires
 listed-requires c κs = search needs
 
-cast-put-byte : tie.Need-cast-put-byte
-cast-put-byte c = search needs
+cast-b : tie.Need-cast-b
+cast-b c = search needs
 
-put-byte-requires : tie.Need-put-byte-requires
-put-byte-requires c κs = search needs
+slice-write-b : tie.Need-slice-write-b
+slice-write-b c = search needs
 
 put-components-requires : tie.Need-put-components-requires
 put-components-requires c κs =
-    let a = c .before .before .before .before .before .before .before .args in
-    let k = length-byte (a .b .now) _ 0 (c .before .before .before .before .before .listed .result) (c .before .before .before .put-byte .ensures) in
-    omega (arith, k, length-sheet (a .a) (a .p))
+    let a = c .before .before .before .args in
+    omega (arith, length-byte (a .b .now) _ 0 (c .before .listed .result) refl, length-sheet (a .a) (a .p))
 
-cast-put-byte-2 : tie.Need-cast-put-byte-2
-cast-put-byte-2 c = search needs
+cast-b-2 : tie.Need-cast-b-2
+cast-b-2 c = search needs
 
-put-byte-requires-2 : tie.Need-put-byte-requires-2
-put-byte-requires-2 c κs =
-    let a = c .before .before .before .before .before .before .before .before .before .before .before .args in
-    let r = c .before .before .before .put-components in
-    let k = length-byte (a .b .now) _ 0 (c .before .before .before .before .before .before .before .before .before .listed .result) (c .before .before .before .before .before .before .before .put-byte .ensures) in
-    let l = length-run (c .before .before .before .before .before .before .before .put-byte .last .0) _ 1 (componentBytes 0 (a .a)) (r .ensures .1) in
-    omega (arith, k, l, r .ensures .0, length-sheet (a .a) (a .p))
+slice-write-b-2 : tie.Need-slice-write-b-2
+slice-write-b-2 c =
+    let a = c .before .before .before .before .before .before .args in
+    let n = c .before .before .before .before .listed .result in
+    let r = c .before .before .put-components in
+    omega (arith, length-byte (a .b .now) _ 0 n refl, length-run (set (a .b .now) 0 n) _ 1 (componentBytes 0 (a .a)) (r .ensures .1), r .ensures .0, length-sheet (a .a) (a .p))
 
 add-put-split : tie.Need-add-put-split
 add-put-split c = search needs
 
 put-split-requires : tie.Need-put-split-requires
 put-split-requires c κs =
-    let a = c .before .before .before .before .before .before .before .before .before .before .before .before .before .before .before .args in
-    let r = c .before .before .before .before .before .before .before .put-components in
-    let k = length-byte (a .b .now) _ 0 (c .before .before .before .before .before .before .before .before .before .before .before .before .before .listed .result) (c .before .before .before .before .before .before .before .before .before .before .before .put-byte .ensures) in
-    let l = length-run (c .before .before .before .before .before .before .before .before .before .before .before .put-byte .last .0) _ 1 (componentBytes 0 (a .a)) (r .ensures .1) in
-    let m = length-byte (r .last .1 .0) _ (r .result) (a .p .count) (c .before .before .before .put-byte2 .ensures) in
-    (c .before .before .before .before .before .before .before .before .before .before .before .before .before .before .before .pre .0, omega (arith, k, l, m, r .ensures .0, length-sheet (a .a) (a .p), c .before .before .before .before .before .before .before .before .before .before .before .before .before .before .before .pre .1))
+    let s = c .before .before .before .before .before .before .before in
+    let a = s .args in
+    let n = c .before .before .before .before .before .listed .result in
+    let r = c .before .before .before .put-components in (
+      s .pre .0,
+      omega (arith, length-byte (a .b .now) _ 0 n refl, length-run (set (a .b .now) 0 n) _ 1 (componentBytes 0 (a .a)) (r .ensures .1), length-byte (r .last .1 .0) _ (r .result) (a .p .count) refl, r .ensures .0, length-sheet (a .a) (a .p), s .pre .1),
+    )
 
 same-length : tie.Need-same-length
-same-length c = search needs
+same-length c =
+    let a = c .before .before .before .before .before .before .before .before .before .before .args in
+    let n = c .before .before .before .before .before .before .before .before .listed .result in
+    let r = c .before .before .before .before .before .before .put-components in
+    length-run (set (r .last .1 .0) (r .result) (a .p .count)) _ (r .result + 1) (splitBytes (a .p)) (c .before .before .put-split .ensures)
+    ∙ length-byte (r .last .1 .0) _ (r .result) (a .p .count) refl
+    ∙ length-run (set (a .b .now) 0 n) _ 1 (componentBytes 0 (a .a)) (r .ensures .1)
+    ∙ length-byte (a .b .now) _ 0 n refl
 
 returns : tie.Need-returns
 returns c =
-    let a = c .before .before .before .before .before .before .before .before .before .before .before .before .before .before .before .before .before .before .args in
-    let r = c .before .before .before .before .before .before .before .before .before .before .put-components in
-    sheet-put (a .a) (a .p) (a .b .now) (c .before .before .before .before .before .before .before .before .before .before .before .before .before .before .put-byte .last .0) (r .last .1 .0) (c .before .before .before .before .before .before .put-byte2 .last .0) _ _ (r .result)
-    (c .before .before .before .before .before .before .before .before .before .before .before .before .before .before .before .before .listed .ensures .0)
-    (c .before .before .before .before .before .before .before .before .before .before .before .before .before .before .put-byte .ensures)
+    let s = c .before .before .before .before .before .before .before .before .before .before in
+    let a = s .args in
+    let l = c .before .before .before .before .before .before .before .before .listed in
+    let r = c .before .before .before .before .before .before .put-components in
+    sheet-put (a .a) (a .p) (a .b .now) (set (a .b .now) 0 (l .result)) (r .last .1 .0) (set (r .last .1 .0) (r .result) (a .p .count)) _ (l .result) (r .result)
+    (l .ensures .0)
+    refl
     (r .ensures .0)
     (r .ensures .1)
-    (c .before .before .before .before .before .before .put-byte2 .ensures)
+    refl
     (c .before .before .put-split .ensures)
-    (c .before .before .before .before .before .before .before .before .before .before .before .before .before .before .before .before .before .before .pre .1)
+    (s .pre .1)
 
 pub put-sheet-spec : {M : Type 1} → statement M
 put-sheet-spec =
     tie.close
     (tie.spec
     listed-requires
-    cast-put-byte
-    put-byte-requires
+    cast-b
+    slice-write-b
     put-components-requires
-    cast-put-byte-2
-    put-byte-requires-2
+    cast-b-2
+    slice-write-b-2
     add-put-split
     put-split-requires
     same-length

@@ -1,20 +1,19 @@
 -- `ternary::rule::row` meets its contract. Assumes nothing.
-use mathlib.Core.Path.{_≡_, refl, sym, ap, ap₂, _∙_, subst}
+use mathlib.Core.Path.{_≡_, refl, ap₂, _∙_}
 use lib.IntN.{ℤ}
-use Prim.Native.Nat.{ℕ, suc, _+_, _-_, _≤_, _<_}
+use Prim.Native.Nat.{ℕ, _+_, _-_, _≤_, _<_}
 use native.Mathlib.Omega.{arith}
 use mir.Syntax.{w64}
-use mir.Val.{toZ, ofZ}
-use borrow.Author.Needs.{needs}
+use mir.Val.{toZ}
 use Rattle.ternary.specs.WorkingRule.{stepZ, horner, coefs}
 use Rattle.ternary.specs.Table.{inTable}
 use Rattle.ternary.proofs.Bits.{read-back}
-use Rattle.ternary.proofs.Rows.{row-last, row-more, row-room}
+use Rattle.ternary.proofs.Rows.{row-none, row-more, row-room}
 use Rattle.ternary.proofs.rule.row.Statement.{statement}
 use Rattle.ternary.proofs.rule.row.Tie as tie
 
 abbrev Inv-loop : tie.InvT-loop
-Inv-loop t at count w i₀ acc₀ i acc = (at ≤ i) × (i < at + count) × (toZ w64 acc ≡ horner (w .n) (w .d) (coefs (inTable t) i (at + count - i)))
+Inv-loop t at count w i₀ acc₀ i acc = (at ≤ i) × (i ≤ at + count) × (toZ w64 acc ≡ horner (w .n) (w .d) (coefs (inTable t) i (at + count - i)))
 
 abbrev μ-loop : tie.MeasureT-loop
 μ-loop t at count w i₀ acc₀ i acc = i - at
@@ -22,38 +21,33 @@ abbrev μ-loop : tie.MeasureT-loop
 add-i : tie.Need-add-i Inv-loop μ-loop
 add-i c = omega arith
 
+loop-holds : tie.Need-loop-holds Inv-loop μ-loop
+loop-holds c =
+    let a = c .args in (
+      omega arith,
+      omega arith,
+      row-none (inTable (a .t .now)) (a .w .n) (a .w .d) (a .at + a .count) (a .at + a .count) refl,
+    )
+
 sub-i : tie.Need-sub-i Inv-loop μ-loop
 sub-i c = omega arith
 
-coefficient-requires : tie.Need-coefficient-requires Inv-loop μ-loop
-coefficient-requires c κs = omega arith
+mul-step : tie.Need-mul-step Inv-loop μ-loop
+mul-step c = omega arith
 
-loop-holds : tie.Need-loop-holds Inv-loop μ-loop
-loop-holds c =
-    let a = c .before .args in
-    let last : a .at + a .count ≡ suc (a .at + a .count - 1) = omega arith in (
-      omega arith,
-      omega arith,
-      read-back (c .coefficient .result) (c .coefficient .ok) ∙ c .coefficient .ensures
-          ∙ row-last (inTable (a .t .now)) (a .w .n) (a .w .d) (a .at + a .count - 1) (a .at + a .count) last,
-    )
-
-sub-i-2 : tie.Need-sub-i-2 Inv-loop μ-loop
-sub-i-2 c = omega arith
-
-coefficient-requires-2 : tie.Need-coefficient-requires-2 Inv-loop μ-loop
-coefficient-requires-2 c κs = omega arith
+element-copy-out-step : tie.Need-element-copy-out-step Inv-loop μ-loop
+element-copy-out-step c = omega arith
 
 step-requires : tie.Need-step-requires Inv-loop μ-loop
 step-requires c κs =
-    let a0 = c .before .before .before .before in
-    let a = c .before .before .before .before .args in
+    let s = c .before .before .before in
+    let a = s .args in
     let i = c .before .before .loop .i in
     let there : 0 < i = omega arith in
-    let inside : i < a .at + a .count = omega arith in (
-      rw (c .before .before .loop .inv .2, read-back (c .coefficient2 .result) (c .coefficient2 .ok), c .coefficient2 .ensures)
-          (row-room (inTable (a .t .now)) (a .w .n) (a .w .d) i (a .at + a .count) there inside 20 (a0 .pre .3 .n-le) (omega arith) (a0 .pre .0 .sum)),
-      a0 .pre .3,
+    let inside : i ≤ a .at + a .count = omega arith in (
+      rw (c .before .before .loop .inv .2, read-back (inTable (a .t .now) (i - 1)) (c .step-arg .given))
+          (row-room (inTable (a .t .now)) (a .w .n) (a .w .d) i (a .at + a .count) there inside 20 (s .pre .2 .n-le) (omega arith) (s .pre .0 .sum)),
+      s .pre .2,
     )
 
 loop-less : tie.Need-loop-less Inv-loop μ-loop
@@ -61,20 +55,20 @@ loop-less c = omega arith
 
 loop-again : tie.Need-loop-again Inv-loop μ-loop
 loop-again c =
-    let a = c .before .before .before .before .before .args in
+    let a = c .before .before .before .before .args in
     let i = c .before .before .before .loop .i in
     let there : 0 < i = omega arith in
-    let inside : i < a .at + a .count = omega arith in (
+    let inside : i ≤ a .at + a .count = omega arith in (
       omega arith,
       omega arith,
       read-back (c .step .result) (c .step .ok) ∙ c .step .ensures
-          ∙ ap₂ (λ (x y : ℤ). stepZ x (a .w .n) (a .w .d) y) (c .before .before .before .loop .inv .2) (read-back (c .before .coefficient2 .result) (c .before .coefficient2 .ok) ∙ c .before .coefficient2 .ensures)
+          ∙ ap₂ (λ (x y : ℤ). stepZ x (a .w .n) (a .w .d) y) (c .before .before .before .loop .inv .2) (read-back (inTable (a .t .now) (i - 1)) (c .before .step-arg .given))
           ∙ row-more (inTable (a .t .now)) (a .w .n) (a .w .d) i (a .at + a .count) there inside,
     )
 
 returns : tie.Need-returns Inv-loop μ-loop
 returns c =
-    let a = c .before .before .before .args in
+    let a = c .before .before .args in
     let i = c .before .loop .i in
     let here : i ≡ a .at = omega arith in
     let all : a .at + a .count - i ≡ a .count = omega arith in
@@ -87,11 +81,10 @@ row-spec =
     Inv-loop
     μ-loop
     add-i
-    sub-i
-    coefficient-requires
     loop-holds
-    sub-i-2
-    coefficient-requires-2
+    sub-i
+    mul-step
+    element-copy-out-step
     step-requires
     loop-less
     loop-again

@@ -1,17 +1,11 @@
 -- `ternary::rule::rows` meets its contract. Assumes nothing.
 use mathlib.Core.Path.{_∙_}
+use borrow.Author.Needs.{needs}
 use Rattle.ternary.specs.Table.{inTable}
 use Rattle.ternary.proofs.Bits.{result-back}
 use Rattle.ternary.proofs.Combine.{rows-room, rows-worked}
-use borrow.Author.Needs.{needs}
 use Rattle.ternary.proofs.rule.rows.Statement.{statement}
 use Rattle.ternary.proofs.rule.rows.Tie as tie
-
-first-row-requires : tie.Need-first-row-requires
-first-row-requires c κs = search needs
-
-last-rows-requires : tie.Need-last-rows-requires
-last-rows-requires c κs = search needs
 
 row-requires : tie.Need-row-requires
 row-requires c κs = search needs
@@ -22,16 +16,22 @@ row-requires-2 c κs = search needs
 row-requires-3 : tie.Need-row-requires-3
 row-requires-3 c κs = search needs
 
+row-requires-4 : tie.Need-row-requires-4
+row-requires-4 c κs = search needs
+
+row-requires-5 : tie.Need-row-requires-5
+row-requires-5 c κs = search needs
+
 combined-requires : tie.Need-combined-requires
 combined-requires c κs =
     let s = c .before .before .before .before .before in
     let a = s .args in (
       rows-room (inTable (a .t .now)) (a .v .n) (a .w .n) (a .v .d) (a .w .d)
-          (result-back (c .before .before .before .last-rows .ok) (c .before .before .before .last-rows .ensures))
-          (result-back (c .row3 .ok) (c .row3 .ensures))
-          (result-back (c .before .row2 .ok) (c .before .row2 .ensures))
-          (result-back (c .before .before .row .ok) (c .before .before .row .ensures))
-          (result-back (c .before .before .before .before .first-row .ok) (c .before .before .before .before .first-row .ensures))
+          (result-back (c .before .before .before .before .row .ok) (c .before .before .before .before .row .ensures))
+          (result-back (c .before .before .before .row2 .ok) (c .before .before .before .row2 .ensures))
+          (result-back (c .before .before .row3 .ok) (c .before .before .row3 .ensures))
+          (result-back (c .before .row4 .ok) (c .before .row4 .ensures))
+          (result-back (c .row5 .ok) (c .row5 .ensures))
           (s .pre .2 .n-le)
           (s .pre .3 .n-le)
           (s .pre .0 .sum),
@@ -44,21 +44,21 @@ returns c =
     let a = s .args in
     result-back (c .combined .ok) (c .combined .ensures)
     ∙ rows-worked (inTable (a .t .now)) (a .v .n) (a .w .n) (a .v .d) (a .w .d)
-    (result-back (c .before .before .before .before .last-rows .ok) (c .before .before .before .before .last-rows .ensures))
-    (result-back (c .before .row3 .ok) (c .before .row3 .ensures))
-    (result-back (c .before .before .row2 .ok) (c .before .before .row2 .ensures))
-    (result-back (c .before .before .before .row .ok) (c .before .before .before .row .ensures))
-    (result-back (c .before .before .before .before .before .first-row .ok) (c .before .before .before .before .before .first-row .ensures))
+    (result-back (c .before .before .before .before .before .row .ok) (c .before .before .before .before .before .row .ensures))
+    (result-back (c .before .before .before .before .row2 .ok) (c .before .before .before .before .row2 .ensures))
+    (result-back (c .before .before .before .row3 .ok) (c .before .before .before .row3 .ensures))
+    (result-back (c .before .before .row4 .ok) (c .before .before .row4 .ensures))
+    (result-back (c .before .row5 .ok) (c .before .row5 .ensures))
     (s .pre .1)
 
 pub rows-spec : {M : Type 1} → statement M
 rows-spec =
     tie.close
     (tie.spec
-    first-row-requires
-    last-rows-requires
     row-requires
     row-requires-2
     row-requires-3
+    row-requires-4
+    row-requires-5
     combined-requires
     returns)

@@ -17,7 +17,7 @@ use Rattle.integer.specs.Ring.{ring, mag-le, natAbs-+, natAbs--, natAbs-quot, q
 use Rattle.integer.specs.Order.{sub-ge, sub-lt}
 use Rattle.integer.specs.Normal.{E, X, K, _⊕_, _⊗_, ⊖, solve, env}
 use Rattle.integer.specs.Floor.{floor-unique, neg-split}
-use Rattle.ternary.specs.Whole.{wholeNumber}
+use Rattle.whole.specs.Whole.{wholeNumber}
 
 -- ---- over whole numbers
 

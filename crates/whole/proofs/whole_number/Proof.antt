@@ -1,8 +1,8 @@
--- `ternary::whole_number` meets its contract. Assumes nothing.
+-- `whole::whole_number` meets its contract. Assumes nothing.
 use lib.Dec.{lit<}
-use Rattle.ternary.proofs.WholeNumbers.{div-ok, sub-ok, add-ok, low-is, mid-is, high-is}
-use Rattle.ternary.proofs.whole_number.Statement.{statement}
-use Rattle.ternary.proofs.whole_number.Tie as tie
+use Rattle.whole.proofs.WholeNumbers.{div-ok, sub-ok, add-ok, low-is, mid-is, high-is}
+use Rattle.whole.proofs.whole_number.Statement.{statement}
+use Rattle.whole.proofs.whole_number.Tie as tie
 
 div-q : tie.Need-div-q
 div-q c = (lit< tt, div-ok (c .args .rating) (c .fits .rating))
