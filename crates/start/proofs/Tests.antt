@@ -1,5 +1,5 @@
 -- The tests of the input, by their cases.
-use Prim.Native.Nat.{ℕ, zero, suc, _+_, _*_, _-_, _≤_, _<_}
+use Prim.Native.Nat.{ℕ, suc, _+_, _*_, _-_, _≤_, _<_}
 use mathlib.Core.Path.{_≡_, refl, sym, ap, _∙_}
 use mathlib.Core.Bool.{Bool, true, false, not}
 use mathlib.Core.List.{List}
@@ -7,9 +7,9 @@ use native.Mathlib.Omega.{arith}
 use lib.Dec.{T, ltb, leb, eqb}
 use lib.ListN.{getD}
 use borrow.Author.Tests.{ltb-true, ltb-false, le-ltb, lt-ltb, le-leb, lt-leb, eq-eqb, ne-eqb, not-true, not-false}
-use Rattle.systems.specs.Systems.{COMPONENTS, candidates, members, memberOf, elem, Candidate}
+use Rattle.systems.specs.Systems.{COMPONENTS, candidates, memberOf, elem}
 use Rattle.systems.specs.Members.{candidate-le, member-none}
-use Rattle.systems.specs.Table.{everyTo, eachTo}
+use Rattle.systems.specs.Table.{eachTo}
 use Rattle.split.specs.Fold.{sumTo, allTo}
 use Rattle.split.specs.Folds.{sum-none, sum-more}
 use Rattle.split.specs.Split.{SYSTEMS, systemOf, both}
