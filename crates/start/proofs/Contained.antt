@@ -1,23 +1,30 @@
 -- The components that a system contains, from the packed table, by one computed test over system numbers and components.
 use Prim.Native.Nat.{ℕ, _+_, _*_, _/_, _%_, _^_, _≤_, _<_}
 use mathlib.Core.Path.{_≡_, _∙_}
-use mathlib.Core.Bool.{Bool, true, false, not, cond}
+use mathlib.Core.Bool.{Bool, false, not, cond}
 use native.Mathlib.Omega.{arith}
-use lib.Dec.{T, eqb, eqb→eq}
+use lib.Dec.{eqb, eqb→eq}
 use borrow.Author.Tests.{ne-eqb, not-true}
 use Rattle.systems.specs.Systems.{COMPONENTS, memberOf, hasOf}
 use Rattle.systems.specs.Members.{member-none, has-third}
 use Rattle.systems.specs.Table.{everyTo, eachTo, to-true}
 
--- the table has a bit of each system number and component
-abbrev pub packs : ℕ → ℕ → ℕ → Bool
-packs table system c = eqb (table / 2 ^ (system * 4 + c) % 2) (cond (hasOf system c) 1 0)
+-- the code's table
+abbrev packed : ℕ
+packed = 0xbd0070e00
 
-pub packed-is : (table : ℕ) → T (everyTo (λ s. everyTo (packs table s) COMPONENTS) 9) → (system c : ℕ) → system < 9 → c < COMPONENTS
-    → table / 2 ^ (system * 4 + c) % 2 ≡ cond (hasOf system c) 1 0
-packed-is table t system c h l =
-    eqb→eq (table / 2 ^ (system * 4 + c) % 2) (cond (hasOf system c) 1 0)
-    (eachTo (packs table system) COMPONENTS (eachTo (λ s. everyTo (packs table s) COMPONENTS) 9 t system h) c l)
+-- it has a bit of each system number and component
+abbrev packs : ℕ → ℕ → Bool
+packs system c = eqb (packed / 2 ^ (system * COMPONENTS + c) % 2) (cond (hasOf system c) 1 0)
+
+abbrev packs-row : ℕ → Bool
+packs-row system = everyTo (packs system) COMPONENTS
+
+pub packed-is : (system c : ℕ) → system < 9 → c < COMPONENTS → 0xbd0070e00 / 2 ^ (system * COMPONENTS + c) % 2 ≡ cond (hasOf system c) 1 0
+unfolding hasOf memberOf
+packed-is system c h l =
+    eqb→eq (packed / 2 ^ (system * COMPONENTS + c) % 2) (cond (hasOf system c) 1 0)
+    (eachTo (packs system) COMPONENTS (eachTo packs-row 9 tt system h) c l)
 
 -- a number past the table contains no component
 pub has-none : (system c : ℕ) → 9 ≤ system → c < COMPONENTS → hasOf system c ≡ false

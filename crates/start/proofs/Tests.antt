@@ -1,5 +1,5 @@
 -- The tests of the input, by their cases.
-use Prim.Native.Nat.{ℕ, zero, suc, _+_, _*_, _-_, _≤_, _<_}
+use Prim.Native.Nat.{ℕ, suc, _+_, _*_, _-_, _≤_, _<_}
 use mathlib.Core.Path.{_≡_, refl, sym, ap, _∙_}
 use mathlib.Core.Bool.{Bool, true, false, not}
 use mathlib.Core.List.{List}
@@ -7,9 +7,9 @@ use native.Mathlib.Omega.{arith}
 use lib.Dec.{T, ltb, leb, eqb}
 use lib.ListN.{getD}
 use borrow.Author.Tests.{ltb-true, ltb-false, le-ltb, lt-ltb, le-leb, lt-leb, eq-eqb, ne-eqb, not-true, not-false}
-use Rattle.systems.specs.Systems.{COMPONENTS, candidates, members, memberOf, elem, Candidate}
+use Rattle.systems.specs.Systems.{COMPONENTS, candidates, memberOf, elem}
 use Rattle.systems.specs.Members.{candidate-le, member-none}
-use Rattle.systems.specs.Table.{everyTo, eachTo}
+use Rattle.systems.specs.Table.{eachTo}
 use Rattle.split.specs.Fold.{sumTo, allTo}
 use Rattle.split.specs.Folds.{sum-none, sum-more}
 use Rattle.split.specs.Split.{SYSTEMS, systemOf, both}
@@ -70,10 +70,15 @@ module _ (system r : ℕ) (e : r ≡ memberOf system 0) where
   on-candidate : (r ≡ COMPONENTS → ⊥) → elem system candidates ≡ true
   on-candidate z = not-false (elem system candidates) (sym (first-is system) ∙ ne-eqb (memberOf system 0) COMPONENTS (λ q. z (e ∙ q)))
 
--- the tests, in their order
+-- the tests of the chosen systems
 
-pub none-fit : (mix ch : List ℕ) (k : ℕ) (b : Bool) → b ≡ mixtureFit mix → b ≡ false → false ≡ both (mixtureFit mix) (chosenFit ch k)
-none-fit mix ch k b e f = rw (sym e ∙ f)
+pub chosen-none : (ch : List ℕ) (k : ℕ) → k ≡ 0 → false ≡ chosenFit ch k
+unfolding chosenFit
+chosen-none ch k e = rw (le-ltb 0 k (omega arith), chosenFit)
+
+pub chosen-many : (ch : List ℕ) (k : ℕ) → SYSTEMS < k → false ≡ chosenFit ch k
+unfolding chosenFit
+chosen-many ch k h = rw (lt-ltb 0 k (omega arith), lt-leb k SYSTEMS h, chosenFit)
 
 -- row s's system is a candidate
 abbrev passes : List ℕ → ℕ → Bool
@@ -84,40 +89,37 @@ pub record Tested (ch : List ℕ) (k s : ℕ) : Type 0 where
   pub low : s ≤ k
   pub rest : allTo (λ r. elem (systemOf ch r) candidates) k ≡ allTo (λ r. elem (systemOf ch r) candidates) s
 
-pub tested-none : (ch : List ℕ) (k : ℕ) → Tested ch k k
-tested-none ch k = record { low = omega arith; rest = refl }
+module _ (ch : List ℕ) (k : ℕ) where
+  pub tested-none : Tested ch k k
+  tested-none = record { low = omega arith; rest = refl }
 
-pub tested-more : (ch : List ℕ) (k s r : ℕ) → Tested ch k s → 0 < s → r ≡ memberOf (systemOf ch (s - 1)) 0 → (r ≡ COMPONENTS → ⊥) → Tested ch k (s - 1)
-unfolding allTo
-tested-more ch k s r z h e n =
-    let q : s ≡ suc (s - 1) = omega arith in
-    record { low = omega (arith, z .low); rest = z .rest ∙ ap (allTo (passes ch)) q ∙ rw (on-candidate (systemOf ch (s - 1)) r e n) }
-
-module _ (mix ch : List ℕ) (k : ℕ) (b : Bool) (e : b ≡ mixtureFit mix) (f : b ≡ true) where
-  is-both : (x : Bool) → x ≡ chosenFit ch k → x ≡ both (mixtureFit mix) (chosenFit ch k)
-  is-both x p = rw (sym e ∙ f) p
-
-  pub no-systems : k ≡ 0 → false ≡ both (mixtureFit mix) (chosenFit ch k)
-  unfolding chosenFit
-  no-systems z = is-both false (rw (le-ltb 0 k (omega arith), chosenFit))
-
-  pub many-systems : SYSTEMS < k → false ≡ both (mixtureFit mix) (chosenFit ch k)
-  unfolding chosenFit
-  many-systems h = is-both false (rw (lt-ltb 0 k (omega arith), lt-leb k SYSTEMS h, chosenFit))
-
-  module _ (some : k ≡ 0 → ⊥) (most : k ≤ SYSTEMS) (s : ℕ) (z : Tested ch k s) where
-    is-all : (x : Bool) → allTo (passes ch) k ≡ x → x ≡ both (mixtureFit mix) (chosenFit ch k)
-    unfolding chosenFit
-    is-all x p = is-both x (rw (lt-ltb 0 k (omega (arith, some)), le-leb k SYSTEMS most, chosenFit) (sym p))
-
-    pub tested-off : (r : ℕ) → 0 < s → r ≡ memberOf (systemOf ch (s - 1)) 0 → r ≡ COMPONENTS → false ≡ both (mixtureFit mix) (chosenFit ch k)
+  module _ (s : ℕ) (z : Tested ch k s) where
+    pub tested-more : (r : ℕ) → 0 < s → r ≡ memberOf (systemOf ch (s - 1)) 0 → (r ≡ COMPONENTS → ⊥) → Tested ch k (s - 1)
     unfolding allTo
-    tested-off r h p n =
+    tested-more r h e n =
         let q : s ≡ suc (s - 1) = omega arith in
-        is-all false (z .rest ∙ ap (allTo (passes ch)) q ∙ rw (off-candidate (systemOf ch (s - 1)) r p n))
+        record { low = omega (arith, z .low); rest = z .rest ∙ ap (allTo (passes ch)) q ∙ rw (on-candidate (systemOf ch (s - 1)) r e n) }
 
-    pub tested-all : s ≤ 0 → true ≡ both (mixtureFit mix) (chosenFit ch k)
-    unfolding allTo
-    tested-all h =
-        let q : s ≡ 0 = omega arith in
-        is-all true (z .rest ∙ ap (allTo (passes ch)) q)
+    module _ (some : k ≡ 0 → ⊥) (most : k ≤ SYSTEMS) where
+      is-all : (b : Bool) → allTo (passes ch) k ≡ b → b ≡ chosenFit ch k
+      unfolding chosenFit
+      is-all b e = rw (lt-ltb 0 k (omega (arith, some)), le-leb k SYSTEMS most, chosenFit) (sym e)
+
+      pub tested-off : (r : ℕ) → 0 < s → r ≡ memberOf (systemOf ch (s - 1)) 0 → r ≡ COMPONENTS → false ≡ chosenFit ch k
+      unfolding allTo
+      tested-off r h e n =
+          let q : s ≡ suc (s - 1) = omega arith in
+          is-all false (z .rest ∙ ap (allTo (passes ch)) q ∙ rw (off-candidate (systemOf ch (s - 1)) r e n))
+
+      pub tested-all : s ≤ 0 → true ≡ chosenFit ch k
+      unfolding allTo
+      tested-all h =
+          let q : s ≡ 0 = omega arith in
+          is-all true (z .rest ∙ ap (allTo (passes ch)) q)
+
+-- both
+pub fit-not : (x y b : Bool) → b ≡ x → b ≡ false → false ≡ both x y
+fit-not x y b e f = rw (sym e ∙ f)
+
+pub fit-is : (x y b r : Bool) → b ≡ x → b ≡ true → r ≡ y → r ≡ both x y
+fit-is x y b r e f g = rw (sym e ∙ f) g

@@ -44,13 +44,10 @@ fn mixture_fit(mix: &[u32; COMPONENTS]) -> bool
     sum <= MILLION
 }
 
-// Whether it has, and the first k systems are candidates that there is room for: those and no others have components.
-fn all_fit(mix: &[u32; COMPONENTS], ch: &[u8; SYSTEMS], k: usize) -> bool
-    ensures { λ r. ⌜ r ≡ both (mixtureFit (now (mix .entry))) (chosenFit (now (ch .entry)) k) ⌝ }
+// Whether the first k systems are chosen systems that there is room for: those and no others have components.
+fn chosen_fit(ch: &[u8; SYSTEMS], k: usize) -> bool
+    ensures { λ r. ⌜ r ≡ chosenFit (now (ch .entry)) k ⌝ }
 {
-    if !mixture_fit(mix) {
-        return false;
-    }
     if k == 0 {
         return false;
     }
@@ -71,8 +68,11 @@ fn all_fit(mix: &[u32; COMPONENTS], ch: &[u8; SYSTEMS], k: usize) -> bool
 pub fn fit(mix: [u32; COMPONENTS], choice: Choice) -> bool
     ensures { λ r. ⌜ r ≡ both (mixtureFit mix) (chosenFit (choice .systems) (choice .count)) ⌝ }
 {
+    if !mixture_fit(&mix) {
+        return false;
+    }
     let ch = choice.systems;
-    all_fit(&mix, &ch, choice.count)
+    chosen_fit(&ch, choice.count)
 }
 
 // One where cell i's system contains its component, else none.

@@ -1,6 +1,5 @@
 -- `start::contains` meets its contract. Assumes nothing.
 use native.Mathlib.Omega.{arith}
-use Rattle.systems.specs.Systems.{memberOf, hasOf}
 use Rattle.start.proofs.Contained.{packed-is, none-past}
 use borrow.Author.Needs.{needs}
 use Rattle.start.proofs.contains.Statement.{statement}
@@ -28,8 +27,7 @@ cast-result-2 : tie.Need-cast-result-2
 cast-result-2 c = search needs
 
 returns-2 : tie.Need-returns-2
-unfolding hasOf memberOf
-returns-2 c = (packed-is 0xbd0070e00 tt _ _ (c .if1 .left) (omega arith), omega arith)
+returns-2 c = (packed-is _ _ (c .if1 .left) (omega arith), omega arith)
 
 pub contains-spec : {M : Type 1} → statement M
 contains-spec =
