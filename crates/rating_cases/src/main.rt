@@ -93,16 +93,21 @@ fn put_back(amounts: [u32; CODES]) {
     put_answer(rating::rate_split(Analysis { amounts }, split));
 }
 
+// A number of parts.
+fn put_parts(x: u32) {
+    put_number(x as u64);
+}
+
 // The simplified mixture; zeros beside a refusal.
 fn put_mixture(amounts: [u32; CODES]) {
     let simplified = mixture::simplify(Analysis { amounts });
     let mixture = simplified.mixture;
     let mix = mixture.amounts;
     put(b"MIXTURE");
-    put_number(mix[0] as u64);
-    put_number(mix[1] as u64);
-    put_number(mix[2] as u64);
-    put_number(mix[3] as u64);
+    put_parts(mix[0]);
+    put_parts(mix[1]);
+    put_parts(mix[2]);
+    put_parts(mix[3]);
     put(b"\n");
 }
 
