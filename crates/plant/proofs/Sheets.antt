@@ -127,21 +127,24 @@ module _ (s : List ℕ) (r : Sheet) (h : ReadAs s r) (number place code : ℕ) (
   read-back : readOf s (codeIn (reply number (placeOf number place code))) .answer ≡ reading.Refused number place code
   read-back = ap (λ (c : ℕ). readOf s c .answer) same-code ∙ read-answer
 
-  pub read-refused : (p : ℕ) → p ≡ placeOf number place code → reply number p ≡ readReply (readOf s (codeIn (reply number p)) .answer)
-  read-refused p q = subst⁻¹ (λ (n : ℕ). reply number n ≡ readReply (readOf s (codeIn (reply number n)) .answer)) q (sym (ap readReply read-back))
+  -- of the reply to a refused sheet
+  module _ (o : Reply) (q : o ≡ readReply (reading.Refused number place code)) where
+    answer-is : readOf s (codeIn o) .answer ≡ reading.Refused number place code
+    answer-is = ap (λ (x : Reply). readOf s (codeIn x) .answer) q ∙ read-back
 
-  pub column-stays : (p : ℕ) → p ≡ placeOf number place code → (column l : List ℕ) → l ≡ readColumn (readOf s (codeIn (reply number p)) .answer) column l
-  column-stays p q column l =
-      sym (ap (λ (x : Reading). readColumn x column l) (ap (λ (n : ℕ). readOf s (codeIn (reply number n)) .answer) q ∙ read-back))
+    pub reply-refused : o ≡ readReply (readOf s (codeIn o) .answer)
+    reply-refused = q ∙ sym (ap readReply answer-is)
 
-  pub count-stays : (p : ℕ) → p ≡ placeOf number place code → (count old : ℕ) → old ≡ readCount (readOf s (codeIn (reply number p)) .answer) count old
-  count-stays p q count old =
-      sym (ap (λ (x : Reading). readCount x count old) (ap (λ (n : ℕ). readOf s (codeIn (reply number n)) .answer) q ∙ read-back))
+    pub column-stays : (column l : List ℕ) → l ≡ readColumn (readOf s (codeIn o) .answer) column l
+    column-stays column l = sym (ap (λ (x : Reading). readColumn x column l) answer-is)
 
-  pub read-fault : (p : ℕ) → p ≡ placeOf number place code → number ≡ 5 → FaultIn (getD s 0 0) s (codeIn (reply number p))
-  read-fault p q z =
-      subst⁻¹ (λ (c : ℕ). FaultIn (getD s 0 0) s c) (ap (λ (n : ℕ). codeIn (reply number n)) q ∙ same-code)
-      (subst (FaultIn (getD s 0 0) s) (ap read.codeOf e) (h .code (ap read.numberOf e ∙ z)))
+    pub count-stays : (count old : ℕ) → old ≡ readCount (readOf s (codeIn o) .answer) count old
+    count-stays count old = sym (ap (λ (x : Reading). readCount x count old) answer-is)
+
+    pub read-fault : o .number ≡ 5 → FaultIn (getD s 0 0) s (codeIn o)
+    read-fault z =
+        subst⁻¹ (λ (c : ℕ). FaultIn (getD s 0 0) s c) (ap codeIn q ∙ same-code)
+        (subst (FaultIn (getD s 0 0) s) (ap read.codeOf e) (h .code (ap read.numberOf e ∙ ap (λ (x : Reply). x .number) (sym q) ∙ z)))
 
 module _ (s : List ℕ) (r : Sheet) (h : ReadAs s r) (e : r .answer ≡ reading.Read) where
   pub whole : r ≡ readOf s 0

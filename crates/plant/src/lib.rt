@@ -7,6 +7,7 @@ ghost use lib.ListN.{getD};
 ghost use Rattle.analysis.specs.Check.{AtFault};
 ghost use Rattle.sheet.specs.Read.{readOf, FaultIn};
 ghost use Rattle.sheet.specs.Write.{writtenOf, leftOf};
+ghost use Rattle.sheet.specs.declared.Reading.the-variants.{Refused};
 ghost use Rattle.ternary.specs.Answer.{partialOf};
 ghost use Rattle.whole.specs.Whole.{wholeNumber};
 ghost use Rattle.controller.specs.Record.{recordOf};
@@ -209,33 +210,35 @@ pub extern "C" fn saugrinte_read(
 {
     let read = reader::read(sheet);
     let answer = read.answer;
-    let analysis = read.analysis;
-    let split = read.split;
-    let read_amounts = analysis.amounts;
-    let read_count = split.count;
-    let read_systems = split.systems;
-    let read_codes = split.codes;
-    let read_parts = split.amounts;
-    match answer {
-        Reading::Read => {
-            *amounts = read_amounts;
-            *count = read_count;
-            *systems = read_systems;
-            *codes = read_codes;
-            *parts = read_parts;
-            Reply {
-                number: 0,
-                place: 0,
-            }
-        }
-        Reading::Refused {
-            number,
-            place,
-            code,
-        } => Reply {
-            number,
-            place: if number == 5 { code } else { place },
-        },
+    if let Reading::Refused {
+        number,
+        place,
+        code,
+    } = answer {
+        return read_refused(number, place, code);
+    }
+    let read_amounts = read.analysis.amounts;
+    *amounts = read_amounts;
+    *count = read.split.count;
+    let read_systems = read.split.systems;
+    *systems = read_systems;
+    let read_codes = read.split.codes;
+    *codes = read_codes;
+    let read_parts = read.split.amounts;
+    *parts = read_parts;
+    Reply {
+        number: 0,
+        place: 0,
+    }
+}
+
+// The reply to a sheet that is turned away: the code at fault with 5, else the record's place.
+fn read_refused(number: u32, place: u32, code: u32) -> Reply
+    ensures { λ r. ⌜ r ≡ readReply (Refused number place code) ⌝ }
+{
+    Reply {
+        number,
+        place: if number == 5 { code } else { place },
     }
 }
 
