@@ -3,7 +3,6 @@ use mathlib.Core.Logic.{⊎-elim}
 use Prim.Native.Nat.{_-_}
 use native.Mathlib.Omega.{arith}
 use Rattle.reader.proofs.Turns.{Listed, listed-none, listed-in, listed-out, listed-all}
-use borrow.Author.Needs.{needs}
 use Rattle.reader.proofs.amounts.Statement.{statement}
 use Rattle.reader.proofs.amounts.Tie as tie
 
@@ -17,31 +16,31 @@ loop-holds : tie.Need-loop-holds Inv-loop μ-loop
 loop-holds c = listed-none _ _
 
 shared-slice-read-c : tie.Need-shared-slice-read-c Inv-loop μ-loop
-shared-slice-read-c c = search needs
+shared-slice-read-c c = omega arith
 
 cast-c : tie.Need-cast-c Inv-loop μ-loop
 cast-c c = omega (arith, c .shared-slice-known2 .given (c .before .before .loop .at))
 
 add-amount-at : tie.Need-add-amount-at Inv-loop μ-loop
-add-amount-at c = search needs
+add-amount-at c = omega arith
 
 amount-at-requires : tie.Need-amount-at-requires Inv-loop μ-loop
-amount-at-requires c κs = search needs
+amount-at-requires c κs = omega arith
 
 mul-a : tie.Need-mul-a Inv-loop μ-loop
-mul-a c = search needs
+mul-a c = omega arith
 
 array-write-a : tie.Need-array-write-a Inv-loop μ-loop
-array-write-a c = search needs
+array-write-a c = omega arith
 
 add-i : tie.Need-add-i Inv-loop μ-loop
-add-i c = search needs
+add-i c = omega arith
 
 add-at : tie.Need-add-at Inv-loop μ-loop
-add-at c = search needs
+add-at c = omega arith
 
 loop-less : tie.Need-loop-less Inv-loop μ-loop
-loop-less c = search needs
+loop-less c = omega arith
 
 loop-again : tie.Need-loop-again Inv-loop μ-loop
 loop-again c =

@@ -3,7 +3,6 @@ use Prim.Native.Nat.{_-_}
 use native.Mathlib.Omega.{arith}
 use Rattle.reader.proofs.Turns.{Looked, looked-none, looked-next, looked-zero, looked-all}
 use Rattle.reader.proofs.Answers.{zero-found, checked-found}
-use borrow.Author.Needs.{needs}
 use Rattle.reader.proofs.amounts_refused.Statement.{statement}
 use Rattle.reader.proofs.amounts_refused.Tie as tie
 
@@ -17,13 +16,13 @@ loop-holds : tie.Need-loop-holds Inv-loop μ-loop
 loop-holds c = looked-none _ _
 
 add-amount-at : tie.Need-add-amount-at Inv-loop μ-loop
-add-amount-at c = search needs
+add-amount-at c = omega arith
 
 amount-at-requires : tie.Need-amount-at-requires Inv-loop μ-loop
-amount-at-requires c κs = search needs
+amount-at-requires c κs = omega arith
 
 shared-slice-read-t10 : tie.Need-shared-slice-read-t10 Inv-loop μ-loop
-shared-slice-read-t10 c = search needs
+shared-slice-read-t10 c = omega arith
 
 cast-t11 : tie.Need-cast-t11 Inv-loop μ-loop
 cast-t11 c = omega (arith, c .shared-slice-known2 .given (c .before .before .before .before .loop .at))
@@ -35,13 +34,13 @@ returns c =
     zero-found _ _ _ _ (l .there) (looked-zero _ _ _ _ l (b .loop-test .taken) _ (c .before .before .amount-at .ensures) (c .before .if1 .taken)) (b .loop-test .taken)
 
 add-i : tie.Need-add-i Inv-loop μ-loop
-add-i c = search needs
+add-i c = omega arith
 
 add-at : tie.Need-add-at Inv-loop μ-loop
-add-at c = search needs
+add-at c = omega arith
 
 loop-less : tie.Need-loop-less Inv-loop μ-loop
-loop-less c = search needs
+loop-less c = omega arith
 
 loop-again : tie.Need-loop-again Inv-loop μ-loop
 loop-again c =
@@ -49,7 +48,7 @@ loop-again c =
     looked-next _ _ _ _ (b .before .loop .inv) (b .loop-test .taken) _ (c .before .amount-at .ensures) (c .if1 .left)
 
 check-requires : tie.Need-check-requires Inv-loop μ-loop
-check-requires c κs = search needs
+check-requires c κs = omega arith
 
 returns-2 : tie.Need-returns-2 Inv-loop μ-loop
 returns-2 c =

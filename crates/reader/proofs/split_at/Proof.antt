@@ -1,8 +1,8 @@
 -- `reader::split_at` meets its contract. The loop's invariant: the columns so far and the records from place i on give those of all. Assumes nothing.
 use mathlib.Core.Path.{refl}
+use native.Mathlib.Omega.{arith}
 use Prim.Native.Nat.{_-_}
 use Rattle.reader.proofs.Turns.{Columns, columns-none, columns-next, columns-all}
-use borrow.Author.Needs.{needs}
 use Rattle.reader.proofs.split_at.Statement.{statement}
 use Rattle.reader.proofs.split_at.Tie as tie
 
@@ -16,46 +16,52 @@ loop-holds : tie.Need-loop-holds Inv-loop μ-loop
 loop-holds c = columns-none _ _ _
 
 shared-slice-read-systems : tie.Need-shared-slice-read-systems Inv-loop μ-loop
-shared-slice-read-systems c = search needs
+shared-slice-read-systems c = omega arith
 
 array-write-systems : tie.Need-array-write-systems Inv-loop μ-loop
-array-write-systems c = search needs
+array-write-systems c = omega arith
 
 add-codes : tie.Need-add-codes Inv-loop μ-loop
-add-codes c = search needs
+add-codes c = omega arith
 
 shared-slice-read-codes : tie.Need-shared-slice-read-codes Inv-loop μ-loop
-shared-slice-read-codes c = search needs
+shared-slice-read-codes c = omega arith
 
 array-write-codes : tie.Need-array-write-codes Inv-loop μ-loop
-array-write-codes c = search needs
+array-write-codes c = omega arith
 
 add-amount-at : tie.Need-add-amount-at Inv-loop μ-loop
-add-amount-at c = search needs
+add-amount-at c = omega arith
 
 amount-at-requires : tie.Need-amount-at-requires Inv-loop μ-loop
-amount-at-requires c κs = search needs
+amount-at-requires c κs = omega arith
 
 mul-amounts : tie.Need-mul-amounts Inv-loop μ-loop
-mul-amounts c = search needs
+mul-amounts c = omega arith
 
 array-write-amounts : tie.Need-array-write-amounts Inv-loop μ-loop
-array-write-amounts c = search needs
+array-write-amounts c = omega arith
 
 add-i : tie.Need-add-i Inv-loop μ-loop
-add-i c = search needs
+add-i c = omega arith
 
 add-w : tie.Need-add-w Inv-loop μ-loop
-add-w c = search needs
+add-w c = omega arith
 
 loop-less : tie.Need-loop-less Inv-loop μ-loop
-loop-less c = search needs
+loop-less c = omega arith
 
 loop-again : tie.Need-loop-again Inv-loop μ-loop
-loop-again c = columns-next _ _ _ _ _ _ _ _ (c .before .before .before .before .loop .inv) (c .before .before .before .loop-test .taken) _ (c .amount-at .ensures)
+loop-again c =
+    let a = c .before .before .before .before .before .before .args in
+    let l = c .before .before .before .before .loop in
+    columns-next (a .s .now) (a .at) (a .m) (l .systems) (l .codes) (l .amounts) (l .i) (l .w) (l .inv) (c .before .before .before .loop-test .taken) _ (c .amount-at .ensures)
 
 returns : tie.Need-returns Inv-loop μ-loop
-returns c = columns-all _ _ _ _ _ _ _ _ (c .before .loop .inv) (c .loop-test .left) (c .before .before .before .pre .0) _ refl
+returns c =
+    let a = c .before .before .before .args in
+    let l = c .before .loop in
+    columns-all (a .s .now) (a .at) (a .m) (l .systems) (l .codes) (l .amounts) (l .i) (l .w) (l .inv) (c .loop-test .left) (c .before .before .before .pre .0) _ refl
 
 pub split-at-spec : {M : Type 1} → statement M
 split-at-spec =
