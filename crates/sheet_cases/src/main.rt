@@ -175,14 +175,14 @@ fn count(analysis: Analysis, split: Split, sheet: &[u8], faults: u16, so: u8) ->
     n
 }
 
-// Prints how the writings went.
+// Prints how the writings went, in the order of the constants above.
 fn put_writings(analysis: Analysis, split: Split, sheet: &[u8], faults: u16) {
     put(b"WRITE");
-    put_number(count(analysis, split, sheet, faults, REFUSED_5));
-    put_number(count(analysis, split, sheet, faults, REFUSED_6));
-    put_number(count(analysis, split, sheet, faults, REFUSED_14));
-    put_number(count(analysis, split, sheet, faults, WRITTEN));
-    put_number(count(analysis, split, sheet, faults, OTHER));
+    let mut so: u8 = REFUSED_5;
+    while so <= OTHER {
+        put_number(count(analysis, split, sheet, faults, so));
+        so += 1;
+    }
 }
 
 // Prints a refusal: with its place for 2 to 4, for 5 with whether the code is at fault.
