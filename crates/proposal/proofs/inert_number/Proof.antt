@@ -1,4 +1,4 @@
--- `search::rating::inert_number` meets its contract. Assumes nothing.
+-- `proposal::inert_number` meets its contract. Assumes nothing.
 use Rattle.proposal.proofs.Wholes.{inert-ok, inert-never}
 use borrow.Author.Needs.{needs}
 use Rattle.proposal.proofs.inert_number.Statement.{statement}

@@ -1,4 +1,4 @@
--- `search::rating::rating_of` meets its contract. Assumes nothing.
+-- `proposal::rating_of` meets its contract. Assumes nothing.
 use lib.Dec.{lit<}
 use Rattle.proposal.proofs.Wholes.{rating-div, rating-add, rating-sub, rating-is}
 use Rattle.proposal.proofs.rating_of.Statement.{statement}

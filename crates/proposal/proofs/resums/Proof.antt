@@ -1,4 +1,4 @@
--- `search::rating::resums` meets its contract: the columns before c add up. Assumes nothing.
+-- `proposal::resums` meets its contract: the columns before c add up. Assumes nothing.
 use Prim.Native.Nat.{ℕ, _+_, _*_, _-_, _≤_, _<_}
 use mathlib.Core.Path.{_≡_, sym, ap, _∙_}
 use native.Mathlib.Omega.{arith}

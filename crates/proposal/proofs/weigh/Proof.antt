@@ -1,4 +1,4 @@
--- `search::rating::weigh` meets its contract. Assumes nothing.
+-- `proposal::weigh` meets its contract. Assumes nothing.
 use Rattle.proposal.proofs.Wholes.{weigh-mul, weigh-add, weigh-is}
 use borrow.Author.Needs.{needs}
 use Rattle.proposal.proofs.weigh.Statement.{statement}
