@@ -12,7 +12,7 @@ use lib.Signed.{quotZ}
 use borrow.Author.Tests.{not-true, not-false, lt-leb, le-leb}
 use Rattle.split.specs.Fold.{sumTo, sumToZ}
 use Rattle.split.specs.Folds.{sum-same, greatest-same, least-same}
-use Rattle.split.specs.Split.{CELLS, partsOf, numberAt, both, Stock, Sound}
+use Rattle.split.specs.Split.{CELLS, partsOf, numberAt, both, Stock}
 use Rattle.split.specs.Rating.{resums, someEmpty, spreadOf, weightedOf, meanOf, inertNumber, ratingOf}
 use Rattle.split.specs.Find.{chosenFit, mixtureFit}
 use Rattle.split.specs.Members.{both-left, both-right}

@@ -18,7 +18,7 @@ use Rattle.integer.specs.Ring.{natAbs-+, natAbs-*}
 use Rattle.split.specs.Fold.{sumTo, sumToZ}
 use Rattle.split.specs.Rating.{spreadOf, inertNumber}
 use Rattle.split.specs.declared.Answer.the-variants.{Rated, Refused}
-use Rattle.rows.specs.Rows.{listed, LARGEST, Small}
+use Rattle.rows.specs.Rows.{listed}
 use Rattle.proposal.specs.Weighing.{Weighable, weighedTo, ratedBy}
 
 -- a signed result, read back from its bits

@@ -7,7 +7,7 @@ use lib.ListN.{length}
 use Rattle.systems.specs.Systems.{memberOf, Candidate}
 use Rattle.split.specs.Split.{SYSTEMS, systemOf, numberAt, Sound}
 use Rattle.split.specs.Steps.{insteadOf}
-use Rattle.rows.specs.Rows.{listed, LARGEST, Small}
+use Rattle.rows.specs.Rows.{listed, Small}
 
 -- v has the partial numbers of the k rows
 pub record Carried (ch : List ℕ) (k : ℕ) (a : List ℕ) (v : List ℤ) : Type 0 where

@@ -1,35 +1,35 @@
 -- What the rows' evaluation says, by its cases. Assumes nothing.
-use Prim.Native.Nat.{ℕ, zero, suc, _+_, _*_, _-_, _≤_, _<_}
-use mathlib.Core.Path.{_≡_, refl, sym, ap, ap₂, _∙_}
+use Prim.Native.Nat.{ℕ, zero, suc, _+_, _-_, _≤_, _<_}
+use mathlib.Core.Path.{_≡_, refl, sym, ap, _∙_}
 use mathlib.Core.Bool.{Bool, true, false}
-use mathlib.Core.List.{List, [], _∷_}
+use mathlib.Core.List.{List}
 use native.Mathlib.Nat as N
 use native.Mathlib.Omega.{arith}
 use native.Mathlib.Numerals.{add-one}
 use mir.Syntax.{w64}
 use mir.Val.{toZ, ofZ}
-use lib.Dec.{T, ltb, leb, eqb, lit≤}
+use lib.Dec.{ltb, leb, lit≤}
 use Rattle.rows.specs.Machine.{back}
-use lib.IntN.{ℤ, pos, natAbs}
+use lib.IntN.{ℤ, pos}
 use lib.ListN.{length, getD, set, length-set, replicate, length-replicate, getD-replicate}
 use lib.Seq.{getD-set-same, getD-set-other, ext-getD}
-use borrow.Author.Tests.{ltb-true, ltb-false, lt-ltb, le-ltb, le-leb, lt-leb, leb-true}
+use borrow.Author.Tests.{ltb-true, ltb-false, lt-ltb, le-leb, lt-leb, leb-true}
 use borrow.Author.Count.{below-more}
 use Rattle.ternary.specs.Partial.{partialNumber, partial-small}
-use Rattle.ternary.specs.Answer.{isIn, isSystem, isMixture, mixture-yes, mixture-zero, mixture-above, partialOf, partial-is, partial-12}
+use Rattle.ternary.specs.Answer.{isIn, isSystem, isMixture, mixture-yes, partialOf, partial-is, partial-12}
 use Rattle.ternary.specs.declared.Partial.{Partial}
 use Rattle.ternary.specs.declared.Partial.the-variants.{Number, Refused}
-use Rattle.systems.specs.Systems.{COMPONENTS, candidates, elem, memberOf, Candidate}
+use Rattle.systems.specs.Systems.{candidates, elem, memberOf, Candidate}
 use Rattle.systems.specs.Table.{each-candidate, to-true}
 use Rattle.split.specs.Fold.{allTo}
 use Rattle.split.specs.Folds.{all-each, all-of}
-use Rattle.split.specs.Split.{SYSTEMS, CELLS, cellOf, systemOf, partsOf, numberAt, both, Chosen, Stock, Sound}
-use Rattle.split.specs.Members.{both-left, both-right}
+use Rattle.split.specs.Split.{SYSTEMS, cellOf, systemOf, partsOf, numberAt, both, Stock, Sound}
+use Rattle.split.specs.Members.{both-right}
 use Rattle.split.specs.Rating.{someEmpty}
 use Rattle.split.specs.Rows.{parts-few}
 use Rattle.split.specs.Fits.{empty-no}
-use Rattle.rows.specs.Rows.{listed, LARGEST, partsIn, answerIn, rowFit, rowsFit, upTo, none, rowsOf, Small}
-use Rattle.rows.specs.Carried.{Carried, Held}
+use Rattle.rows.specs.Rows.{listed, partsIn, answerIn, rowFit, rowsFit, upTo, none, rowsOf, Small}
+use Rattle.rows.specs.Carried.{Held}
 use Rattle.rows.specs.declared.Rows.{Rows}
 
 -- ---- a list whose first places have the values of f, and the rest d

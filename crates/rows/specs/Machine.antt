@@ -1,16 +1,16 @@
 -- Signed numbers and their bits. Assumes nothing.
-use mathlib.Core.Path.{_≡_, refl, sym, ap, ap₂, _∙_, subst}
-use mathlib.Core.Bool.{Bool, true, false}
-use Prim.Native.Nat.{ℕ, zero, suc, _+_, _*_, _/_, _^_, _≤_, _<_}
+use mathlib.Core.Path.{_≡_, refl, sym, ap, ap₂, _∙_}
+use mathlib.Core.Bool.{true, false}
+use Prim.Native.Nat.{ℕ, suc, _*_, _≤_, _<_}
 use native.Mathlib.Nat as N
 use native.Mathlib.Omega.{arith}
 use lib.Dec.{lit<, lit≤, T}
 use borrow.Author.Tests.{ltb-true}
-use lib.IntN.{ℤ, pos, negsuc, natAbs, _+ℤ_, _-ℤ_}
-use lib.Signed.{quotZ, mag, ltZ, nonNeg}
+use lib.IntN.{ℤ, pos, negsuc, natAbs, _-ℤ_}
+use lib.Signed.{quotZ, ltZ, nonNeg}
 use mir.Syntax.{w64}
 use mir.Val.{SFits, Fits, toZ, ofZ}
-use mir.ValLaws.{toZ-ofZ, toZ-pos}
+use mir.ValLaws.{toZ-ofZ}
 use Rattle.integer.specs.Ring.{mag-le, natAbs--, natAbs-quot}
 use mathlib.Core.List.{List}
 use Rattle.split.specs.Move.{squareOf}
@@ -68,32 +68,7 @@ module _ (z : ℤ) (h : natAbs z ≤ 1000000000000000) where
   pub size-is-2 : ltZ (toZ w64 (ofZ w64 z)) (pos 0) ≡ false → natAbs (toZ w64 (ofZ w64 z)) ≡ natAbs z
   size-is-2 e = ap natAbs (left-is e)
 
--- the difference of two numbers that fit
-module _ (x y : ℤ) (p : natAbs x ≤ 2000000000000) (q : natAbs y ≤ 2000000000000) where
-  diff-is : toZ w64 (ofZ w64 x) -ℤ toZ w64 (ofZ w64 y) ≡ x -ℤ y
-  diff-is = ap₂ _-ℤ_ (back x (omega arith)) (back y (omega arith))
-
-  diff-le : natAbs (x -ℤ y) ≤ 4000000000000
-  diff-le = omega (arith, natAbs-- x y)
-
-  pub distance-sub : SFits w64 (toZ w64 (ofZ w64 x) -ℤ toZ w64 (ofZ w64 y))
-  distance-sub = rw diff-is (sfits-small (x -ℤ y) (omega (arith, diff-le)))
-
-  diff-back : toZ w64 (ofZ w64 (toZ w64 (ofZ w64 x) -ℤ toZ w64 (ofZ w64 y))) ≡ x -ℤ y
-  diff-back = ap (λ d. toZ w64 (ofZ w64 d)) diff-is ∙ back (x -ℤ y) (omega (arith, diff-le))
-
-  pub distance-size : natAbs (toZ w64 (ofZ w64 (toZ w64 (ofZ w64 x) -ℤ toZ w64 (ofZ w64 y)))) ≤ 1000000000000000
-  distance-size = rw diff-back (omega (arith, diff-le))
-
-  pub distance-is : (r : ℕ) → r ≡ natAbs (toZ w64 (ofZ w64 (toZ w64 (ofZ w64 x) -ℤ toZ w64 (ofZ w64 y)))) → (r ≡ natAbs (x -ℤ y)) × (r ≤ 4000000000000)
-  distance-is r e =
-      let u : r ≡ natAbs (x -ℤ y) = e ∙ ap natAbs diff-back in
-      (u, omega (arith, u, diff-le))
-
--- of the values cut to thousands
-pub cut : ℤ → ℤ
-cut x = quotZ x (pos 10000)
-
+-- the values cut to thousandths of a methane number
 abbrev cutBits : ℤ → ℤ
 cutBits x = quotZ (toZ w64 (ofZ w64 x)) (pos 10000)
 
@@ -146,9 +121,6 @@ module _ (v : List ℤ) (k i : ℕ) (s : Small v k) (h : i < k) where
 module _ (v : List ℤ) (k i j : ℕ) (s : Small v k) (h : i < k) (l : j < i) where
   pub square-at : (r : ℕ) → r ≡ squareOf (toZ w64 (ofZ w64 (listed v i))) (toZ w64 (ofZ w64 (listed v j))) → r ≡ squareOf (listed v i) (listed v j)
   square-at r e = e ∙ ap₂ squareOf (at-back v k i s h) (at-back v k j s (omega arith))
-
-  pub distance-at : (r : ℕ) → r ≡ natAbs (toZ w64 (ofZ w64 (listed v i)) -ℤ toZ w64 (ofZ w64 (listed v j))) → r ≡ natAbs (listed v i -ℤ listed v j)
-  distance-at r e = e ∙ ap₂ (λ x y. natAbs (x -ℤ y)) (at-back v k i s h) (at-back v k j s (omega arith))
 
 -- a signed result that is passed on
 pub pass : (z u : ℤ) → z ≡ u → natAbs z ≤ 2000000000000 → (toZ w64 (ofZ w64 z) ≡ u) × (natAbs (toZ w64 (ofZ w64 z)) ≤ 2000000000000)

@@ -7,7 +7,7 @@ use lib.IntN.{ℤ, pos, natAbs}
 use lib.ListN.{getD, replicate}
 use Rattle.ternary.specs.Answer.{isMixture, partialOf}
 use Rattle.ternary.specs.declared.Partial.{Partial}
-use Rattle.ternary.specs.declared.Partial.the-variants.{Number, Refused}
+use Rattle.ternary.specs.declared.Partial.the-variants.{Refused}
 use Rattle.systems.specs.Systems.{candidates, elem, memberOf}
 use Rattle.split.specs.Fold.{allTo}
 use Rattle.split.specs.Split.{SYSTEMS, cellOf, systemOf, partsOf, numberAt, both}

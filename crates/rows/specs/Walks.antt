@@ -1,20 +1,18 @@
 -- The least and the greatest of some numbers, found by a walk, and their difference, from their bits. Assumes nothing.
-use Prim.Native.Nat.{ℕ, zero, suc, _+_, _*_, _-_, _≤_, _<_}
+use Prim.Native.Nat.{ℕ, _+_, _-_, _≤_, _<_}
 use mathlib.Core.Path.{_≡_, refl, sym, ap, ap₂, _∙_}
-use mathlib.Core.Bool.{Bool, true, false, cond}
+use mathlib.Core.Bool.{true, false}
 use mathlib.Core.List.{List, [], _∷_}
 use native.Mathlib.Nat as N
 use native.Mathlib.Numerals.{add-one}
 use native.Mathlib.Omega.{arith}
-use lib.Dec.{T, ltb, leb, lit≤}
-use lib.IntN.{ℤ, pos, negsuc, natAbs, _+ℤ_, _-ℤ_}
-use lib.Signed.{ltZ, leZ, nonNeg, _≤ℤ_}
+use lib.Dec.{T}
+use lib.IntN.{ℤ, pos, natAbs, _+ℤ_, _-ℤ_}
+use lib.Signed.{ltZ, nonNeg, _≤ℤ_}
 use mir.Syntax.{w64}
 use mir.Val.{SFits, Fits, toZ, ofZ}
-use mir.ValLaws.{toZ-ofZ}
-use borrow.Author.Tests.{ltb-true, leb-true, leb-false, le-leb, lt-leb}
 use Rattle.integer.specs.Ring.{natAbs--}
-use Rattle.integer.specs.Normal.{E, X, _⊕_, ⊖, solve, env}
+use Rattle.integer.specs.Normal.{X, _⊕_, ⊖, solve, env}
 use Rattle.integer.specs.Order.{≤ℤ-diff, ≤ℤ-trans}
 use Rattle.split.specs.Fold.{greatestTo, leastTo}
 use Rattle.split.specs.Rating.{spreadOf}

@@ -1,6 +1,6 @@
 -- A turn, and a search's loop, from what the code has in hand.
-use Prim.Native.Nat.{ℕ, zero, suc, _+_, _*_, _-_, _%_, _^_, _≤_, _<_}
-use mathlib.Core.Path.{_≡_, refl, sym, ap, _∙_}
+use Prim.Native.Nat.{ℕ, suc, _+_, _*_, _-_, _%_, _^_, _≤_, _<_}
+use mathlib.Core.Path.{_≡_, ap, _∙_}
 use mathlib.Core.Bool.{Bool}
 use mathlib.Core.List.{List}
 use native.Mathlib.Omega.{arith}
@@ -12,11 +12,11 @@ use Rattle.split.specs.Rating.{spreadOf}
 use Rattle.split.specs.Move.{giverOf, takerOf, movedOf, firstOf}
 use Rattle.split.specs.Search.{goOn, turnOf, stepOf, runOf}
 use Rattle.split.specs.declared.Turn.{Turn}
-use Rattle.split.specs.declared.Turn.the-variants.{Rate, Refuse, Move, Halve}
+use Rattle.split.specs.declared.Turn.the-variants.{Rate, Refuse, Move}
 use Rattle.split.specs.declared.Found.{Found}
 use Rattle.split.specs.Tests.{Fit}
 use Rattle.split.specs.Steps.{sound-moved}
-use Rattle.split.specs.Turns.{turn-rate, turn-refuse, turn-on, Moves, moves, again-move}
+use Rattle.split.specs.Turns.{turn-rate, turn-refuse, turn-on, moves, again-move}
 use Rattle.rows.specs.Rows.{listed, Small}
 use Rattle.rows.specs.Carried.{Carried, Held}
 use Rattle.search.specs.Tried.{Tried, Forgot}

@@ -1,26 +1,17 @@
 -- The partial number of a candidate at a mixture is answered, and is small.
-use Prim.Native.Nat.{ℕ, zero, suc, _+_, _*_, _≤_, _<_}
-use mathlib.Core.Path.{_≡_, refl, sym, ap, ap₂, _∙_}
-use mathlib.Core.Bool.{Bool, true, false}
-use mathlib.Core.List.{List}
+use Prim.Native.Nat.{ℕ, _+_, _≤_}
+use mathlib.Core.Path.{_≡_, refl, ap, _∙_}
+use mathlib.Core.Bool.{true}
 use native.Mathlib.Omega.{arith}
-use lib.Dec.{eqb}
 use lib.IntN.{ℤ, pos, natAbs}
-use lib.ListN.{length, getD, set, length-set}
-use lib.Seq.{getD-set-same, getD-set-other}
 use mir.Syntax.{w64}
 use mir.Val.{toZ, ofZ}
-use borrow.Author.Tests.{eqb-true, eqb-false}
-use borrow.Author.Count.{below-more}
 use Rattle.ternary.specs.Partial.{partialNumber, partial-small}
 use Rattle.ternary.specs.Answer.{isIn, isSystem, partialOf, partial-is}
 use Rattle.ternary.specs.declared.Partial.{Partial}
 use Rattle.ternary.specs.declared.Partial.the-variants.{Number, Refused}
 use Rattle.systems.specs.Systems.{Candidate}
 use Rattle.systems.specs.Table.{each-candidate, to-true}
-use Rattle.split.specs.Split.{SYSTEMS, numberAt, Sound}
-use Rattle.rows.specs.Rows.{listed, Small}
-use Rattle.rows.specs.Carried.{Carried, Held}
 use Rattle.rows.specs.Machine.{back}
 
 known-system : (system : ℕ) → Candidate system → isSystem system ≡ true

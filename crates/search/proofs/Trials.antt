@@ -1,29 +1,29 @@
 -- A move's two rows worked out, the others carried.
-use Prim.Native.Nat.{ℕ, zero, suc, _+_, _*_, _-_, _/_, _%_, _≤_, _<_}
+use Prim.Native.Nat.{ℕ, _+_, _-_, _≤_, _<_}
 use mathlib.Core.Path.{_≡_, refl, sym, ap, ap₂, _∙_}
-use mathlib.Core.Bool.{Bool, true, false, cond}
+use mathlib.Core.Bool.{Bool, true, false}
 use mathlib.Core.List.{List}
 use native.Mathlib.Omega.{arith}
 use lib.Dec.{eqb, ltb}
 use lib.IntN.{ℤ, pos, natAbs}
-use lib.ListN.{length, getD, set, length-set}
+use lib.ListN.{length, set, length-set}
 use lib.Seq.{getD-set-same, getD-set-other}
 use mir.Syntax.{w64}
 use mir.Val.{toZ, ofZ}
 use borrow.Author.Tests.{eqb-true, eqb-false, eq-eqb, ne-eqb}
-use Rattle.systems.specs.Systems.{COMPONENTS, memberOf, Candidate}
+use Rattle.systems.specs.Systems.{memberOf, Candidate}
 use Rattle.ternary.specs.Partial.{partialNumber}
 use Rattle.split.specs.Fold.{sumTo}
 use Rattle.split.specs.Split.{SYSTEMS, cellOf, systemOf, partsOf, numberAt, Sound}
 use Rattle.split.specs.Rating.{spreadOf}
 use Rattle.split.specs.Move.{squareOf, imbalanceOf, componentOf, giverOf, takerOf, movedOf, lowersOf}
 use Rattle.split.specs.Folds.{sum-same, greatest-same, least-same}
-use Rattle.split.specs.Members.{Three, three}
+use Rattle.split.specs.Members.{three}
 use Rattle.split.specs.Rows.{parts-few}
-use Rattle.split.specs.Tests.{Fit, Between}
+use Rattle.split.specs.Tests.{Fit}
 use Rattle.split.specs.Steps.{insteadOf, numberWith, Changed, instead-is, number-with, bt, sound-moved, rest-same, giver-changed, taker-changed}
 use Rattle.rows.specs.Rows.{listed, Small}
-use Rattle.rows.specs.Carried.{Carried, Held, partsWith, Workable}
+use Rattle.rows.specs.Carried.{Carried, Workable}
 use Rattle.rows.specs.Machine.{back}
 
 -- the imbalance and the spread depend on the k numbers alone

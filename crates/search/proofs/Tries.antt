@@ -1,7 +1,7 @@
 -- The numbers that tries lead to: worked out, kept, forgotten.
-use Prim.Native.Nat.{ℕ, zero, suc, _+_, _*_, _-_, _/_, _%_, _≤_, _<_}
-use mathlib.Core.Path.{_≡_, refl, sym, ap, ap₂, _∙_}
-use mathlib.Core.Bool.{Bool, true, false, cond}
+use Prim.Native.Nat.{ℕ, _+_, _*_, _-_, _≤_, _<_}
+use mathlib.Core.Path.{_≡_, refl, sym, ap, _∙_}
+use mathlib.Core.Bool.{Bool, true, false}
 use mathlib.Core.List.{List}
 use native.Mathlib.Nat as N
 use native.Mathlib.Omega.{arith}
@@ -14,11 +14,11 @@ use mir.Val.{toZ, ofZ}
 use borrow.Author.Tests.{eqb-true, eqb-false, lt-ltb, le-ltb, ltb-true, ltb-false}
 use Rattle.systems.specs.Systems.{COMPONENTS, memberOf}
 use Rattle.split.specs.Split.{SYSTEMS, CELLS, cellOf, systemOf, Sound}
-use Rattle.split.specs.Move.{MOVES, componentOf, giverOf, takerOf, shift, movedOf}
-use Rattle.split.specs.Members.{Three, three}
+use Rattle.split.specs.Move.{componentOf, giverOf, takerOf, movedOf}
+use Rattle.split.specs.Members.{three}
 use Rattle.split.specs.Moves.{cell-row}
-use Rattle.split.specs.Tests.{Fit, Between, Affords}
-use Rattle.split.specs.Steps.{insteadOf, numberWith, bt, af, component-low, may-move}
+use Rattle.split.specs.Tests.{Fit}
+use Rattle.split.specs.Steps.{numberWith, bt, component-low, may-move}
 use Rattle.rows.specs.Rows.{listed, LARGEST}
 use Rattle.rows.specs.Carried.{Workable}
 use Rattle.search.specs.Tried.{TRIES, UNKNOWN, rowOf, columnIn, triedOf, wantedOf, Tried, Triable, Forgot}

@@ -77,7 +77,7 @@ fn next_turn(
 }
 
 // Move m of the stride d made: the cells after it, with their partial numbers and what is still known of tries.
-fn make(
+fn make_move(
     ch: &[u8; SYSTEMS],
     k: usize,
     a: &mut [u32; CELLS],
@@ -130,7 +130,7 @@ pub(crate) fn search(
             }
             Turn::Move(m) => {
                 let d = stride(level);
-                make(ch, k, &mut a, &mut v, &mut tried, d, m);
+                make_move(ch, k, &mut a, &mut v, &mut tried, d, m);
                 rounds += 1;
             }
             Turn::Halve => {

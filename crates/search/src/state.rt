@@ -1,4 +1,4 @@
-// A split's rows: their parts, a partial number, and the spread of these.
+// A row's parts and partial number, and the spread of some numbers.
 ghost use mathlib.Core.Path.{_≡_};
 ghost use Prim.Native.Nat.{ℕ, _+_, _*_, _<_, _≤_};
 ghost use lib.IntN.{ℤ, natAbs};

@@ -3,7 +3,7 @@ use Prim.Native.Nat.{ℕ, zero, suc, _+_, _-_, _≤_, _<_}
 use mathlib.Core.Path.{_≡_, refl, sym, ap, _∙_}
 use mathlib.Core.Bool.{Bool, true, false}
 use native.Mathlib.Omega.{arith}
-use Rattle.split.specs.Fold.{allTo, someTo}
+use Rattle.split.specs.Fold.{allTo}
 
 module _ (p : ℕ → Bool) (n i : ℕ) where
   pub all-next : 0 < i → p (i - 1) ≡ true → allTo p n ≡ allTo p i → allTo p n ≡ allTo p (i - 1)
@@ -23,21 +23,3 @@ module _ (p : ℕ → Bool) (n i : ℕ) where
   all-end h z =
       let q : i ≡ 0 = omega arith in
       sym (z ∙ ap (allTo p) q)
-
-  pub some-next : 0 < i → p (i - 1) ≡ false → someTo p n ≡ someTo p i → someTo p n ≡ someTo p (i - 1)
-  unfolding someTo
-  some-next h e z =
-      let q : i ≡ suc (i - 1) = omega arith in
-      z ∙ ap (someTo p) q ∙ rw e
-
-  pub some-true : 0 < i → p (i - 1) ≡ true → someTo p n ≡ someTo p i → true ≡ someTo p n
-  unfolding someTo
-  some-true h e z =
-      let q : i ≡ suc (i - 1) = omega arith in
-      sym (z ∙ ap (someTo p) q ∙ rw e)
-
-  pub some-end : i ≤ 0 → someTo p n ≡ someTo p i → false ≡ someTo p n
-  unfolding someTo
-  some-end h z =
-      let q : i ≡ 0 = omega arith in
-      sym (z ∙ ap (someTo p) q)

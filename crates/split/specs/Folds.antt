@@ -1,5 +1,5 @@
 -- The laws of folds. Assumes nothing.
-use Prim.Native.Nat.{ℕ, zero, suc, _+_, _*_, _-_, _≤_, _<_, max}
+use Prim.Native.Nat.{ℕ, zero, suc, _+_, _*_, _-_, _≤_, _<_}
 use mathlib.Core.Path.{_≡_, refl, sym, ap, ap₂, _∙_}
 use mathlib.Core.Bool.{Bool, true, false, cond}
 use native.Mathlib.Nat.{not-suc-le-zero, le-of-suc-le-suc, add-zero, zero-add}
@@ -8,7 +8,7 @@ use native.Mathlib.Omega.{arith}
 use lib.Dec.{eqb}
 use lib.IntN.{ℤ}
 use borrow.Author.Tests.{eqb-true, eqb-false, eq-eqb, ne-eqb}
-use Rattle.split.specs.Fold.{sumTo, maxTo, greatestTo, leastTo, allTo, someTo, first}
+use Rattle.split.specs.Fold.{sumTo, greatestTo, leastTo, allTo, someTo, first}
 
 pub sum-none : (f : ℕ → ℕ) → 0 ≡ sumTo f 0
 unfolding sumTo
@@ -18,23 +18,10 @@ pub sum-more : (f : ℕ → ℕ) (n x y : ℕ) → x ≡ sumTo f n → y ≡ f n
 unfolding sumTo
 sum-more f n x y p q = rw (add-one n) (ap₂ _+_ p q)
 
-pub max-none : (f : ℕ → ℕ) → 0 ≡ maxTo f 0
-unfolding maxTo
-max-none f = refl
-
-pub max-more : (f : ℕ → ℕ) (n x y : ℕ) → x ≡ maxTo f n → y ≡ f n → max x y ≡ maxTo f (n + 1)
-unfolding maxTo
-max-more f n x y p q = rw (add-one n) (ap₂ max p q)
-
 pub sum-same : (f g : ℕ → ℕ) (n : ℕ) → ((i : ℕ) → i < n → f i ≡ g i) → sumTo f n ≡ sumTo g n
 unfolding sumTo
 sum-same f g zero h = refl
 sum-same f g (suc n) h = ap₂ _+_ (sum-same f g n (λ i l. h i (omega arith))) (h n (omega arith))
-
-pub max-same : (f g : ℕ → ℕ) (n : ℕ) → ((i : ℕ) → i < n → f i ≡ g i) → maxTo f n ≡ maxTo g n
-unfolding maxTo
-max-same f g zero h = refl
-max-same f g (suc n) h = ap₂ max (max-same f g n (λ i l. h i (omega arith))) (h n (omega arith))
 
 -- a function that differs at one place only
 pub sum-but : (f g : ℕ → ℕ) (n j : ℕ) → j < n → ((i : ℕ) → i < n → (i ≡ j → ⊥) → f i ≡ g i) → sumTo f n + g j ≡ sumTo g n + f j

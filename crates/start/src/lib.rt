@@ -19,12 +19,6 @@ const CELLS: usize = 32;
 // The most parts that a mixture has.
 const MILLION: u64 = 1000000;
 
-// System numbers are below this one.
-const NUMBERS: u8 = 9;
-
-// The components that a system contains: a hexadecimal digit for each system number, from the right, a bit for each component.
-const CONTAINED: usize = 0xbd0070e00;
-
 fn wide(x: u32) -> u64
     ensures { λ r. ⌜ (r ≡ x) × (r ≤ 4294967295) ⌝ }
 {
@@ -57,7 +51,7 @@ fn chosen_fit(ch: &[u8; SYSTEMS], k: usize) -> bool
     let mut s = k;
     while 0 < s {
         s -= 1;
-        if systems::member(ch[s], 0) == COMPONENTS {
+        if COMPONENTS <= systems::member(ch[s], 0) {
             return false;
         }
     }
@@ -80,11 +74,10 @@ fn contains(ch: &[u8; SYSTEMS], i: usize) -> u32
     requires { ⌜ i < CELLS ⌝ }
     ensures { λ r. ⌜ (r ≡ containedAt (now (ch .entry)) i) × (r ≤ 1) ⌝ }
 {
-    let system = ch[i / COMPONENTS];
-    if system >= NUMBERS {
-        return 0;
+    if systems::has(ch[i / COMPONENTS], i % COMPONENTS) {
+        return 1;
     }
-    ((CONTAINED >> (system as usize * COMPONENTS + i % COMPONENTS)) % 2) as u32
+    0
 }
 
 // Among how many systems of the cells before the end component c is shared: those that contain it, or 1 where none does.

@@ -1,43 +1,27 @@
 -- `start::contains` meets its contract. Assumes nothing.
-use native.Mathlib.Omega.{arith}
-use Rattle.start.proofs.Contained.{packed-is, none-past}
+use Rattle.start.proofs.Contained.{contained-yes, contained-no}
 use borrow.Author.Needs.{needs}
 use Rattle.start.proofs.contains.Statement.{statement}
 use Rattle.start.proofs.contains.Tie as tie
+use Rattle.start.proofs.contains.Reads as reads
+use Rattle.start.proofs.contains.Lts as lts
+use Rattle.systems.proofs.has.Reads as has-reads
 
-element-copy-out-system : tie.Need-element-copy-out-system
-element-copy-out-system c = search needs
+-- src/lib.rt:77:21
+element-copy-out-has : tie.Need-element-copy-out-has
+element-copy-out-has c = search needs
 
+-- src/lib.rt:77:8
+has-requires : tie.Need-has-requires
+has-requires c κs = search needs
+
+-- src/lib.rt:78:9
 returns : tie.Need-returns
-returns c = (none-past _ _ (c .if1 .taken) (omega arith), omega arith)
+returns c = contained-yes (c .before .before .before .args .ch .now) (c .before .before .before .args .i) _ (c .before .has .ensures) (c .if1 .taken)
 
-cast-result : tie.Need-cast-result
-cast-result c = search needs
-
-mul-result : tie.Need-mul-result
-mul-result c = search needs
-
-add-result : tie.Need-add-result
-add-result c = search needs
-
-shr-result : tie.Need-shr-result
-shr-result c = search needs
-
-cast-result-2 : tie.Need-cast-result-2
-cast-result-2 c = search needs
-
+-- src/lib.rt:73:1
 returns-2 : tie.Need-returns-2
-returns-2 c = (packed-is _ _ (c .if1 .left) (omega arith), omega arith)
+returns-2 c = contained-no (c .before .before .before .args .ch .now) (c .before .before .before .args .i) _ (c .before .has .ensures) (c .if1 .left)
 
 pub contains-spec : {M : Type 1} → statement M
-contains-spec =
-    tie.close
-    (tie.spec
-    element-copy-out-system
-    returns
-    cast-result
-    mul-result
-    add-result
-    shr-result
-    cast-result-2
-    returns-2)
+contains-spec = tie.close (tie.spec element-copy-out-has has-requires returns returns-2)

@@ -12,7 +12,7 @@ use Rattle.search.proofs.rounds.search.Statement.{statement}
 use Rattle.search.proofs.rounds.search.Tie as tie
 use Rattle.search.proofs.rounds.search.Reads as reads
 use Rattle.search.proofs.rounds.search.Lts as lts
-use Rattle.search.proofs.rounds.make.Reads as make-reads
+use Rattle.search.proofs.rounds.make_move.Reads as make-move-reads
 use Rattle.search.proofs.rounds.next_turn.Reads as next-turn-reads
 use Rattle.search.proofs.rounds.stride.Reads as stride-reads
 use Rattle.search.proofs.tried.none_known.Reads as none-known-reads
@@ -60,20 +60,20 @@ stride-requires : tie.Need-stride-requires Inv-loop μ-loop
 stride-requires c κs = search needs
 
 -- src/rounds.rt:134:17
-make-requires : tie.Need-make-requires Inv-loop μ-loop
-make-requires c κs = (c .before .before .before .before .before .before .before .before .before .before .before .loop .inv .0, fit-is _ _ _ _ _ _ _ _ _ (c .before .before .before .stride .ensures) (sym (c .before .before .before .before .before .before .before .next-turn .ensures .0) ∙ c .before .before .before .before .before .t2 .given .1), tried-as _ _ _ _ _ _ (c .before .before .before .stride .ensures) (c .before .before .before .before .before .before .before .next-turn .ensures .1))
+make-move-requires : tie.Need-make-move-requires Inv-loop μ-loop
+make-move-requires c κs = (c .before .before .before .before .before .before .before .before .before .before .before .loop .inv .0, fit-is _ _ _ _ _ _ _ _ _ (c .before .before .before .stride .ensures) (sym (c .before .before .before .before .before .before .before .next-turn .ensures .0) ∙ c .before .before .before .before .before .t2 .given .1), tried-as _ _ _ _ _ _ (c .before .before .before .stride .ensures) (c .before .before .before .before .before .before .before .next-turn .ensures .1))
 
 -- src/rounds.rt:135:17
 add-rounds : tie.Need-add-rounds Inv-loop μ-loop
-add-rounds c = omega (arith, step-next _ _ _ (c .before .before .before .before .before .before .before .before .before .before .before .before .before .before .args .allowance) _ _ _ _ _ (c .before .before .before .before .stride .ensures) (sym (c .before .before .before .before .before .before .before .before .next-turn .ensures .0) ∙ c .before .before .before .before .before .before .t2 .given .1) _ (c .make .ensures .0) _ (c .before .before .before .before .before .before .before .before .before .before .before .before .loop .inv .2) (c .before .before .before .before .before .before .before .before .before .before .before .before .loop .inv .3) .0, c .before .before .before .before .before .before .before .before .before .before .before .before .before .before .fits .allowance)
+add-rounds c = omega (arith, step-next _ _ _ (c .before .before .before .before .before .before .before .before .before .before .before .before .before .before .args .allowance) _ _ _ _ _ (c .before .before .before .before .stride .ensures) (sym (c .before .before .before .before .before .before .before .before .next-turn .ensures .0) ∙ c .before .before .before .before .before .before .t2 .given .1) _ (c .make-move .ensures .0) _ (c .before .before .before .before .before .before .before .before .before .before .before .before .loop .inv .2) (c .before .before .before .before .before .before .before .before .before .before .before .before .loop .inv .3) .0, c .before .before .before .before .before .before .before .before .before .before .before .before .before .before .fits .allowance)
 
 -- src/rounds.rt:117:5
 loop-less : tie.Need-loop-less Inv-loop μ-loop
-loop-less c = omega (arith, step-next _ _ _ (c .before .before .before .before .before .before .before .before .before .before .before .before .before .before .args .allowance) _ _ _ _ _ (c .before .before .before .before .stride .ensures) (sym (c .before .before .before .before .before .before .before .before .next-turn .ensures .0) ∙ c .before .before .before .before .before .before .t2 .given .1) _ (c .make .ensures .0) _ (c .before .before .before .before .before .before .before .before .before .before .before .before .loop .inv .2) (c .before .before .before .before .before .before .before .before .before .before .before .before .loop .inv .3) .0)
+loop-less c = omega (arith, step-next _ _ _ (c .before .before .before .before .before .before .before .before .before .before .before .before .before .before .args .allowance) _ _ _ _ _ (c .before .before .before .before .stride .ensures) (sym (c .before .before .before .before .before .before .before .before .next-turn .ensures .0) ∙ c .before .before .before .before .before .before .t2 .given .1) _ (c .make-move .ensures .0) _ (c .before .before .before .before .before .before .before .before .before .before .before .before .loop .inv .2) (c .before .before .before .before .before .before .before .before .before .before .before .before .loop .inv .3) .0)
 
 -- src/rounds.rt:117:5
 loop-again : tie.Need-loop-again Inv-loop μ-loop
-loop-again c = let g = step-next _ _ _ (c .before .before .before .before .before .before .before .before .before .before .before .before .before .before .args .allowance) _ _ _ _ _ (c .before .before .before .before .stride .ensures) (sym (c .before .before .before .before .before .before .before .before .next-turn .ensures .0) ∙ c .before .before .before .before .before .before .t2 .given .1) _ (c .make .ensures .0) _ (c .before .before .before .before .before .before .before .before .before .before .before .before .loop .inv .2) (c .before .before .before .before .before .before .before .before .before .before .before .before .loop .inv .3) in (c .make .ensures .1, c .before .before .before .before .before .before .before .before .before .before .before .before .loop .inv .1, g .0, g .1, tried-as _ _ _ _ _ _ (sym (c .before .before .before .before .stride .ensures)) (c .make .ensures .2))
+loop-again c = let g = step-next _ _ _ (c .before .before .before .before .before .before .before .before .before .before .before .before .before .before .args .allowance) _ _ _ _ _ (c .before .before .before .before .stride .ensures) (sym (c .before .before .before .before .before .before .before .before .next-turn .ensures .0) ∙ c .before .before .before .before .before .before .t2 .given .1) _ (c .make-move .ensures .0) _ (c .before .before .before .before .before .before .before .before .before .before .before .before .loop .inv .2) (c .before .before .before .before .before .before .before .before .before .before .before .before .loop .inv .3) in (c .make-move .ensures .1, c .before .before .before .before .before .before .before .before .before .before .before .before .loop .inv .1, g .0, g .1, tried-as _ _ _ _ _ _ (sym (c .before .before .before .before .stride .ensures)) (c .make-move .ensures .2))
 
 -- src/rounds.rt:138:17
 enum-told-2 : tie.Need-enum-told-2 Inv-loop μ-loop
@@ -110,7 +110,7 @@ search-spec =
     returns-2
     enum-known-t-2
     stride-requires
-    make-requires
+    make-move-requires
     add-rounds
     loop-less
     loop-again

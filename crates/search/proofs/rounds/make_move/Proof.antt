@@ -4,10 +4,10 @@ use mathlib.Core.Path.{_≡_, refl, sym, ap, ap₂, _∙_}
 use Prim.Native.Nat.{ℕ, zero, suc, _+_, _*_, _-_, _/_, _%_, _^_, _≤_, _<_}
 use native.Mathlib.Omega.{arith}
 use borrow.Author.Needs.{needs}
-use Rattle.search.proofs.rounds.make.Statement.{statement}
-use Rattle.search.proofs.rounds.make.Tie as tie
-use Rattle.search.proofs.rounds.make.Reads as reads
-use Rattle.search.proofs.rounds.make.Lts as lts
+use Rattle.search.proofs.rounds.make_move.Statement.{statement}
+use Rattle.search.proofs.rounds.make_move.Tie as tie
+use Rattle.search.proofs.rounds.make_move.Reads as reads
+use Rattle.search.proofs.rounds.make_move.Lts as lts
 use Rattle.search.proofs.moves.moved.Reads as moved-reads
 use Rattle.search.proofs.moves.renumbered.Reads as renumbered-reads
 use Rattle.search.proofs.tried.forget.Reads as forget-reads
@@ -32,7 +32,7 @@ moved-requires c κs = may-move _ _ _ _ _ (c .before .before .before .before .be
 returns : tie.Need-returns
 returns c = (c .moved .ensures, held-moved _ _ _ _ _ _ _ (c .moved .ensures) (c .before .before .before .before .before .before .before .before .before .before .pre .0 .sound) (c .before .before .before .before .before .before .before .before .before .before .pre .1) ((c .before .before .before .before .before .before .renumbered .ensures .0, c .before .before .before .before .before .before .renumbered .ensures .1)), tried-moved _ _ _ _ _ _ _ _ _ (c .moved .ensures) (c .before .before .before .before .before .before .before .before .before .before .pre .0 .sound) (c .before .before .before .before .before .before .before .before .before .before .pre .1) (c .before .before .before .before .before .before .renumbered .ensures .2) (c .before .before .before .before .forget .ensures) (c .before .before .forget2 .ensures))
 
-pub make-spec : {M : Type 1} → statement M
-make-spec =
+pub make-move-spec : {M : Type 1} → statement M
+make-move-spec =
     tie.close
     (tie.spec renumbered-requires forget-requires forget-requires-2 moved-requires returns)
