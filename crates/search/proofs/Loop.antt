@@ -1,6 +1,6 @@
 -- A turn, and a search's loop, from what the code has in hand.
 use Prim.Native.Nat.{ℕ, suc, _+_, _*_, _-_, _%_, _^_, _≤_, _<_}
-use mathlib.Core.Path.{_≡_, ap, _∙_}
+use mathlib.Core.Path.{_≡_, sym, ap, _∙_}
 use mathlib.Core.Bool.{Bool}
 use mathlib.Core.List.{List}
 use native.Mathlib.Omega.{arith}
@@ -16,7 +16,10 @@ use Rattle.split.specs.declared.Turn.the-variants.{Rate, Refuse, Move}
 use Rattle.split.specs.declared.Found.{Found}
 use Rattle.split.specs.Tests.{Fit}
 use Rattle.split.specs.Steps.{sound-moved}
-use Rattle.split.specs.Turns.{turn-rate, turn-refuse, turn-on, moves, again-move}
+use Rattle.split.specs.Turns.{moves, again-move}
+use Rattle.turn.specs.declared.Before.{Before}
+use Rattle.turn.specs.declared.Before.the-variants.{Within, Spent, Open}
+use Rattle.turn.specs.Before.{beforeOf, doneBy, turn-before}
 use Rattle.rows.specs.Rows.{listed, Small}
 use Rattle.rows.specs.Carried.{Carried, Held}
 use Rattle.search.specs.Tried.{Tried, Forgot}
@@ -35,16 +38,21 @@ module _ (ch : List ℕ) (k limit allowance : ℕ) (a : List ℕ) (level rounds 
   is-spread : s ≡ spreadOf (numberAt ch a) k
   is-spread = e ∙ spread-same (listed v) (numberAt ch a) k (held .sound .stock .chosen .some) (held .carried .are)
 
-  pub code-rate : s ≤ limit → Rate s ≡ turnOf ch k limit allowance a level rounds
-  code-rate h = ap Rate is-spread ∙ turn-rate ch k limit allowance a level rounds (rw is-spread at h)
+  -- and of what is done before the round
+  module _ (b : Before) (f : b ≡ beforeOf s limit rounds allowance) where
+    done : doneBy (spreadOf (numberAt ch a) k) (goOn level (firstOf ch k a (2 ^ level))) b ≡ turnOf ch k limit allowance a level rounds
+    done = ap (doneBy _ _) (f ∙ ap (λ (x : ℕ). beforeOf x limit rounds allowance) is-spread) ∙ turn-before ch k limit allowance a level rounds
 
-  pub code-refuse : limit < s → rounds ≡ allowance → Refuse ≡ turnOf ch k limit allowance a level rounds
-  code-refuse h = turn-refuse ch k limit allowance a level rounds (rw is-spread at h)
+    pub code-rate : b ≡ Within → Rate s ≡ turnOf ch k limit allowance a level rounds
+    code-rate h = ap Rate is-spread ∙ sym (ap (doneBy _ _) h) ∙ done
 
-  pub code-on : (d m : ℕ) (r : Turn) → limit < s → (rounds ≡ allowance → ⊥) → d ≡ 2 ^ level → m ≡ firstOf ch k a d → r ≡ goOn level m → r ≡ turnOf ch k limit allowance a level rounds
-  code-on d m r h u p q z =
-      let w : r ≡ goOn level (firstOf ch k a (2 ^ level)) = cc in
-      w ∙ turn-on ch k limit allowance a level rounds (rw is-spread at h) u
+    pub code-refuse : b ≡ Spent → Refuse ≡ turnOf ch k limit allowance a level rounds
+    code-refuse h = sym (ap (doneBy _ _) h) ∙ done
+
+    pub code-on : b ≡ Open → (d m : ℕ) (r : Turn) → d ≡ 2 ^ level → m ≡ firstOf ch k a d → r ≡ goOn level m → r ≡ turnOf ch k limit allowance a level rounds
+    code-on h d m r p q z =
+        let w : r ≡ goOn level (firstOf ch k a (2 ^ level)) = cc in
+        w ∙ sym (ap (doneBy _ _) h) ∙ done
 
 -- a move, made
 pub held-moved : (ch : List ℕ) (k : ℕ) (a : List ℕ) (d m : ℕ) (b : List ℕ) (v : List ℤ) → b ≡ movedOf a m d → Sound ch k a → Fit ch k a d m → Carried ch k (movedOf a m d) v × Small v k → Held ch k b v
@@ -55,14 +63,21 @@ pub tried-moved : (ch : List ℕ) (k : ℕ) (a : List ℕ) (d m : ℕ) (b : List
 tried-moved ch k a d m b t u v e so fit kt fu fv = rw e (tried-after ch k a d m so fit t u v kt fu fv)
 
 -- the arm that moves
-module _ (ch : List ℕ) (k limit allowance : ℕ) (a : List ℕ) (level rounds m d : ℕ) (p : d ≡ 2 ^ level) (t : turnOf ch k limit allowance a level rounds ≡ Move m) where
-  pub fit-is : Fit ch k a d m
-  fit-is = rw p (moves ch k limit allowance a level rounds m t .fit)
+module _ (ch : List ℕ) (k limit allowance : ℕ) (a : List ℕ) (level rounds m : ℕ) (x : Turn) (u : x ≡ turnOf ch k limit allowance a level rounds) (w : x ≡ Move m) where
+  turn-is : turnOf ch k limit allowance a level rounds ≡ Move m
+  turn-is = sym u ∙ w
 
-  module _ (b : List ℕ) (e : b ≡ movedOf a m d) where
-    step-is : b ≡ stepOf a m level
-    step-is = e ∙ ap (movedOf a m) p
+  pub rounds-left : rounds ≤ allowance → rounds + 1 ≤ allowance
+  rounds-left h = let n = moves ch k limit allowance a level rounds m turn-is .unspent in omega arith
 
-    pub step-next : (S : Found) → rounds ≤ allowance → S ≡ runOf ch k limit allowance (suc (allowance - rounds + level)) a level rounds
-        → (rounds + 1 ≤ allowance) × (S ≡ runOf ch k limit allowance (suc (allowance - (rounds + 1) + level)) b level (rounds + 1))
-    step-next S h inv = again-move ch k limit allowance a level rounds S m b step-is h inv t
+  module _ (d : ℕ) (p : d ≡ 2 ^ level) where
+    pub fit-is : Fit ch k a d m
+    fit-is = rw p (moves ch k limit allowance a level rounds m turn-is .fit)
+
+    module _ (b : List ℕ) (e : b ≡ movedOf a m d) where
+      step-is : b ≡ stepOf a m level
+      step-is = e ∙ ap (movedOf a m) p
+
+      pub step-next : (S : Found) → rounds ≤ allowance → S ≡ runOf ch k limit allowance (suc (allowance - rounds + level)) a level rounds
+          → (rounds + 1 ≤ allowance) × (S ≡ runOf ch k limit allowance (suc (allowance - (rounds + 1) + level)) b level (rounds + 1))
+      step-next S h inv = again-move ch k limit allowance a level rounds S m b step-is h inv turn-is

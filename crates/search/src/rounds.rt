@@ -3,7 +3,7 @@ ghost use mathlib.Core.Path.{_≡_};
 ghost use Prim.Native.Nat.{_<_, _≤_, _^_};
 ghost use Rattle.split.specs.Move.{movedOf};
 ghost use Rattle.split.specs.Tests.{Fit};
-ghost use Rattle.split.specs.Search.{LEVEL, goOn, turnOf, searchOf};
+ghost use Rattle.split.specs.Search.{LEVEL, turnOf, searchOf};
 ghost use Rattle.rows.specs.Carried.{Held};
 ghost use Rattle.search.specs.Tried.{Tried};
 use super::moves::first_move;
@@ -15,6 +15,7 @@ use super::tried::none_known;
 use split::Found;
 use split::Search;
 use split::Turn;
+use turn::Before;
 
 const COMPONENTS: usize = 4;
 
@@ -22,8 +23,6 @@ const SYSTEMS: usize = 8;
 
 // A row of COMPONENTS cells for each of the SYSTEMS rows.
 const CELLS: usize = 32;
-
-const MOVES: usize = 256;
 
 // Room for a number for each cell less a stride, and for each cell and a stride more.
 const TRIES: usize = 64;
@@ -34,19 +33,6 @@ fn stride(level: usize) -> u32
     ensures { λ r. ⌜ r ≡ 2 ^ level ⌝ }
 {
     1 << level
-}
-
-// What is done where the first move that lowers the imbalance is m, MOVES where there is none.
-fn go_on(level: usize, m: usize) -> Turn
-    ensures { λ r. ⌜ r ≡ goOn level m ⌝ }
-{
-    if m < MOVES {
-        return Turn::Move(m);
-    }
-    if level == 0 {
-        return Turn::Refuse;
-    }
-    Turn::Halve
 }
 
 // What is done next, for a split with its partial numbers.
@@ -65,15 +51,15 @@ fn next_turn(
     ensures { λ r. ⌜ (r ≡ turnOf (now (ch .entry)) k limit allowance (now (a .entry)) level rounds) × Tried (now (ch .entry)) k (now (a .entry)) (2 ^ level) (now (tried .exit)) ⌝ }
 {
     let s = spread(v, k);
-    if s <= limit {
-        return Turn::Rate(s);
+    match turn::before_round(s, limit, rounds, allowance) {
+        Before::Within => Turn::Rate(s),
+        Before::Spent => Turn::Refuse,
+        Before::Open => {
+            let d = stride(level);
+            let m = first_move(ch, k, a, v, tried, d);
+            turn::go_on(level, m)
+        }
     }
-    if rounds == allowance {
-        return Turn::Refuse;
-    }
-    let d = stride(level);
-    let m = first_move(ch, k, a, v, tried, d);
-    go_on(level, m)
 }
 
 // Move m of the stride d made: the cells after it, with their partial numbers and what is still known of tries.

@@ -1,6 +1,7 @@
+-- `search::rounds::search` meets its contract. Assumes nothing.
 use Rattle.split.specs.Turns.{again-halve, run-rate, run-refuse, search-starts}
 use Rattle.search.proofs.Tries.{tried-as, none-is}
-use Rattle.search.proofs.Loop.{fit-is, step-next}
+use Rattle.search.proofs.Loop.{rounds-left, fit-is, step-next}
 use Rattle.search.specs.Tried.{Tried}
 use Rattle.rows.specs.Carried.{Held}
 use Rattle.split.specs.Search.{searchOf, runOf, turnOf}
@@ -10,12 +11,6 @@ use Prim.Native.Nat.{ℕ, zero, suc, _+_, _*_, _-_, _/_, _%_, _^_, _≤_, _<_}
 use native.Mathlib.Omega.{arith}
 use Rattle.search.proofs.rounds.search.Statement.{statement}
 use Rattle.search.proofs.rounds.search.Tie as tie
-use Rattle.search.proofs.rounds.search.Reads as reads
-use Rattle.search.proofs.rounds.search.Lts as lts
-use Rattle.search.proofs.rounds.make_move.Reads as make-move-reads
-use Rattle.search.proofs.rounds.next_turn.Reads as next-turn-reads
-use Rattle.search.proofs.rounds.stride.Reads as stride-reads
-use Rattle.search.proofs.tried.none_known.Reads as none-known-reads
 
 abbrev Inv-loop : tie.InvT-loop
 Inv-loop ch k limit first allowance a₀ v₀ tried₀ level₀ rounds₀ a v tried level rounds = Held ch k a v × (level ≤ 16) × (rounds ≤ allowance) × (searchOf ch k limit first allowance a₀ ≡ runOf ch k limit allowance (suc (allowance - rounds + level)) a level rounds) × Tried ch k a (2 ^ level) tried
@@ -23,75 +18,72 @@ Inv-loop ch k limit first allowance a₀ v₀ tried₀ level₀ rounds₀ a v tr
 abbrev μ-loop : tie.MeasureT-loop
 μ-loop ch k limit first allowance a₀ v₀ tried₀ level₀ rounds₀ a v tried level rounds = allowance - rounds + level
 
--- src/rounds.rt:114:21
 none-known-requires : tie.Need-none-known-requires Inv-loop μ-loop
 none-known-requires c κs = search needs
 
--- src/rounds.rt:117:5
 loop-holds : tie.Need-loop-holds Inv-loop μ-loop
 loop-holds c = (c .before .pre .0, c .before .pre .1, omega arith, search-starts _ _ _ _ _ _, none-is _ _ _ _ _ (c .none-known .ensures))
 
--- src/rounds.rt:118:13
 next-turn-requires : tie.Need-next-turn-requires Inv-loop μ-loop
 next-turn-requires c κs = (c .before .before .before .loop .inv .0, c .before .before .before .loop .inv .1, c .before .before .before .loop .inv .4)
 
--- src/rounds.rt:120:24
 enum-known-t : tie.Need-enum-known-t Inv-loop μ-loop
 enum-known-t c = search needs
 
--- src/rounds.rt:121:17
 returns : tie.Need-returns Inv-loop μ-loop
 returns c = sym (c .before .before .before .before .before .before .before .loop .inv .3 ∙ run-rate _ _ _ _ _ _ _ _ _ (sym (c .before .before .before .next-turn .ensures .0) ∙ c .before .t .given .1))
 
--- src/rounds.rt:128:28
 enum-told : tie.Need-enum-told Inv-loop μ-loop
 enum-told c = search needs
 
--- src/rounds.rt:127:17
 returns-2 : tie.Need-returns-2 Inv-loop μ-loop
 returns-2 c = sym (c .before .before .before .before .before .before .loop .inv .3 ∙ run-refuse _ _ _ _ _ _ _ _ (sym (c .before .before .next-turn .ensures .0) ∙ c .enum-told .given .1))
 
--- src/rounds.rt:132:24
 enum-known-t-2 : tie.Need-enum-known-t-2 Inv-loop μ-loop
 enum-known-t-2 c = search needs
 
--- src/rounds.rt:133:21
 stride-requires : tie.Need-stride-requires Inv-loop μ-loop
 stride-requires c κs = search needs
 
--- src/rounds.rt:134:17
 make-move-requires : tie.Need-make-move-requires Inv-loop μ-loop
-make-move-requires c κs = (c .before .before .before .before .before .before .before .before .before .before .before .loop .inv .0, fit-is _ _ _ _ _ _ _ _ _ (c .before .before .before .stride .ensures) (sym (c .before .before .before .before .before .before .before .next-turn .ensures .0) ∙ c .before .before .before .before .before .t2 .given .1), tried-as _ _ _ _ _ _ (c .before .before .before .stride .ensures) (c .before .before .before .before .before .before .before .next-turn .ensures .1))
+make-move-requires c κs =
+    let d = c .before .before .before in
+    let n = d .before .before .before .before in
+    (n .before .before .before .before .loop .inv .0, fit-is _ _ _ _ _ _ _ _ _ (n .next-turn .ensures .0) (d .before .before .t2 .given .1) _ (d .stride .ensures), tried-as _ _ _ _ _ _ (d .stride .ensures) (n .next-turn .ensures .1))
 
--- src/rounds.rt:135:17
 add-rounds : tie.Need-add-rounds Inv-loop μ-loop
-add-rounds c = omega (arith, step-next _ _ _ (c .before .before .before .before .before .before .before .before .before .before .before .before .before .before .args .allowance) _ _ _ _ _ (c .before .before .before .before .stride .ensures) (sym (c .before .before .before .before .before .before .before .before .next-turn .ensures .0) ∙ c .before .before .before .before .before .before .t2 .given .1) _ (c .make-move .ensures .0) _ (c .before .before .before .before .before .before .before .before .before .before .before .before .loop .inv .2) (c .before .before .before .before .before .before .before .before .before .before .before .before .loop .inv .3) .0, c .before .before .before .before .before .before .before .before .before .before .before .before .before .before .fits .allowance)
+add-rounds c =
+    let d = c .before .before .before .before in
+    let n = d .before .before .before .before in
+    let l = n .before .before .before .before in
+    omega (arith, rounds-left _ _ _ _ _ _ _ _ _ (n .next-turn .ensures .0) (d .before .before .t2 .given .1) (l .loop .inv .2), l .before .before .fits .allowance)
 
--- src/rounds.rt:117:5
 loop-less : tie.Need-loop-less Inv-loop μ-loop
-loop-less c = omega (arith, step-next _ _ _ (c .before .before .before .before .before .before .before .before .before .before .before .before .before .before .args .allowance) _ _ _ _ _ (c .before .before .before .before .stride .ensures) (sym (c .before .before .before .before .before .before .before .before .next-turn .ensures .0) ∙ c .before .before .before .before .before .before .t2 .given .1) _ (c .make-move .ensures .0) _ (c .before .before .before .before .before .before .before .before .before .before .before .before .loop .inv .2) (c .before .before .before .before .before .before .before .before .before .before .before .before .loop .inv .3) .0)
+loop-less c =
+    let d = c .before .before .before .before in
+    let n = d .before .before .before .before in
+    omega (arith, rounds-left _ _ _ _ _ _ _ _ _ (n .next-turn .ensures .0) (d .before .before .t2 .given .1) (n .before .before .before .before .loop .inv .2))
 
--- src/rounds.rt:117:5
 loop-again : tie.Need-loop-again Inv-loop μ-loop
-loop-again c = let g = step-next _ _ _ (c .before .before .before .before .before .before .before .before .before .before .before .before .before .before .args .allowance) _ _ _ _ _ (c .before .before .before .before .stride .ensures) (sym (c .before .before .before .before .before .before .before .before .next-turn .ensures .0) ∙ c .before .before .before .before .before .before .t2 .given .1) _ (c .make-move .ensures .0) _ (c .before .before .before .before .before .before .before .before .before .before .before .before .loop .inv .2) (c .before .before .before .before .before .before .before .before .before .before .before .before .loop .inv .3) in (c .make-move .ensures .1, c .before .before .before .before .before .before .before .before .before .before .before .before .loop .inv .1, g .0, g .1, tried-as _ _ _ _ _ _ (sym (c .before .before .before .before .stride .ensures)) (c .make-move .ensures .2))
+loop-again c =
+    let d = c .before .before .before .before in
+    let n = d .before .before .before .before in
+    let l = n .before .before .before .before in
+    let g = step-next _ _ _ _ _ _ _ _ _ (n .next-turn .ensures .0) (d .before .before .t2 .given .1) _ (d .stride .ensures) _ (c .make-move .ensures .0) _ (l .loop .inv .2) (l .loop .inv .3) in
+    (c .make-move .ensures .1, l .loop .inv .1, g .0, g .1, tried-as _ _ _ _ _ _ (sym (d .stride .ensures)) (c .make-move .ensures .2))
 
--- src/rounds.rt:138:17
 enum-told-2 : tie.Need-enum-told-2 Inv-loop μ-loop
 enum-told-2 c = search needs
 
--- src/rounds.rt:138:17
 sub-level : tie.Need-sub-level Inv-loop μ-loop
 sub-level c = omega (arith, (again-halve _ _ _ _ _ _ _ _ (c .before .before .before .before .before .before .loop .inv .3) (sym (c .before .before .next-turn .ensures .0) ∙ c .enum-told2 .given .1)) .0)
 
--- src/rounds.rt:139:25
 none-known-requires-2 : tie.Need-none-known-requires-2 Inv-loop μ-loop
 none-known-requires-2 c κs = search needs
 
--- src/rounds.rt:117:5
 loop-less-2 : tie.Need-loop-less-2 Inv-loop μ-loop
 loop-less-2 c = omega (arith, (again-halve _ _ _ _ _ _ _ _ (c .before .before .before .before .before .before .before .loop .inv .3) (sym (c .before .before .before .next-turn .ensures .0) ∙ c .before .enum-told2 .given .1)) .0)
 
--- src/rounds.rt:117:5
 loop-again-2 : tie.Need-loop-again-2 Inv-loop μ-loop
 loop-again-2 c = let g = again-halve _ _ _ _ _ _ _ _ (c .before .before .before .before .before .before .before .loop .inv .3) (sym (c .before .before .before .next-turn .ensures .0) ∙ c .before .enum-told2 .given .1) in (c .before .before .before .before .before .before .before .loop .inv .0, omega (arith, c .before .before .before .before .before .before .before .loop .inv .1), c .before .before .before .before .before .before .before .loop .inv .2, g .1, none-is _ _ _ _ _ (c .none-known2 .ensures))
 

@@ -1,0 +1,41 @@
+// What the search does before a round, and once it has looked for a move. No public function has a `requires`.
+ghost use mathlib.Core.Path.{_≡_};
+ghost use Rattle.split.specs.Search.{goOn};
+ghost use Rattle.turn.specs.Before.{beforeOf};
+use split::Turn;
+
+// The numbers of the moves are below this one.
+const MOVES: usize = 256;
+
+// Before a round: the spread is within the limit, the allowance is spent, or the search goes on.
+pub enum Before {
+    Within,
+    Spent,
+    Open,
+}
+
+// Before a round: the spread is looked at first, then the rounds.
+pub fn before_round(spread: u64, limit: u64, rounds: u32, allowance: u32) -> Before
+    ensures { λ r. ⌜ r ≡ beforeOf spread limit rounds allowance ⌝ }
+{
+    if spread <= limit {
+        return Before::Within;
+    }
+    if rounds == allowance {
+        return Before::Spent;
+    }
+    Before::Open
+}
+
+// What is done where the first move that lowers the imbalance is m, MOVES where there is none.
+pub fn go_on(level: usize, m: usize) -> Turn
+    ensures { λ r. ⌜ r ≡ goOn level m ⌝ }
+{
+    if m < MOVES {
+        return Turn::Move(m);
+    }
+    if level == 0 {
+        return Turn::Refuse;
+    }
+    Turn::Halve
+}
