@@ -1,12 +1,11 @@
 -- How far a whole number is from a fraction, under sums, multiples and one division. Assumes nothing.
-use mathlib.Core.Path.{_≡_, refl, sym, _∙_, ap, ap₂, subst}
-use Prim.Native.Nat.{ℕ, zero, suc, _+_, _*_, _-_, _<_, _≤_}
+use mathlib.Core.Path.{_≡_, _∙_, ap}
+use Prim.Native.Nat.{ℕ, suc, _+_, _*_, _<_, _≤_}
 use native.Mathlib.Nat as N
-use native.Mathlib.Omega.{arith}
-use lib.IntN.{ℤ, pos, negsuc, negℤ, natAbs, _+ℤ_, _-ℤ_, _*ℤ_, +ℤ-invr, *ℤ-one, one}
+use lib.IntN.{ℤ, pos, _+ℤ_, _-ℤ_, _*ℤ_, +ℤ-invr, *ℤ-one, one}
 use lib.Signed.{quotZ, remZ}
 use Rattle.integer.specs.Ring.{ring, natAbs-*, natAbs-+, natAbs--, quot-is, rem-lt}
-use Rattle.integer.specs.Fraction.{Fraction, whole, plus, times, over, Within, Close}
+use Rattle.integer.specs.Fraction.{Fraction, ratio, whole, plus, times, over, Within, Close}
 
 pub close : {w : ℤ} {f : Fraction} {u : ℕ} → Within w f u → Close w f u
 close h = record { positive = h .positive; near = N.le-of-lt (h .near) }
@@ -14,15 +13,22 @@ close h = record { positive = h .positive; near = N.le-of-lt (h .near) }
 pub looser : {w : ℤ} {f : Fraction} {u v : ℕ} → Within w f u → u ≤ v → Within w f v
 looser {w} {f} {u} {v} h k = record { positive = h .positive; near = N.lt-of-lt-of-le (h .near) (N.mul-le-mul-right (f .den) k) }
 
+pub close-looser : {w : ℤ} {f : Fraction} {u v : ℕ} → Close w f u → u ≤ v → Close w f v
+close-looser {w} {f} {u} {v} h k = record { positive = h .positive; near = N.le-trans (h .near) (N.mul-le-mul-right (f .den) k) }
+
+-- a whole number is no distance from itself, over 1 or over any K
 pub close-whole : (z : ℤ) → Close z (whole z) 0
 unfolding one
 close-whole z = record { positive = N.le-refl 1; near = rw (*ℤ-one z, +ℤ-invr z) (N.le-refl 0) }
+
+pub close-over : (z : ℤ) (K : ℕ) → 0 < K → Close z (ratio (z *ℤ pos K) K) 0
+close-over z K p = record { positive = p; near = rw (+ℤ-invr (z *ℤ pos K), N.zero-mul K) (N.le-refl 0) }
 
 -- the fraction's terms multiplied by a positive number: the same distance
 scaled : (w e K p : ℤ) → w *ℤ (K *ℤ p) -ℤ e *ℤ p ≡ (w *ℤ K -ℤ e) *ℤ p
 scaled w e K p = simp ring
 
-pub within-scaled : {w : ℤ} {f : Fraction} {u : ℕ} (p : ℕ) → 0 < p → Within w f u → Within w (record { num = f .num *ℤ pos p; den = f .den * p }) u
+pub within-scaled : {w : ℤ} {f : Fraction} {u : ℕ} (p : ℕ) → 0 < p → Within w f u → Within w (ratio (f .num *ℤ pos p) (f .den * p)) u
 within-scaled {w} {f} {u} p p>0 h = record {
   positive = N.mul-pos (h .positive) p>0;
   near =
@@ -56,6 +62,19 @@ within-plus {w} {w′} {f} {g} {u} {u′} h h′ = record {
       (N.lt-of-le-of-lt (natAbs-+ ((w *ℤ pos (f .den) -ℤ f .num) *ℤ pos (g .den)) ((w′ *ℤ pos (g .den) -ℤ g .num) *ℤ pos (f .den)))
       (rw (natAbs-* (w *ℤ pos (f .den) -ℤ f .num) (pos (g .den)), natAbs-* (w′ *ℤ pos (g .den) -ℤ g .num) (pos (f .den)))
       (N.add-lt-add-of-lt-of-le (N.mul-lt-mul-of-pos-right (h .near) (h′ .positive)) (N.mul-le-mul-right (f .den) (h′ .near)))));
+}
+
+-- over one denominator
+
+together : (w w′ e e′ K : ℤ) → (w +ℤ w′) *ℤ K -ℤ (e +ℤ e′) ≡ (w *ℤ K -ℤ e) +ℤ (w′ *ℤ K -ℤ e′)
+together w w′ e e′ K = simp ring
+
+pub within-same : {w w′ e e′ : ℤ} {K u u′ : ℕ} → Within w (ratio e K) u → Close w′ (ratio e′ K) u′ → Within (w +ℤ w′) (ratio (e +ℤ e′) K) (u + u′)
+within-same {w} {w′} {e} {e′} {K} {u} {u′} h h′ = record {
+  positive = h .positive;
+  near =
+      rw (together w w′ e e′ (pos K), N.add-mul u u′ K)
+      (N.lt-of-le-of-lt (natAbs-+ (w *ℤ pos K -ℤ e) (w′ *ℤ pos K -ℤ e′)) (N.add-lt-add-of-lt-of-le (h .near) (h′ .near)));
 }
 
 -- ---- a multiple

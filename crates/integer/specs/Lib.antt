@@ -1,4 +1,6 @@
+pub mod Tests
 pub mod Ring
+pub mod Bits
 pub mod Order
 pub mod Normal
 pub mod Floor

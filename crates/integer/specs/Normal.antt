@@ -6,6 +6,7 @@ use Prim.Native.Nat.{ℕ, zero, suc}
 use lib.Dec.{T, ltb, leb, eqb, eqb→eq}
 use lib.ListN.{getD}
 use lib.IntN.{ℤ, pos, negsuc, negℤ, _+ℤ_, _-ℤ_, _*ℤ_, +ℤ-idl, +ℤ-idr, +ℤ-assoc, zero-*ℤ, *ℤ-one, *ℤ-comm, one}
+use Rattle.integer.specs.Tests.{both, both-left, both-right, at-cond}
 use Rattle.integer.specs.Ring.{ring, distr, neg-*, *ℤ-assoc}
 
 -- an expression over numbered variables
@@ -22,18 +23,6 @@ pub data E : Type 0 where
 pub data P : Type 0 where
   none : P
   term : ℤ → List ℕ → P → P
-
-abbrev both : Bool → Bool → Bool
-both true b = b
-both false b = false
-
-both-left : (a b : Bool) → T (both a b) → T a
-both-left true b t = tt
-both-left false b t = t
-
-both-right : (a b : Bool) → T (both a b) → T b
-both-right true b t = t
-both-right false b t = absurd t
 
 abbrev same : List ℕ → List ℕ → Bool
 same [] [] = true
@@ -86,10 +75,6 @@ norm (a ⊗ b) = prod (norm a) (norm b)
 norm (⊖ a) = scale (negsuc 0) [] (norm a)
 
 -- ---- what they mean
-
-at-cond {ℓ} : {A : Type ℓ} (c : Bool) (x y : A) (Q : A → Type 0) → (T c → Q x) → (T (not c) → Q y) → Q (cond c x y)
-at-cond true x y Q f g = f tt
-at-cond false x y Q f g = g tt
 
 same-eq : (l m : List ℕ) → T (same l m) → l ≡ m
 same-eq [] [] t = refl

@@ -14,16 +14,13 @@ use borrow.Author.Tests.{lt-ltb, le-ltb}
 use mir.Syntax.{w64}
 use mir.Val.{toZ, ofZ}
 use mir.ValLaws.{toZ-ofZ}
+use Rattle.integer.specs.Bits.{read-back}
 use Rattle.integer.specs.Ring.{natAbs-+, natAbs-*}
 use Rattle.split.specs.Fold.{sumTo, sumToZ}
 use Rattle.split.specs.Rating.{spreadOf, inertNumber}
 use Rattle.split.specs.declared.Answer.the-variants.{Rated, Refused}
 use Rattle.rows.specs.Rows.{listed}
 use Rattle.proposal.specs.Weighing.{Weighable, weighedTo, ratedBy}
-
--- a signed result, read back from its bits
-pub read-back : (z : ℤ) → mag z < 2 ^ 63 → toZ w64 (ofZ w64 z) ≡ z
-read-back z h = toZ-ofZ w64 z (record { sfits = h })
 
 -- the sum of the rows before s
 pub record WeighedTo (v : List ℤ) (p : List ℕ) (k s : ℕ) (sum : ℤ) : Type 0 where

@@ -14,10 +14,8 @@ use Rattle.ternary.specs.declared.Partial.{Partial}
 use Rattle.ternary.specs.declared.Partial.the-variants.{Number, Refused}
 use Rattle.split.specs.Rating.{inertNumber}
 use Rattle.split.specs.Size.{inert-small}
-use Rattle.integer.specs.Ring.{mag-le, natAbs-*, natAbs-+, natAbs--, natAbs-quot}
-
-sfits-small : (z : ℤ) → natAbs z ≤ 9000000000000000000 → SFits w64 z
-sfits-small z h = record { sfits = N.lt-of-le-of-lt (N.le-trans (mag-le z) h) (lit< tt) }
+use Rattle.integer.specs.Bits.{sfits-small}
+use Rattle.integer.specs.Ring.{natAbs-*, natAbs-+, natAbs--, natAbs-quot}
 
 -- ---- one more partial number, times its parts
 

@@ -48,7 +48,7 @@ use Rattle.rating.specs.Given.{FoundFit}
 use Rattle.rating.specs.Ready.{chosen, room, million, inert-million, shared, input}
 use Rattle.rating.specs.Sheets.{RatedOr, split-ends, search-ends}
 use Rattle.rating.specs.declared.Outcome.{Outcome}
-use Rattle.rating.proofs.AnswerCases.{read-back}
+use Rattle.integer.specs.Bits.{read-back}
 
 differ : (b : Bool) → b ≡ true → b ≡ false → ⊥
 differ b p q = let z : _≡_ {A = ℕ} 0 1 = cc in omega arith

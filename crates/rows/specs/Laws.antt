@@ -9,7 +9,7 @@ use native.Mathlib.Numerals.{add-one}
 use mir.Syntax.{w64}
 use mir.Val.{toZ, ofZ}
 use lib.Dec.{ltb, leb, lit≤}
-use Rattle.rows.specs.Machine.{back}
+use Rattle.integer.specs.Bits.{back}
 use lib.IntN.{ℤ, pos}
 use lib.ListN.{length, getD, set, length-set, replicate, length-replicate, getD-replicate}
 use lib.Seq.{getD-set-same, getD-set-other, ext-getD}

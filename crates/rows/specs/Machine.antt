@@ -11,16 +11,11 @@ use lib.Signed.{quotZ, ltZ, nonNeg}
 use mir.Syntax.{w64}
 use mir.Val.{SFits, Fits, toZ, ofZ}
 use mir.ValLaws.{toZ-ofZ}
-use Rattle.integer.specs.Ring.{mag-le, natAbs--, natAbs-quot}
+use Rattle.integer.specs.Bits.{sfits-small, back}
+use Rattle.integer.specs.Ring.{natAbs--, natAbs-quot}
 use mathlib.Core.List.{List}
 use Rattle.split.specs.Move.{squareOf}
 use Rattle.rows.specs.Rows.{listed, Small}
-
-pub sfits-small : (z : ℤ) → natAbs z ≤ 2000000000000000000 → SFits w64 z
-sfits-small z h = record { sfits = N.lt-of-le-of-lt (N.le-trans (mag-le z) h) (lit< tt) }
-
-pub back : (z : ℤ) → natAbs z ≤ 2000000000000000000 → toZ w64 (ofZ w64 z) ≡ z
-back z h = toZ-ofZ w64 z (sfits-small z h)
 
 minus : (z : ℤ) → ltZ z (pos 0) ≡ true → pos 0 -ℤ z ≡ pos (natAbs z)
 minus (pos n) e = absurd (clash e)

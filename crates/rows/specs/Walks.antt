@@ -18,7 +18,8 @@ use Rattle.split.specs.Fold.{greatestTo, leastTo}
 use Rattle.split.specs.Rating.{spreadOf}
 use Rattle.split.specs.Spread.{at-most, at-least, greatest-in, least-in}
 use Rattle.rows.specs.Rows.{listed, LARGEST, Small}
-use Rattle.rows.specs.Machine.{back, sfits-small, at-back}
+use Rattle.integer.specs.Bits.{sfits-small, back}
+use Rattle.rows.specs.Machine.{at-back}
 
 -- the least and the greatest so far
 module _ (v : List ℤ) (k : ℕ) (sm : Small v k) where

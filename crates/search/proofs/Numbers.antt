@@ -12,7 +12,7 @@ use Rattle.ternary.specs.declared.Partial.{Partial}
 use Rattle.ternary.specs.declared.Partial.the-variants.{Number, Refused}
 use Rattle.systems.specs.Systems.{Candidate}
 use Rattle.systems.specs.Table.{each-candidate, to-true}
-use Rattle.rows.specs.Machine.{back}
+use Rattle.integer.specs.Bits.{back}
 
 known-system : (system : ℕ) → Candidate system → isSystem system ≡ true
 unfolding isIn

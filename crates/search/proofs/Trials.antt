@@ -24,7 +24,7 @@ use Rattle.split.specs.Tests.{Fit}
 use Rattle.split.specs.Steps.{insteadOf, numberWith, Changed, instead-is, number-with, bt, sound-moved, rest-same, giver-changed, taker-changed}
 use Rattle.rows.specs.Rows.{listed, Small}
 use Rattle.rows.specs.Carried.{Carried, Workable}
-use Rattle.rows.specs.Machine.{back}
+use Rattle.integer.specs.Bits.{back}
 
 -- the imbalance and the spread depend on the k numbers alone
 pub imbalance-same : (u v : ℕ → ℤ) (k : ℕ) → ((i : ℕ) → i < k → u i ≡ v i) → imbalanceOf u k ≡ imbalanceOf v k

@@ -22,7 +22,8 @@ use Rattle.split.specs.Steps.{numberWith, bt, component-low, may-move}
 use Rattle.rows.specs.Rows.{listed, LARGEST}
 use Rattle.rows.specs.Carried.{Workable}
 use Rattle.search.specs.Tried.{TRIES, UNKNOWN, rowOf, columnIn, triedOf, wantedOf, Tried, Triable, Forgot}
-use Rattle.rows.specs.Machine.{back, pass}
+use Rattle.integer.specs.Bits.{back}
+use Rattle.rows.specs.Machine.{pass}
 use Rattle.search.proofs.Trials.{giver-workable, taker-workable}
 
 -- the amount that a try leads to

@@ -7,7 +7,7 @@ use native.Mathlib.Nat as N
 use native.Mathlib.Omega.{arith}
 use lib.IntN.{ℤ, pos, negsuc}
 use Rattle.integer.specs.Fraction.{Fraction, whole, plus, times, over, Within, Close}
-use Rattle.integer.specs.Distance.{close, looser, close-whole, close-plus, close-times, within-plus, within-over}
+use Rattle.integer.specs.Distance.{close, looser, close-looser, close-whole, close-plus, close-times, within-plus, within-over}
 use Rattle.ternary.specs.Partial.{exactNumber, partial-within}
 use Rattle.split.specs.Fold.{sumTo, sumToZ}
 use Rattle.split.specs.Split.{systemOf, amountOf, partsOf, numberAt}
@@ -47,10 +47,6 @@ sum-close ch zero a h = close-whole (pos 0)
 sum-close ch (suc k) a h =
     rw (N.mul-add 19 (sumTo (partsOf ch a) k) (partsOf ch a k))
     (close-plus (sum-close ch k a (λ s l. h s (omega arith))) (close-times (partsOf ch a k) (close (number-within ch a k (h k (omega arith))))))
-
--- at most u units is at most v, where u is at most v
-close-looser : {w : ℤ} {f : Fraction} {u v : ℕ} → Close w f u → u ≤ v → Close w f v
-close-looser {w} {f} {u} {v} h l = record { positive = h .positive; near = N.le-trans (h .near) (N.mul-le-mul-right (f .den) l) }
 
 pub mean-within : (ch : List ℕ) (k : ℕ) (a : List ℕ) → NoneEmpty ch k a → sumTo (partsOf ch a) k ≤ 1000000 → Within (meanOf ch k a) (exactMean ch k a) 20
 unfolding meanOf exactMean

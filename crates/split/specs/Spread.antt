@@ -11,6 +11,7 @@ use lib.Dec.{T, ltb, leb→le, le→leb, ltb→lt}
 use borrow.Author.Tests.{ltb-true, ltb-false}
 use lib.IntN.{ℤ, pos, negsuc, negℤ, natAbs, _+ℤ_, _-ℤ_, +ℤ-invr}
 use lib.Signed.{ltZ, leZ, _≤ℤ_, ltZ-no, leZ-yes, ≤ℤ-refl}
+use Rattle.integer.specs.Tests.{at-cond}
 use Rattle.integer.specs.Ring.{ring, natAbs-neg}
 use Rattle.integer.specs.Order.{≤ℤ-diff, ≤ℤ-more, ≤ℤ-trans, natAbs-upper}
 use Rattle.integer.specs.Normal.{E, X, _⊕_, ⊖, solve, env}
@@ -26,10 +27,6 @@ abbrev pub EveryTwo : ℕ → (ℕ → ℤ) → ℕ → Type 0
 EveryTwo limit v k = (i j : ℕ) → i < k → j < k → natAbs (v i -ℤ v j) ≤ limit
 
 -- ---- the greatest and the least are among the numbers, and bound them
-
-at-cond : (c : Bool) (x y : ℤ) (Q : ℤ → Type 0) → (T c → Q x) → (T (not c) → Q y) → Q (cond c x y)
-at-cond true x y Q f g = f tt
-at-cond false x y Q f g = g tt
 
 lt-le : (a b : ℤ) → T (ltZ a b) → a ≤ℤ b
 lt-le (pos a) (pos b) t = leZ-yes (le→leb a b (N.le-of-lt (ltb→lt a b t)))

@@ -6,17 +6,8 @@ use lib.Signed.{mag}
 use mir.Syntax.{w64}
 use mir.Val.{SFits, toZ, ofZ}
 use mir.ValLaws.{toZ-ofZ}
+use Rattle.integer.specs.Bits.{read-back}
 use Rattle.ternary.specs.WorkingRule.{stepZ}
-
-pub read-back : (z : ℤ) → mag z < 2 ^ 63 → toZ w64 (ofZ w64 z) ≡ z
-read-back z h = toZ-ofZ w64 z (record { sfits = h })
-
-pub arg-back : (z : ℤ) → SFits w64 z → toZ w64 (ofZ w64 z) ≡ z
-arg-back z f = toZ-ofZ w64 z f
-
--- a result x that the code found to be 0
-pub zero-back : (z x : ℤ) → mag z < 2 ^ 63 → z ≡ x → ofZ w64 z ≡ 0 → x ≡ pos 0
-zero-back z x h e t = sym e ∙ sym (read-back z h) ∙ ap (toZ w64) t
 
 -- a call's result that its contract says to be x
 pub result-back : {z x : ℤ} → mag z < 2 ^ 63 → z ≡ x → toZ w64 (ofZ w64 z) ≡ x

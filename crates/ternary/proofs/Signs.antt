@@ -10,13 +10,9 @@ use lib.Signed.{quotZ, ltZ, nonNeg, mag}
 use mir.Syntax.{w64}
 use mir.Val.{Fits, SFits, toZ, ofZ}
 use mir.ValLaws.{toZ-ofZ, toZ-pos}
-use Rattle.integer.specs.Ring.{mag-le, natAbs-+, natAbs--, natAbs-neg}
+use Rattle.integer.specs.Bits.{sfits-small}
+use Rattle.integer.specs.Ring.{natAbs-+, natAbs--, natAbs-neg}
 use Rattle.ternary.specs.WorkingRule.{stepZ}
-
--- ---- sizes in 64 bits
-
-sfits-small : (z : ℤ) → natAbs z ≤ 2000000000000000000 → SFits w64 z
-sfits-small z h = record { sfits = N.lt-of-le-of-lt (N.le-trans (mag-le z) h) (lit< tt) }
 
 -- ---- over whole numbers
 

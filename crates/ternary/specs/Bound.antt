@@ -7,21 +7,10 @@ use native.Mathlib.Nat as N
 use lib.Dec.{T, leb, leb→le}
 use lib.ListN.{getD}
 use lib.IntN.{ℤ, pos, natAbs}
+use Rattle.integer.specs.Tests.{both, both-left, both-right}
 use Rattle.ternary.specs.Size.{horner-le, worked-is, inner-le}
 use Rattle.ternary.specs.WorkingRule.{coefs, sumAbs, worked, rowsOf, innerOf}
 use Rattle.ternary.specs.Coefficients.{tables, coeff}
-
-abbrev both : Bool → Bool → Bool
-both true b = b
-both false b = false
-
-both-left : (a b : Bool) → T (both a b) → T a
-both-left true b t = tt
-both-left false b t = t
-
-both-right : (a b : Bool) → T (both a b) → T b
-both-right true b t = t
-both-right false b t = absurd t
 
 size : List ℤ → ℕ
 size t = sumAbs (coefs (λ (i : ℕ). getD t i (pos 0)) 0 20)

@@ -1,4 +1,5 @@
-// The coefficients of the five systems, in units (001 Table 5): row k has those of n1^k, by powers of n2.
+// The coefficients of the five systems, in units (001 Table 5; a(2,2) of system 20 as 000 has it): row k has those of n1^k,
+// by powers of n2.
 ghost use mathlib.Core.Path.{_≡_};
 ghost use mathlib.Core.Bool.{true};
 ghost use Rattle.ternary.specs.Answer.{isSystem, tableOf};
@@ -118,7 +119,7 @@ const SYSTEM_20: [i64; 20] = [
     -61439140000,
 ];
 
-// Whether there is a system of that number.
+// Whether there is a system of that number. 8 has an arm of its own: beside 7 it would be a range.
 pub(crate) fn is_system(system: u32) -> bool
     ensures { λ r. ⌜ r ≡ isSystem system ⌝ }
 {

@@ -8,6 +8,17 @@ ghost use lib.Signed.{nonNeg};
 ghost use Rattle.ternary.specs.WorkingRule.{stepZ};
 ghost use Rattle.ternary.specs.Precomputed.{Precomputed};
 
+// 1 / d is counted in 2^63ths.
+pub(crate) const ONE: u64 = 9223372036854775808;
+
+// Of n / d so counted, 20 digits are dropped: 2^43ths are left.
+const DROPPED: u64 = 1048576;
+
+// The low 22 digits of these, and the other 21.
+const LOW: u64 = 4194304;
+
+const HIGH: u64 = 2097152;
+
 // A ratio n / d, at most 1, and its binary digits: nearly 2^43 * n / d, as `high` times 2^22 and `low`.
 pub(crate) struct Ratio {
     pub n: u64,
@@ -16,17 +27,17 @@ pub(crate) struct Ratio {
     pub low: u64,
 }
 
-// The ratio n / d. 2^63 / d is the one division of a partial number.
-pub(crate) fn ratio_of(n: u32, d: u64) -> Ratio
-    requires { ⌜ (n ≤ d) × (0 < d) × (d ≤ 1000000) ⌝ }
+// The ratio n / d, by the inverse of d.
+pub(crate) fn ratio_of(n: u32, d: u64, inverse: u64) -> Ratio
+    requires { ⌜ (n ≤ d) × (0 < d) × (d ≤ 1000000) × (inverse ≡ 9223372036854775808 / d) ⌝ }
     ensures { λ r. ⌜ (r .n ≡ n) × (r .d ≡ d) × Precomputed (r .n) (r .d) (r .high) (r .low) ⌝ }
 {
-    let scaled = n as u64 * (9223372036854775808 / d) / 1048576;
+    let scaled = n as u64 * inverse / DROPPED;
     Ratio {
         n: n as u64,
         d: d,
-        high: scaled / 4194304,
-        low: scaled % 4194304,
+        high: scaled / LOW,
+        low: scaled % LOW,
     }
 }
 
@@ -51,7 +62,7 @@ fn share(a: i64, w: Ratio) -> i64
 {
     let x = a as u64;
     let d = w.d;
-    let q = (x * w.high + x * w.low / 4194304) / 2097152;
+    let q = (x * w.high + x * w.low / LOW) / HIGH;
     let rest = x * w.n - q * d;
     if rest < d { q as i64 } else { (q + 1) as i64 }
 }

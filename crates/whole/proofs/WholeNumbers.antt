@@ -13,7 +13,8 @@ use borrow.Author.Tests.{ltb-true, ltb-false}
 use mir.Syntax.{w64}
 use mir.Val.{SFits, toZ, ofZ}
 use mir.ValLaws.{toZ-ofZ}
-use Rattle.integer.specs.Ring.{ring, mag-le, natAbs-+, natAbs--, natAbs-quot, quot-rem, rem-lt}
+use Rattle.integer.specs.Bits.{sfits-small}
+use Rattle.integer.specs.Ring.{ring, natAbs-+, natAbs--, natAbs-quot, quot-rem, rem-lt}
 use Rattle.integer.specs.Order.{sub-ge, sub-lt}
 use Rattle.integer.specs.Normal.{E, X, K, _⊕_, _⊗_, ⊖, solve, env}
 use Rattle.integer.specs.Floor.{floor-unique, neg-split}
@@ -65,14 +66,11 @@ module _ (z : ℤ) (fz : SFits w64 z) where
   quot-le : natAbs (quotZ z (pos 10000000)) ≤ 1000000000000
   quot-le = rw (natAbs-quot z 10000000) (omega (arith, natAbs-le z (fz .sfits)))
 
-  small-fits : (x : ℤ) → natAbs x ≤ 2000000000000 → SFits w64 x
-  small-fits x h = record { sfits = N.lt-of-le-of-lt (N.le-trans (mag-le x) h) (lit< tt) }
-
   quot-fits : SFits w64 (quotZ z (pos 10000000))
-  quot-fits = small-fits (quotZ z (pos 10000000)) (omega (arith, quot-le))
+  quot-fits = sfits-small (quotZ z (pos 10000000)) (omega (arith, quot-le))
 
   rem-fits : SFits w64 (remZ z (pos 10000000))
-  rem-fits = small-fits (remZ z (pos 10000000)) (omega (arith, rem-lt z {d = 10000000} (lit< tt)))
+  rem-fits = sfits-small (remZ z (pos 10000000)) (omega (arith, rem-lt z {d = 10000000} (lit< tt)))
 
   pub div-ok : SFits w64 (quotZ (toZ w64 (ofZ w64 z)) (pos 10000000))
   div-ok = subst⁻¹ (λ (x : ℤ). SFits w64 (quotZ x (pos 10000000))) back quot-fits
@@ -84,10 +82,10 @@ module _ (z : ℤ) (fz : SFits w64 z) where
   r-is = ap (λ (x : ℤ). toZ w64 (ofZ w64 (remZ x (pos 10000000)))) back ∙ toZ-ofZ w64 (remZ z (pos 10000000)) rem-fits
 
   less-fits : SFits w64 (quotZ z (pos 10000000) -ℤ pos 1)
-  less-fits = small-fits (quotZ z (pos 10000000) -ℤ pos 1) (omega (arith, natAbs-- (quotZ z (pos 10000000)) (pos 1), quot-le))
+  less-fits = sfits-small (quotZ z (pos 10000000) -ℤ pos 1) (omega (arith, natAbs-- (quotZ z (pos 10000000)) (pos 1), quot-le))
 
   more-fits : SFits w64 (quotZ z (pos 10000000) +ℤ pos 1)
-  more-fits = small-fits (quotZ z (pos 10000000) +ℤ pos 1) (omega (arith, natAbs-+ (quotZ z (pos 10000000)) (pos 1), quot-le))
+  more-fits = sfits-small (quotZ z (pos 10000000) +ℤ pos 1) (omega (arith, natAbs-+ (quotZ z (pos 10000000)) (pos 1), quot-le))
 
   pub sub-ok : SFits w64 (toZ w64 (ofZ w64 (quotZ (toZ w64 (ofZ w64 z)) (pos 10000000))) -ℤ pos 1)
   sub-ok = subst⁻¹ (λ (x : ℤ). SFits w64 (x -ℤ pos 1)) q-is less-fits

@@ -1,4 +1,5 @@
-use Rattle.proposal.proofs.Weights.{read-back, wide-answer, rated-answer}
+use Rattle.integer.specs.Bits.{read-back}
+use Rattle.proposal.proofs.Weights.{wide-answer, rated-answer}
 use mathlib.Core.Path.{_≡_, refl, sym, ap, ap₂, _∙_}
 use Prim.Native.Nat.{ℕ, zero, suc, _+_, _*_, _-_, _/_, _%_, _^_, _≤_, _<_}
 use native.Mathlib.Omega.{arith}

@@ -1,4 +1,5 @@
-use Rattle.proposal.proofs.Weights.{WeighedTo, read-back, weighed-none, weigh-asks, weighed-more, weighed-all}
+use Rattle.integer.specs.Bits.{read-back}
+use Rattle.proposal.proofs.Weights.{WeighedTo, weighed-none, weigh-asks, weighed-more, weighed-all}
 use Rattle.rows.specs.Machine.{at-back}
 use mir.Val.{toZ}
 use mir.Syntax.{w64}

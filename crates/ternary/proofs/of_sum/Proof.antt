@@ -5,7 +5,7 @@ use native.Mathlib.Omega.{arith}
 use borrow.Author.Needs.{needs}
 use borrow.Author.Tests.{ltb-true, ltb-false}
 use Rattle.ternary.specs.Answer.{mixture-zero, mixture-above}
-use Rattle.ternary.proofs.Bits.{read-back}
+use Rattle.integer.specs.Bits.{read-back}
 use Rattle.ternary.proofs.Tables.{sum-refused, sum-number}
 use Rattle.ternary.proofs.of_sum.Statement.{statement}
 use Rattle.ternary.proofs.of_sum.Tie as tie

@@ -1,5 +1,7 @@
 -- `ternary::rule::combined` meets its contract. Assumes nothing.
-use Rattle.ternary.proofs.Bits.{arg-back, step-back}
+use mir.Syntax.{w64}
+use mir.ValLaws.{toZ-ofZ}
+use Rattle.ternary.proofs.Bits.{step-back}
 use Rattle.ternary.proofs.Combine.{room-moved, room-3, room-2, room-1, room-0}
 use Rattle.ternary.proofs.rule.combined.Statement.{statement}
 use Rattle.ternary.proofs.rule.combined.Tie as tie
@@ -7,7 +9,7 @@ use Rattle.ternary.proofs.rule.combined.Tie as tie
 step-requires : tie.Need-step-requires
 step-requires c κs =
     let a = c .args in (
-      room-moved (arg-back (a .high) (c .fits .high)) (arg-back (a .r3) (c .fits .r3))
+      room-moved (toZ-ofZ w64 (a .high) (c .fits .high)) (toZ-ofZ w64 (a .r3) (c .fits .r3))
           (room-3 (a .high) (a .r3) (a .r2) (a .r1) (a .r0) (a .v .n) (a .v .d) (c .pre .1 .n-le) (c .pre .0)),
       c .pre .1,
     )
@@ -17,8 +19,8 @@ step-requires-2 c κs =
     let s = c .before in
     let a = s .args in (
       room-moved
-          (step-back (a .v .n) (a .v .d) (c .step .ok) (c .step .ensures) (arg-back (a .high) (s .fits .high)) (arg-back (a .r3) (s .fits .r3)))
-          (arg-back (a .r2) (s .fits .r2))
+          (step-back (a .v .n) (a .v .d) (c .step .ok) (c .step .ensures) (toZ-ofZ w64 (a .high) (s .fits .high)) (toZ-ofZ w64 (a .r3) (s .fits .r3)))
+          (toZ-ofZ w64 (a .r2) (s .fits .r2))
           (room-2 (a .high) (a .r3) (a .r2) (a .r1) (a .r0) (a .v .n) (a .v .d) (s .pre .1 .n-le) (s .pre .0)),
       s .pre .1,
     )
@@ -29,9 +31,9 @@ step-requires-3 c κs =
     let a = s .args in (
       room-moved
           (step-back (a .v .n) (a .v .d) (c .step2 .ok) (c .step2 .ensures)
-          (step-back (a .v .n) (a .v .d) (c .before .step .ok) (c .before .step .ensures) (arg-back (a .high) (s .fits .high)) (arg-back (a .r3) (s .fits .r3)))
-          (arg-back (a .r2) (s .fits .r2)))
-          (arg-back (a .r1) (s .fits .r1))
+          (step-back (a .v .n) (a .v .d) (c .before .step .ok) (c .before .step .ensures) (toZ-ofZ w64 (a .high) (s .fits .high)) (toZ-ofZ w64 (a .r3) (s .fits .r3)))
+          (toZ-ofZ w64 (a .r2) (s .fits .r2)))
+          (toZ-ofZ w64 (a .r1) (s .fits .r1))
           (room-1 (a .high) (a .r3) (a .r2) (a .r1) (a .r0) (a .v .n) (a .v .d) (s .pre .1 .n-le) (s .pre .0)),
       s .pre .1,
     )
@@ -43,10 +45,10 @@ step-requires-4 c κs =
       room-moved
           (step-back (a .v .n) (a .v .d) (c .step3 .ok) (c .step3 .ensures)
           (step-back (a .v .n) (a .v .d) (c .before .step2 .ok) (c .before .step2 .ensures)
-          (step-back (a .v .n) (a .v .d) (c .before .before .step .ok) (c .before .before .step .ensures) (arg-back (a .high) (s .fits .high)) (arg-back (a .r3) (s .fits .r3)))
-          (arg-back (a .r2) (s .fits .r2)))
-          (arg-back (a .r1) (s .fits .r1)))
-          (arg-back (a .r0) (s .fits .r0))
+          (step-back (a .v .n) (a .v .d) (c .before .before .step .ok) (c .before .before .step .ensures) (toZ-ofZ w64 (a .high) (s .fits .high)) (toZ-ofZ w64 (a .r3) (s .fits .r3)))
+          (toZ-ofZ w64 (a .r2) (s .fits .r2)))
+          (toZ-ofZ w64 (a .r1) (s .fits .r1)))
+          (toZ-ofZ w64 (a .r0) (s .fits .r0))
           (room-0 (a .high) (a .r3) (a .r2) (a .r1) (a .r0) (a .v .n) (a .v .d) (s .pre .1 .n-le) (s .pre .0)),
       s .pre .1,
     )
@@ -58,10 +60,10 @@ returns c =
     step-back (a .v .n) (a .v .d) (c .step4 .ok) (c .step4 .ensures)
     (step-back (a .v .n) (a .v .d) (c .before .step3 .ok) (c .before .step3 .ensures)
     (step-back (a .v .n) (a .v .d) (c .before .before .step2 .ok) (c .before .before .step2 .ensures)
-    (step-back (a .v .n) (a .v .d) (c .before .before .before .step .ok) (c .before .before .before .step .ensures) (arg-back (a .high) (s .fits .high)) (arg-back (a .r3) (s .fits .r3)))
-    (arg-back (a .r2) (s .fits .r2)))
-    (arg-back (a .r1) (s .fits .r1)))
-    (arg-back (a .r0) (s .fits .r0))
+    (step-back (a .v .n) (a .v .d) (c .before .before .before .step .ok) (c .before .before .before .step .ensures) (toZ-ofZ w64 (a .high) (s .fits .high)) (toZ-ofZ w64 (a .r3) (s .fits .r3)))
+    (toZ-ofZ w64 (a .r2) (s .fits .r2)))
+    (toZ-ofZ w64 (a .r1) (s .fits .r1)))
+    (toZ-ofZ w64 (a .r0) (s .fits .r0))
 
 pub combined-spec : {M : Type 1} → statement M
 combined-spec =

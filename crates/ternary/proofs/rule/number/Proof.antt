@@ -1,13 +1,16 @@
 -- `ternary::rule::number` meets its contract. Assumes nothing.
 use mathlib.Core.Path.{_∙_, sym}
 use borrow.Author.Needs.{needs}
-use Rattle.ternary.proofs.Bits.{read-back}
+use Rattle.integer.specs.Bits.{read-back}
 use Rattle.ternary.proofs.Tables.{small-table, number-is}
 use Rattle.ternary.proofs.rule.number.Statement.{statement}
 use Rattle.ternary.proofs.rule.number.Tie as tie
 
 table-requires : tie.Need-table-requires
 table-requires c κs = search needs
+
+div-inverse : tie.Need-div-inverse
+div-inverse c = search needs
 
 ratio-of-requires : tie.Need-ratio-of-requires
 ratio-of-requires c κs = search needs
@@ -38,4 +41,4 @@ returns c =
 
 pub number-spec : {M : Type 1} → statement M
 number-spec =
-    tie.close (tie.spec table-requires ratio-of-requires ratio-of-requires-2 rows-requires returns)
+    tie.close (tie.spec table-requires div-inverse ratio-of-requires ratio-of-requires-2 rows-requires returns)

@@ -7,7 +7,7 @@ use mir.Syntax.{w64}
 use mir.Val.{toZ}
 use Rattle.ternary.specs.WorkingRule.{stepZ, horner, coefs}
 use Rattle.ternary.specs.Table.{inTable}
-use Rattle.ternary.proofs.Bits.{read-back}
+use Rattle.integer.specs.Bits.{read-back}
 use Rattle.ternary.proofs.Rows.{row-none, row-more, row-room}
 use Rattle.ternary.proofs.rule.row.Statement.{statement}
 use Rattle.ternary.proofs.rule.row.Tie as tie
