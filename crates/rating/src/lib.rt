@@ -60,7 +60,7 @@ pub fn rate_split(a: Analysis, p: Split) -> Answer
             number,
             place: code,
         },
-        Checked::InRange => split_by(systems::choose(mix), mix, inert, p),
+        Checked::InRange => split_by(choice::choose(mix), mix, inert, p),
     }
 }
 
@@ -78,7 +78,7 @@ pub fn rate_by_search(a: Analysis, allowance: u32) -> Outcome
     match answer {
         Checked::Refused { number, code } => refused(number, code),
         Checked::InRange => {
-            let choice = systems::choose(mix);
+            let choice = choice::choose(mix);
             let found = search::find(mix, choice, LIMIT, LEVEL, at_most(allowance));
             found_outcome(choice, mix, inert, found)
         }

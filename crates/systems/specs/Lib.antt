@@ -3,7 +3,6 @@ pub mod Table
 pub mod Members
 pub mod Choice
 pub mod Scores
-pub mod Keys
 pub mod Chosen
 pub mod Fittest
 pub mod Marked

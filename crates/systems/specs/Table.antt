@@ -4,7 +4,7 @@ use mathlib.Core.Path.{_≡_, refl}
 use mathlib.Core.Bool.{Bool, true, false, _&&_}
 use mathlib.Core.List.{List, [], _∷_}
 use native.Mathlib.Omega.{arith}
-use lib.Dec.{T, eqb}
+use lib.Dec.{T, eqb, eqb→eq}
 use borrow.Author.Tests.{eqb-true, eqb-false}
 use Rattle.systems.specs.Systems.{elem, candidates, Candidate}
 
@@ -58,3 +58,10 @@ eachTo f (suc n) t i h =
     go : (b : Bool) → eqb i n ≡ b → (eqb i n ≡ true → T (f i)) → (eqb i n ≡ false → T (f i)) → T (f i)
     go true e p q = p e
     go false e p q = q e
+
+-- two functions have the same values below n
+abbrev pub agree : (ℕ → ℕ) → (ℕ → ℕ) → ℕ → Bool
+agree f g n = everyTo (λ i. eqb (f i) (g i)) n
+
+pub agree-at : (f g : ℕ → ℕ) (n : ℕ) → T (agree f g n) → (i : ℕ) → i < n → f i ≡ g i
+agree-at f g n t i h = eqb→eq (f i) (g i) (eachTo (λ i. eqb (f i) (g i)) n t i h)

@@ -12,7 +12,7 @@ use Rattle.rating.proofs.at_most.Reads as at-most-reads
 use Rattle.rating.proofs.found_outcome.Reads as found-outcome-reads
 use Rattle.rating.proofs.refused.Reads as refused-reads
 use Rattle.search.proofs.find.Reads as find-reads
-use Rattle.systems.proofs.choose.Reads as choose-reads
+use Rattle.choice.proofs.choose.Reads as choose-reads
 
 simplify-requires : tie.Need-simplify-requires
 simplify-requires c κs = search needs

@@ -9,7 +9,7 @@ use Rattle.rating.proofs.rate_split.Reads as reads
 use Rattle.rating.proofs.rate_split.Lts as lts
 use Rattle.mixture.proofs.simplify.Reads as simplify-reads
 use Rattle.rating.proofs.split_by.Reads as split-by-reads
-use Rattle.systems.proofs.choose.Reads as choose-reads
+use Rattle.choice.proofs.choose.Reads as choose-reads
 
 simplify-requires : tie.Need-simplify-requires
 simplify-requires c κs = search needs

@@ -1,13 +1,13 @@
--- `systems::listed` meets its contract. Assumes nothing.
+-- `choice::listed` meets its contract. Assumes nothing.
 use Prim.Native.Nat.{_-_, _≤_}
 use mathlib.Core.Logic.{⊎-elim}
 use native.Mathlib.Omega.{arith}
 use borrow.Author.Needs.{needs}
 use lib.ListN.{length}
 use Rattle.systems.specs.Systems.{candidates}
-use Rattle.systems.proofs.Listing.{Lists, lists-none, lists-more, lists-same, lists-all}
-use Rattle.systems.proofs.listed.Statement.{statement}
-use Rattle.systems.proofs.listed.Tie as tie
+use Rattle.choice.proofs.Listing.{Lists, lists-none, lists-more, lists-same, lists-all}
+use Rattle.choice.proofs.listed.Statement.{statement}
+use Rattle.choice.proofs.listed.Tie as tie
 
 abbrev Inv-loop : tie.InvT-loop
 Inv-loop keys count₀ systems₀ i₀ count systems i = (count ≤ i) × (i ≤ length candidates) × Lists keys count systems i

@@ -1,10 +1,10 @@
--- `systems::weighted` meets its contract. Assumes nothing.
-use Rattle.systems.proofs.Packed.{weighted-fits, weighted-in, weighted-out}
+-- `choice::weighted` meets its contract. Assumes nothing.
+use Rattle.choice.proofs.Packed.{weighted-fits, weighted-in, weighted-out}
 use mathlib.Core.Path.{sym, _∙_}
 use native.Mathlib.Omega.{arith}
 use borrow.Author.Needs.{needs}
-use Rattle.systems.proofs.weighted.Statement.{statement}
-use Rattle.systems.proofs.weighted.Tie as tie
+use Rattle.choice.proofs.weighted.Statement.{statement}
+use Rattle.choice.proofs.weighted.Tie as tie
 
 contains-requires : tie.Need-contains-requires
 contains-requires c κs = search needs

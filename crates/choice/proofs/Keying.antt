@@ -10,13 +10,13 @@ use lib.Dec.{eqb}
 use lib.ListN.{getD, set, length, drop, replicate, length-set, getD-replicate}
 use lib.Seq.{getD-set-same, getD-set-other}
 use borrow.Author.Tests.{lt-ltb, le-ltb, eqb-true, eqb-false, not-true}
 use Rattle.systems.specs.Systems.{COMPONENTS, memberOf, hasOf, candidates}
 use Rattle.systems.specs.Choice.{NUMBERS, order, fold, weightedOf, fitnessOf, isChosen, oneIf, countOf, containingOf, scoreOf, betterOf, fittestOf, takeOf, passOf, marksOf}
 use Rattle.systems.specs.Table.{to-true, eachTo}
 use Rattle.systems.specs.Scores.{better-next, better-before}
-use Rattle.systems.specs.Keys.{KEYS, weighedTo, keyOf, Keyed}
-use Rattle.systems.proofs.Loops.{next, done}
-use Rattle.systems.proofs.Packed.{candidate-lt, candidates-apart}
+use Rattle.choice.specs.Keys.{KEYS, weighedTo, keyOf, Keyed}
+use Rattle.choice.proofs.Loops.{next, done}
+use Rattle.choice.proofs.Packed.{candidate-lt, candidates-apart}
 
 -- ---- the fitness of a candidate
 

@@ -1,8 +1,8 @@
--- `systems::choose` meets its contract. Assumes nothing.
-use Rattle.systems.proofs.Listing.{choice-is}
+-- `choice::choose` meets its contract. Assumes nothing.
+use Rattle.choice.proofs.Listing.{choice-is}
 use borrow.Author.Needs.{needs}
-use Rattle.systems.proofs.choose.Statement.{statement}
-use Rattle.systems.proofs.choose.Tie as tie
+use Rattle.choice.proofs.choose.Statement.{statement}
+use Rattle.choice.proofs.choose.Tie as tie
 
 keys-of-requires : tie.Need-keys-of-requires
 keys-of-requires c κs = search needs

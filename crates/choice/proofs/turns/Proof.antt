@@ -1,11 +1,11 @@
--- `systems::turns` meets its contract. Assumes nothing.
+-- `choice::turns` meets its contract. Assumes nothing.
 use Prim.Native.Nat.{_-_, _≤_}
 use native.Mathlib.Omega.{arith}
 use borrow.Author.Needs.{needs}
-use Rattle.systems.proofs.Packed.{order-is, order-lt}
-use Rattle.systems.proofs.Listing.{Turns, turns-none, turns-next, turns-all}
-use Rattle.systems.proofs.turns.Statement.{statement}
-use Rattle.systems.proofs.turns.Tie as tie
+use Rattle.choice.proofs.Packed.{order-lt}
+use Rattle.choice.proofs.Listing.{Turns, turns-none, turns-next, turns-all}
+use Rattle.choice.proofs.turns.Statement.{statement}
+use Rattle.choice.proofs.turns.Tie as tie
 
 abbrev Inv-loop : tie.InvT-loop
 Inv-loop keys₀ i₀ keys i = (i ≤ 8) × Turns keys₀ keys i
@@ -22,11 +22,11 @@ mul-loop c = search needs
 add-take : tie.Need-add-take Inv-loop μ-loop
 add-take c = search needs
 
-digit-requires : tie.Need-digit-requires Inv-loop μ-loop
-digit-requires c κs = omega arith
+ordered-requires : tie.Need-ordered-requires Inv-loop μ-loop
+ordered-requires c κs = omega arith
 
 take-requires : tie.Need-take-requires Inv-loop μ-loop
-take-requires c κs = rw (order-is _ tt (c .before .before .before .loop .i) (c .digit .result) (c .digit .ensures)) (order-lt (c .before .before .before .loop .i))
+take-requires c κs = rw (c .ordered .ensures) (order-lt (c .before .before .before .loop .i))
 
 add-i : tie.Need-add-i Inv-loop μ-loop
 add-i c = search needs
@@ -35,7 +35,7 @@ loop-less : tie.Need-loop-less Inv-loop μ-loop
 loop-less c = search needs
 
 loop-again : tie.Need-loop-again Inv-loop μ-loop
-loop-again c = (omega arith, turns-next _ _ _ _ _ (c .before .before .before .before .loop .inv .1) (order-is _ tt (c .before .before .before .before .loop .i) (c .before .digit .result) (c .before .digit .ensures)) (c .take .ensures))
+loop-again c = (omega arith, turns-next _ _ _ _ _ (c .before .before .before .before .loop .inv .1) (c .before .ordered .ensures) (c .take .ensures))
 
 returns : tie.Need-returns Inv-loop μ-loop
 returns c = turns-all _ _ _ (c .before .loop .inv .1) (c .before .loop .inv .0) (c .loop-test .left)
@@ -49,7 +49,7 @@ turns-spec =
     loop-holds
     mul-loop
     add-take
-    digit-requires
+    ordered-requires
     take-requires
     add-i
     loop-less

@@ -1,13 +1,13 @@
--- `systems::take` meets its contract. Assumes nothing.
+-- `choice::take` meets its contract. Assumes nothing.
 use Prim.Native.Nat.{_-_}
 use mathlib.Core.Path.{sym, _∙_}
 use mathlib.Core.Logic.{⊎-elim}
 use borrow.Author.Needs.{needs}
 use lib.ListN.{length}
 use Rattle.systems.specs.Systems.{candidates}
-use Rattle.systems.proofs.Keying.{Tally, tally-none, tally-chosen, tally-more, tally-less, tally-lacks, take-one, take-none}
-use Rattle.systems.proofs.take.Statement.{statement}
-use Rattle.systems.proofs.take.Tie as tie
+use Rattle.choice.proofs.Keying.{Tally, tally-none, tally-chosen, tally-more, tally-less, tally-lacks, take-one, take-none}
+use Rattle.choice.proofs.take.Statement.{statement}
+use Rattle.choice.proofs.take.Tie as tie
 
 abbrev Inv-loop : tie.InvT-loop
 Inv-loop keys wanted c count₀ best₀ at₀ i₀ count best at i = Tally keys c i count best at

@@ -1,14 +1,14 @@
--- `systems::key` meets its contract. Assumes nothing.
+-- `choice::key` meets its contract. Assumes nothing.
 use Prim.Native.Nat.{_+_, _*_, _-_, _≤_}
 use mathlib.Core.Path.{_≡_, refl}
 use native.Mathlib.Omega.{arith}
 use borrow.Author.Needs.{needs}
 use lib.ListN.{getD}
 use Rattle.systems.specs.Systems.{COMPONENTS, candidates}
-use Rattle.systems.specs.Keys.{weighedTo}
-use Rattle.systems.proofs.Keying.{weighed-next}
-use Rattle.systems.proofs.key.Statement.{statement}
-use Rattle.systems.proofs.key.Tie as tie
+use Rattle.choice.specs.Keys.{weighedTo}
+use Rattle.choice.proofs.Keying.{weighed-next}
+use Rattle.choice.proofs.key.Statement.{statement}
+use Rattle.choice.proofs.key.Tie as tie
 
 abbrev Inv-loop : tie.InvT-loop
 Inv-loop i m k₀ c₀ k c = (c ≤ COMPONENTS) × (k ≤ 429496729500 * c + 1) × (k ≡ weighedTo m (getD candidates i 0) c + 1)

@@ -7,12 +7,12 @@ use native.Mathlib.Numerals.{add-one}
 use native.Mathlib.Omega.{arith}
 use lib.ListN.{getD, set, length, drop, replicate, length-append}
 use lib.Seq.{set-at, append-snoc}
 use Rattle.systems.specs.Systems.{COMPONENTS, candidates}
 use Rattle.systems.specs.Choice.{NUMBERS, SYSTEMS, order, takeOf, marksOf, fold, isChosen, fitnessOf, listOf, chosenOf, chooseOf, paddedOf, answerOf, choiceOf}
-use Rattle.systems.specs.Keys.{Keyed}
+use Rattle.choice.specs.Keys.{Keyed}
 use Rattle.systems.specs.declared.Choice.{Choice}
-use Rattle.systems.proofs.Loops.{next, done}
-use Rattle.systems.proofs.Keying.{chosen-of-key, open-of-key, marksAfter, after-all}
+use Rattle.choice.proofs.Loops.{next, done}
+use Rattle.choice.proofs.Keying.{chosen-of-key, open-of-key, marksAfter, after-all}
 
 -- one more system at the end
 padded-set : (l : List ℕ) (s : ℕ) → length l < SYSTEMS → set (paddedOf l) (length l) s ≡ paddedOf (l ++ (s ∷ []))

@@ -1,11 +1,11 @@
--- `systems::keys_of` meets its contract. Assumes nothing.
+-- `choice::keys_of` meets its contract. Assumes nothing.
 use Prim.Native.Nat.{_-_}
 use borrow.Author.Needs.{needs}
 use lib.ListN.{length}
 use Rattle.systems.specs.Systems.{candidates}
-use Rattle.systems.proofs.Keying.{Fresh, fresh-none, fresh-next, fresh-all}
-use Rattle.systems.proofs.keys_of.Statement.{statement}
-use Rattle.systems.proofs.keys_of.Tie as tie
+use Rattle.choice.proofs.Keying.{Fresh, fresh-none, fresh-next, fresh-all}
+use Rattle.choice.proofs.keys_of.Statement.{statement}
+use Rattle.choice.proofs.keys_of.Tie as tie
 
 abbrev Inv-loop : tie.InvT-loop
 Inv-loop m keys₀ i₀ keys i = Fresh m keys i

@@ -1,8 +1,8 @@
--- `systems::number` meets its contract. Assumes nothing.
-use Rattle.systems.proofs.Packed.{candidate-is}
+-- `choice::number` meets its contract. Assumes nothing.
+use Rattle.choice.proofs.Packed.{candidate-is}
 use borrow.Author.Needs.{needs}
-use Rattle.systems.proofs.number.Statement.{statement}
-use Rattle.systems.proofs.number.Tie as tie
+use Rattle.choice.proofs.number.Statement.{statement}
+use Rattle.choice.proofs.number.Tie as tie
 
 mul-result : tie.Need-mul-result
 mul-result c = search needs

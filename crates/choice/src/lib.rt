@@ -1,0 +1,155 @@
+// The choice of systems. No public function has a `requires`.
+ghost use mathlib.Core.Path.{_≡_};
+ghost use mathlib.Core.Bool.{Bool, false, cond};
+ghost use Prim.Native.Nat.{ℕ, _+_, _*_, _<_, _≤_};
+ghost use mathlib.Core.List.{List};
+ghost use lib.ListN.{getD, length, replicate};
+ghost use Rattle.systems.specs.Systems.{COMPONENTS, hasOf, candidates};
+ghost use Rattle.systems.specs.Choice.{NUMBERS, weights, order, fitnessOf, takeOf, marksOf, answerOf, chosenOf, choiceOf};
+ghost use Rattle.choice.specs.Keys.{Keyed, weighedTo};
+use systems::Choice;
+
+const COMPONENTS: usize = 4;
+
+// The weights of the components in the fitness, times 480: two hexadecimal digits each, from the right.
+const WEIGHTS: u64 = 0x64504B30;
+
+// The order in which components take systems: propane, ethane, butane, methane, an octal digit each, from the right.
+const ORDER: u64 = 0o0312;
+
+// The systems that can be chosen, a hexadecimal digit each, from the right, and how many there are.
+const SYSTEM_NUMBERS: u64 = 0x8742;
+
+const CANDIDATES: usize = 4;
+
+// Room for a key of each candidate, and for that of none.
+const KEYS: usize = 5;
+
+// Room for chosen systems.
+const SYSTEMS: usize = 8;
+
+// The number of the candidate in place i.
+fn number(i: usize) -> u8
+    requires { ⌜ i < length candidates ⌝ }
+    ensures { λ r. ⌜ r ≡ getD candidates i 0 ⌝ }
+{
+    ((SYSTEM_NUMBERS >> (i * 4)) % 16) as u8
+}
+
+// The component in place i of the order.
+fn ordered(i: usize) -> usize
+    requires { ⌜ i < COMPONENTS ⌝ }
+    ensures { λ r. ⌜ r ≡ getD order i 0 ⌝ }
+{
+    ((ORDER >> (i * 3)) % 8) as usize
+}
+
+// Whether the candidate in place i contains component c.
+fn contains(i: usize, c: usize) -> bool
+    requires { ⌜ (i < length candidates) × (c < COMPONENTS) ⌝ }
+    ensures { λ r. ⌜ r ≡ hasOf (getD candidates i 0) c ⌝ }
+{
+    systems::has(number(i), c)
+}
+
+// The weight of component c times its parts x, where the candidate in place i contains it.
+fn weighted(i: usize, c: usize, x: u32) -> u64
+    requires { ⌜ (i < length candidates) × (c < COMPONENTS) ⌝ }
+    ensures { λ r. ⌜ (r ≡ cond (hasOf (getD candidates i 0) c) (getD weights c 0 * x) 0) × (r ≤ 429496729500) ⌝ }
+{
+    if contains(i, c) {
+        return (WEIGHTS >> (c * 8)) % 256 * x as u64;
+    }
+    0
+}
+
+// The key of the candidate in place i before it is chosen: its fitness times 480, and 1.
+fn key(m: [u32; COMPONENTS], i: usize) -> u64
+    requires { ⌜ i < length candidates ⌝ }
+    ensures { λ r. ⌜ r ≡ weighedTo m (getD candidates i 0) COMPONENTS + 1 ⌝ }
+{
+    let mut k: u64 = 1;
+    let mut c: usize = 0;
+    while c < COMPONENTS {
+        k += weighted(i, c, m[c]);
+        c += 1;
+    }
+    k
+}
+
+// The keys of the candidates before one is chosen.
+fn keys_of(m: [u32; COMPONENTS]) -> [u64; KEYS]
+    ensures { λ r. ⌜ Keyed (fitnessOf m) (replicate NUMBERS false) r ⌝ }
+{
+    let mut keys = [0u64; KEYS];
+    let mut i: usize = 0;
+    while i < CANDIDATES {
+        keys[i] = key(m, i);
+        i += 1;
+    }
+    keys
+}
+
+// Component c takes the fittest candidate that contains it and is not chosen, equal fitness to the lower number, where
+// fewer than the wanted number of chosen systems contain c.
+fn take(keys: &mut [u64; KEYS], wanted: usize, c: usize)
+    requires { ⌜ c < COMPONENTS ⌝ }
+    ensures { λ _. ⌜ ((fit : ℕ → ℕ) → (marks : List Bool) → Keyed fit marks (now (keys .entry)) → Keyed fit (takeOf fit candidates wanted marks c) (now (keys .exit))) ⌝ }
+{
+    let mut count: usize = 0;
+    let mut best: u64 = 0;
+    let mut at = CANDIDATES;
+    let mut i: usize = 0;
+    while i < CANDIDATES {
+        if contains(i, c) {
+            let key = keys[i];
+            if key == 0 {
+                count += 1;
+            } else if best < key {
+                best = key;
+                at = i;
+            }
+        }
+        i += 1;
+    }
+    if count < wanted {
+        keys[at] = 0;
+    }
+}
+
+// The components do so, one after the other, for one system each and then for two.
+fn turns(keys: &mut [u64; KEYS])
+    ensures { λ _. ⌜ ((fit : ℕ → ℕ) → Keyed fit (replicate NUMBERS false) (now (keys .entry)) → Keyed fit (marksOf fit candidates order) (now (keys .exit))) ⌝ }
+{
+    let mut i: usize = 0;
+    while i < 2 * COMPONENTS {
+        take(keys, 1 + i / COMPONENTS, ordered(i % COMPONENTS));
+        i += 1;
+    }
+}
+
+// The chosen systems, in the order of the candidates.
+fn listed(keys: [u64; KEYS]) -> Choice
+    ensures { λ r. ⌜ ((fit : ℕ → ℕ) → (marks : List Bool) → Keyed fit marks keys → r ≡ answerOf (chosenOf candidates marks)) ⌝ }
+{
+    let mut count: usize = 0;
+    let mut systems = [0u8; SYSTEMS];
+    let mut i: usize = 0;
+    while i < CANDIDATES {
+        if keys[i] == 0 {
+            systems[count] = number(i);
+            count += 1;
+        }
+        i += 1;
+    }
+    Choice { count, systems }
+}
+
+// The systems chosen for a mixture of so many parts of each component.
+pub fn choose(m: [u32; COMPONENTS]) -> Choice
+    ensures { λ r. ⌜ r ≡ choiceOf m ⌝ }
+{
+    let mut keys = keys_of(m);
+    turns(&mut keys);
+    listed(keys)
+}
