@@ -16,6 +16,7 @@ use mir.Val.{toZ, ofZ}
 use mir.ValLaws.{toZ-ofZ}
 use Rattle.integer.specs.Bits.{read-back}
 use Rattle.integer.specs.Ring.{natAbs-+, natAbs-*}
+use Rattle.ternary.specs.WorkingRule.{LARGEST}
 use Rattle.split.specs.Fold.{sumTo, sumToZ}
 use Rattle.split.specs.Rating.{spreadOf, inertNumber}
 use Rattle.split.specs.declared.Answer.the-variants.{Rated, Refused}
@@ -36,7 +37,7 @@ unfolding sumTo
 prefix-le f n zero = N.le-of-eq (ap (sumTo f) (sym (N.add-zero n)))
 prefix-le f n (suc m) = N.le-trans (prefix-le f n m) (rw (N.add-suc n m) (N.le-add-right (sumTo f (n + m)) (f (n + m))))
 
-times-small : (x : ℤ) (n : ℕ) → natAbs x ≤ 2000000000000 → natAbs (x *ℤ pos n) ≤ 2000000000000 * n
+times-small : (x : ℤ) (n : ℕ) → natAbs x ≤ LARGEST → natAbs (x *ℤ pos n) ≤ LARGEST * n
 times-small x n h = rw (natAbs-* x (pos n)) (N.mul-le-mul-right n h)
 
 pub weighed-none : (v : List ℤ) (p : List ℕ) (k : ℕ) → WeighedTo v p k 0 (pos 0)
@@ -52,7 +53,7 @@ module _ (v : List ℤ) (p : List ℕ) (k : ℕ) (w : Weighable v p k) where
       let q : suc s + (k - suc s) ≡ k = omega arith in
       omega (arith, w .few, sum-suc partAt s, rw q at (prefix-le partAt (suc s) (k - suc s)))
 
-  weighed-small : (s : ℕ) → s ≤ k → natAbs (weighedTo v p s) ≤ 2000000000000 * sumTo partAt s
+  weighed-small : (s : ℕ) → s ≤ k → natAbs (weighedTo v p s) ≤ LARGEST * sumTo partAt s
   unfolding weighedTo sumToZ sumTo
   weighed-small zero h = zero-le
   weighed-small (suc s) h =
@@ -64,7 +65,7 @@ module _ (v : List ℤ) (p : List ℕ) (k : ℕ) (w : Weighable v p k) where
       )
 
   module _ (s : ℕ) (sum x : ℤ) (n : ℕ) (so : WeighedTo v p k s sum) (l : s < k) (ex : x ≡ listed v s) (ep : n ≡ partAt s) where
-    pub weigh-asks : (natAbs x ≤ 2000000000000) × (natAbs sum + 2000000000000 * n ≤ 2000000000000 * 1000000)
+    pub weigh-asks : (natAbs x ≤ LARGEST) × (natAbs sum + LARGEST * n ≤ LARGEST * 1000000)
     weigh-asks = (rw ex (w .small .each s l), rw (so .is, ep) (omega (arith, weighed-small s (so .within), next-few s l)))
 
     pub weighed-more : (r : ℤ) → r ≡ sum +ℤ x *ℤ pos n → WeighedTo v p k (s + 1) r
@@ -74,7 +75,7 @@ module _ (v : List ℤ) (p : List ℕ) (k : ℕ) (w : Weighable v p k) where
       is = e ∙ ap₂ _+ℤ_ (so .is) (ap₂ (λ (y : ℤ) (n : ℕ). y *ℤ pos n) ex ep) ∙ ap (weighedTo v p) (sym (add-one s));
     }
 
-  pub weighed-all : (s : ℕ) (sum : ℤ) → WeighedTo v p k s sum → k ≤ s → (sum ≡ weighedTo v p k) × (natAbs sum ≤ 2000000000000 * 1000000)
+  pub weighed-all : (s : ℕ) (sum : ℤ) → WeighedTo v p k s sum → k ≤ s → (sum ≡ weighedTo v p k) × (natAbs sum ≤ LARGEST * 1000000)
   weighed-all s sum so l =
       let q : s ≡ k = omega (arith, so .within) in
       let e : sum ≡ weighedTo v p k = so .is ∙ ap (weighedTo v p) q in

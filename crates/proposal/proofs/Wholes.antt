@@ -9,6 +9,7 @@ use lib.Signed.{quotZ}
 use mir.Syntax.{w64}
 use mir.Val.{SFits, toZ, ofZ}
 use mir.ValLaws.{toZ-ofZ, toZ-pos}
+use Rattle.ternary.specs.WorkingRule.{LARGEST}
 use Rattle.ternary.specs.Answer.{isIn, partialOf, partial-is}
 use Rattle.ternary.specs.declared.Partial.{Partial}
 use Rattle.ternary.specs.declared.Partial.the-variants.{Number, Refused}
@@ -19,8 +20,8 @@ use Rattle.integer.specs.Ring.{natAbs-*, natAbs-+, natAbs--, natAbs-quot}
 
 -- ---- one more partial number, times its parts
 
-module _ (s v : ℤ) (p : ℕ) (fs : SFits w64 s) (fv : SFits w64 v) (v≤ : natAbs v ≤ 2000000000000) (room : natAbs s + 2000000000000 * p ≤ 2000000000000 * 1000000) where
-  product-le : natAbs (v *ℤ pos p) ≤ 2000000000000 * p
+module _ (s v : ℤ) (p : ℕ) (fs : SFits w64 s) (fv : SFits w64 v) (v≤ : natAbs v ≤ LARGEST) (room : natAbs s + LARGEST * p ≤ LARGEST * 1000000) where
+  product-le : natAbs (v *ℤ pos p) ≤ LARGEST * p
   product-le = rw (natAbs-* v (pos p)) (N.mul-le-mul-right p v≤)
 
   product-fits : SFits w64 (v *ℤ pos p)
@@ -52,7 +53,7 @@ module _ (s v : ℤ) (p : ℕ) (fs : SFits w64 s) (fv : SFits w64 v) (v≤ : nat
 
 -- ---- the rating
 
-module _ (s n : ℤ) (fs : SFits w64 s) (fn : SFits w64 n) (s≤ : natAbs s ≤ 2000000000000 * 1000000) (n≤ : natAbs n ≤ 2000000000000) where
+module _ (s n : ℤ) (fs : SFits w64 s) (fn : SFits w64 n) (s≤ : natAbs s ≤ LARGEST * 1000000) (n≤ : natAbs n ≤ LARGEST) where
   mean-le : natAbs (quotZ s (pos 1000000)) ≤ 2000000000000000000
   mean-le = rw (natAbs-quot s 1000000) (N.le-trans (N.div-le-self (natAbs s) 1000000) s≤)
 
@@ -96,13 +97,13 @@ module _ (n1 : ℕ) (p : Partial) (q : p ≡ partialOf 20 n1 (1000000 - n1) 0) (
   unfolding inertNumber isIn
   answer-is = q ∙ partial-is 20 n1 (1000000 - n1) 0 refl (omega arith) (omega arith)
 
-  pub inert-ok : (x : ℤ) → p ≡ Number x → (toZ w64 (ofZ w64 x) ≡ inertNumber n1) × (natAbs (toZ w64 (ofZ w64 x)) ≤ 2000000000000)
+  pub inert-ok : (x : ℤ) → p ≡ Number x → (toZ w64 (ofZ w64 x) ≡ inertNumber n1) × (natAbs (toZ w64 (ofZ w64 x)) ≤ LARGEST)
   inert-ok x u =
       let t : p ≡ Number (inertNumber n1) = answer-is in
       let v : x ≡ inertNumber n1 = cc in
       rw (v, toZ-ofZ w64 (inertNumber n1) (sfits-small (inertNumber n1) (omega (arith, inert-small n1)))) (refl, inert-small n1)
 
-  pub inert-never : (n : ℕ) → p ≡ Refused n → (pos 0 ≡ inertNumber n1) × (0 ≤ 2000000000000)
+  pub inert-never : (n : ℕ) → p ≡ Refused n → (pos 0 ≡ inertNumber n1) × (0 ≤ LARGEST)
   inert-never n u =
       let t : p ≡ Number (inertNumber n1) = answer-is in
       absurd (let z : _≡_ {A = ℕ} 0 1 = cc in omega arith)

@@ -14,6 +14,7 @@ use mir.ValLaws.{toZ-ofZ}
 use Rattle.integer.specs.Bits.{sfits-small, back}
 use Rattle.integer.specs.Ring.{natAbs--, natAbs-quot}
 use mathlib.Core.List.{List}
+use Rattle.ternary.specs.WorkingRule.{LARGEST}
 use Rattle.split.specs.Move.{squareOf}
 use Rattle.rows.specs.Rows.{listed, Small}
 
@@ -67,7 +68,7 @@ module _ (z : ℤ) (h : natAbs z ≤ 1000000000000000) where
 abbrev cutBits : ℤ → ℤ
 cutBits x = quotZ (toZ w64 (ofZ w64 x)) (pos 10000)
 
-module _ (x : ℤ) (p : natAbs x ≤ 2000000000000) where
+module _ (x : ℤ) (p : natAbs x ≤ LARGEST) where
   pub cut-le : natAbs (quotZ x (pos 10000)) ≤ 200000000
   cut-le = rw (natAbs-quot x 10000) (omega arith)
 
@@ -80,7 +81,7 @@ module _ (x : ℤ) (p : natAbs x ≤ 2000000000000) where
 square-bound : (d : ℕ) → d ≤ 400000000 → d * d ≤ 160000000000000000
 square-bound d h = N.mul-le-mul h h
 
-module _ (x y : ℤ) (p : natAbs x ≤ 2000000000000) (q : natAbs y ≤ 2000000000000) where
+module _ (x y : ℤ) (p : natAbs x ≤ LARGEST) (q : natAbs y ≤ LARGEST) where
   cuts-le : natAbs (quotZ x (pos 10000) -ℤ quotZ y (pos 10000)) ≤ 400000000
   cuts-le = omega (arith, natAbs-- (quotZ x (pos 10000)) (quotZ y (pos 10000)), cut-le x p, cut-le y q)
 
@@ -110,7 +111,7 @@ module _ (v : List ℤ) (k i : ℕ) (s : Small v k) (h : i < k) where
   pub at-back : toZ w64 (ofZ w64 (listed v i)) ≡ listed v i
   at-back = back (listed v i) (N.le-trans (s .each i h) (lit≤ tt))
 
-  pub at-small : natAbs (toZ w64 (ofZ w64 (listed v i))) ≤ 2000000000000
+  pub at-small : natAbs (toZ w64 (ofZ w64 (listed v i))) ≤ LARGEST
   at-small = rw at-back (s .each i h)
 
 module _ (v : List ℤ) (k i j : ℕ) (s : Small v k) (h : i < k) (l : j < i) where
@@ -118,7 +119,7 @@ module _ (v : List ℤ) (k i j : ℕ) (s : Small v k) (h : i < k) (l : j < i) wh
   square-at r e = e ∙ ap₂ squareOf (at-back v k i s h) (at-back v k j s (omega arith))
 
 -- a signed result that is passed on
-pub pass : (z u : ℤ) → z ≡ u → natAbs z ≤ 2000000000000 → (toZ w64 (ofZ w64 z) ≡ u) × (natAbs (toZ w64 (ofZ w64 z)) ≤ 2000000000000)
+pub pass : (z u : ℤ) → z ≡ u → natAbs z ≤ LARGEST → (toZ w64 (ofZ w64 z) ≡ u) × (natAbs (toZ w64 (ofZ w64 z)) ≤ LARGEST)
 pass z u e h =
     let b : toZ w64 (ofZ w64 z) ≡ z = back z (omega arith) in
     (b ∙ e, rw b h)

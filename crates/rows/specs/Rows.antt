@@ -5,6 +5,7 @@ use mathlib.Core.Bool.{Bool, true, false}
 use lib.Dec.{ltb, leb}
 use lib.IntN.{ℤ, pos, natAbs}
 use lib.ListN.{getD, replicate}
+use Rattle.ternary.specs.WorkingRule.{LARGEST}
 use Rattle.ternary.specs.Answer.{isMixture, partialOf}
 use Rattle.ternary.specs.declared.Partial.{Partial}
 use Rattle.ternary.specs.declared.Partial.the-variants.{Refused}
@@ -16,10 +17,6 @@ use Rattle.rows.specs.declared.Rows.{Rows}
 -- a list of numbers as a function
 abbrev pub listed : List ℤ → ℕ → ℤ
 listed v i = getD v i (pos 0)
-
--- the largest magnitude of a partial number
-abbrev pub LARGEST : ℕ
-LARGEST = 2000000000000
 
 -- row s's parts as a row of the system
 unfoldable pub partsIn : ℕ → List ℕ → ℕ → ℕ

@@ -6,6 +6,7 @@ use native.Mathlib.Omega.{arith}
 use lib.IntN.{ℤ, pos, natAbs}
 use mir.Syntax.{w64}
 use mir.Val.{toZ, ofZ}
+use Rattle.ternary.specs.WorkingRule.{LARGEST}
 use Rattle.ternary.specs.Partial.{partialNumber, partial-small}
 use Rattle.ternary.specs.Answer.{isIn, isSystem, partialOf, partial-is}
 use Rattle.ternary.specs.declared.Partial.{Partial}
@@ -22,14 +23,14 @@ module _ (system w n1 n2 n3 : ℕ) (p : Partial) (e : w ≡ system) (q : p ≡ p
   answer-is : p ≡ Number (partialNumber system n1 n2 n3)
   answer-is = q ∙ ap (λ u. partialOf u n1 n2 n3) e ∙ partial-is system n1 n2 n3 (known-system system h) some few
 
-  pub number-ok : (x : ℤ) → p ≡ Number x → (toZ w64 (ofZ w64 x) ≡ partialNumber system n1 n2 n3) × (natAbs (toZ w64 (ofZ w64 x)) ≤ 2000000000000)
+  pub number-ok : (x : ℤ) → p ≡ Number x → (toZ w64 (ofZ w64 x) ≡ partialNumber system n1 n2 n3) × (natAbs (toZ w64 (ofZ w64 x)) ≤ LARGEST)
   number-ok x u =
       let t : p ≡ Number (partialNumber system n1 n2 n3) = answer-is in
       let v : x ≡ partialNumber system n1 n2 n3 = cc in
-      let s : natAbs (partialNumber system n1 n2 n3) ≤ 2000000000000 = partial-small system n1 n2 n3 in
+      let s : natAbs (partialNumber system n1 n2 n3) ≤ LARGEST = partial-small system n1 n2 n3 in
       rw (v, back (partialNumber system n1 n2 n3) (omega arith)) (refl, s)
 
-  pub number-never : (n : ℕ) → p ≡ Refused n → (pos 0 ≡ partialNumber system n1 n2 n3) × (0 ≤ 2000000000000)
+  pub number-never : (n : ℕ) → p ≡ Refused n → (pos 0 ≡ partialNumber system n1 n2 n3) × (0 ≤ LARGEST)
   number-never n u =
       let t : p ≡ Number (partialNumber system n1 n2 n3) = answer-is in
       absurd (let z : _≡_ {A = ℕ} 0 1 = cc in omega arith)

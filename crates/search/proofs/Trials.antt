@@ -11,6 +11,7 @@ use lib.Seq.{getD-set-same, getD-set-other}
 use mir.Syntax.{w64}
 use mir.Val.{toZ, ofZ}
 use borrow.Author.Tests.{eqb-true, eqb-false, eq-eqb, ne-eqb}
+use Rattle.ternary.specs.WorkingRule.{LARGEST}
 use Rattle.systems.specs.Systems.{memberOf, Candidate}
 use Rattle.ternary.specs.Partial.{partialNumber}
 use Rattle.split.specs.Fold.{sumTo}
@@ -101,8 +102,8 @@ module _ (ch : List ℕ) (k : ℕ) (a : List ℕ) (d m : ℕ) (so : Sound ch k a
   with-is s n h w = number-with a (movedOf a m d) s (componentOf m) n w ch (three (systemOf ch s) (so .stock .chosen .known s h))
 
   pub renumber-ok : (v : List ℤ) (x y : ℤ) → Carried ch k a v → Small v k
-      → (x ≡ numberWith ch a (giverOf m) (componentOf m) (cellOf a (giverOf m) (componentOf m) - d)) × (natAbs x ≤ 2000000000000)
-      → (y ≡ numberWith ch a (takerOf m) (componentOf m) (cellOf a (takerOf m) (componentOf m) + d)) × (natAbs y ≤ 2000000000000)
+      → (x ≡ numberWith ch a (giverOf m) (componentOf m) (cellOf a (giverOf m) (componentOf m) - d)) × (natAbs x ≤ LARGEST)
+      → (y ≡ numberWith ch a (takerOf m) (componentOf m) (cellOf a (takerOf m) (componentOf m) + d)) × (natAbs y ≤ LARGEST)
       → Carried ch k (movedOf a m d) (set (set v (giverOf m) (toZ w64 (ofZ w64 x))) (takerOf m) (toZ w64 (ofZ w64 y)))
       × Small (set (set v (giverOf m) (toZ w64 (ofZ w64 x))) (takerOf m) (toZ w64 (ofZ w64 y))) k
   renumber-ok v x y cv sm p q =
@@ -119,7 +120,7 @@ module _ (ch : List ℕ) (k : ℕ) (a : List ℕ) (d m : ℕ) (so : Sound ch k a
         },
         record {
           most = sm .most;
-          each = two-put v k (giverOf m) (takerOf m) x y (cv .long) (sm .most) (b .from) (b .to) (λ s z. natAbs z ≤ 2000000000000) (λ s h u w. sm .each s h) (p .1) (q .1);
+          each = two-put v k (giverOf m) (takerOf m) x y (cv .long) (sm .most) (b .from) (b .to) (λ s z. natAbs z ≤ LARGEST) (λ s h u w. sm .each s h) (p .1) (q .1);
         },
       )
 

@@ -12,6 +12,7 @@ use lib.Seq.{getD-set-same, getD-set-other}
 use mir.Syntax.{w64}
 use mir.Val.{toZ, ofZ}
 use borrow.Author.Tests.{eqb-true, eqb-false, lt-ltb, le-ltb, ltb-true, ltb-false}
+use Rattle.ternary.specs.WorkingRule.{LARGEST}
 use Rattle.systems.specs.Systems.{COMPONENTS, memberOf}
 use Rattle.split.specs.Split.{SYSTEMS, CELLS, cellOf, systemOf, Sound}
 use Rattle.split.specs.Move.{componentOf, giverOf, takerOf, movedOf}
@@ -19,7 +20,7 @@ use Rattle.split.specs.Members.{three}
 use Rattle.split.specs.Moves.{cell-row}
 use Rattle.split.specs.Tests.{Fit}
 use Rattle.split.specs.Steps.{numberWith, bt, component-low, may-move}
-use Rattle.rows.specs.Rows.{listed, LARGEST}
+use Rattle.rows.specs.Rows.{listed}
 use Rattle.rows.specs.Carried.{Workable}
 use Rattle.search.specs.Tried.{TRIES, UNKNOWN, rowOf, columnIn, triedOf, wantedOf, Tried, Triable, Forgot}
 use Rattle.integer.specs.Bits.{back}

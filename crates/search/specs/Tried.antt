@@ -6,10 +6,11 @@ use mathlib.Core.Bool.{cond}
 use lib.Dec.{ltb}
 use lib.IntN.{ℤ, pos, natAbs}
 use lib.ListN.{getD, length}
+use Rattle.ternary.specs.WorkingRule.{LARGEST}
 use Rattle.systems.specs.Systems.{COMPONENTS}
 use Rattle.split.specs.Split.{SYSTEMS, CELLS}
 use Rattle.split.specs.Steps.{numberWith}
-use Rattle.rows.specs.Rows.{listed, LARGEST}
+use Rattle.rows.specs.Rows.{listed}
 use Rattle.rows.specs.Carried.{Workable}
 
 -- a try for each cell less the stride, then one for each cell with the stride more

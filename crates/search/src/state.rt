@@ -2,11 +2,12 @@
 ghost use mathlib.Core.Path.{_≡_};
 ghost use Prim.Native.Nat.{ℕ, _+_, _*_, _<_, _≤_};
 ghost use lib.IntN.{ℤ, natAbs};
+ghost use Rattle.ternary.specs.WorkingRule.{LARGEST};
 ghost use Rattle.ternary.specs.Partial.{partialNumber};
 ghost use Rattle.systems.specs.Systems.{memberOf, Candidate};
 ghost use Rattle.split.specs.Split.{SYSTEMS, cellOf, partsOf, Stock};
 ghost use Rattle.split.specs.Rating.{spreadOf};
-ghost use Rattle.rows.specs.Rows.{listed, LARGEST, Small};
+ghost use Rattle.rows.specs.Rows.{listed, Small};
 
 const COMPONENTS: usize = 4;
 

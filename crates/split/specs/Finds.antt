@@ -8,6 +8,7 @@ use lib.Dec.{ltb, leb, eqb}
 use lib.IntN.{ℤ, natAbs}
 use lib.ListN.{getD, replicate}
 use borrow.Author.Tests.{lt-ltb, le-leb, ltb-true, leb-true, eqb-false, ne-eqb, not-true}
+use Rattle.ternary.specs.WorkingRule.{LARGEST}
 use Rattle.systems.specs.Systems.{COMPONENTS, candidates, elem, Candidate}
 use Rattle.split.specs.Fold.{sumTo, allTo, someTo}
 use Rattle.split.specs.Split.{SYSTEMS, CELLS, systemOf, partsOf, columnOf, numberAt, both, Chosen, Stock, Sound}
@@ -107,7 +108,7 @@ pub record State (mix ch : List ℕ) (k allowance : ℕ) (b : List ℕ) (r : ℕ
   pub sound : Sound ch k b
   pub clean : Clean ch k b
   pub sums : (c : ℕ) → c < COMPONENTS → Shared mix ch k c → columnOf k b c ≡ getD mix c 0
-  pub small : (s : ℕ) → natAbs (numberAt ch b s) ≤ 2000000000000
+  pub small : (s : ℕ) → natAbs (numberAt ch b s) ≤ LARGEST
   pub falls : imbalanceOf (numberAt ch b) k + r ≤ imbalanceOf (numberAt ch (startOf mix ch k)) k
   pub rounds : r ≤ allowance
 

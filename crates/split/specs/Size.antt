@@ -6,13 +6,14 @@ use native.Mathlib.Nat as N
 use native.Mathlib.Omega.{arith}
 use lib.IntN.{ℤ, pos, negsuc, natAbs, _+ℤ_, _-ℤ_, _*ℤ_}
 use Rattle.integer.specs.Ring.{natAbs-+, natAbs--, natAbs-*, natAbs-quot}
+use Rattle.ternary.specs.WorkingRule.{LARGEST}
 use Rattle.ternary.specs.Partial.{partial-small}
 use Rattle.split.specs.Fold.{sumTo, sumToZ}
 use Rattle.split.specs.Split.{systemOf, amountOf, partsOf, numberAt}
 use Rattle.split.specs.Rating.{spreadOf, weightedOf, meanOf, inertNumber, ratingOf}
 use Rattle.split.specs.Spread.{near-spread}
 
-pub number-small : (ch a : List ℕ) (s : ℕ) → natAbs (numberAt ch a s) ≤ 2000000000000
+pub number-small : (ch a : List ℕ) (s : ℕ) → natAbs (numberAt ch a s) ≤ LARGEST
 unfolding numberAt
 number-small ch a s = partial-small (systemOf ch s) (amountOf ch a s 0) (amountOf ch a s 1) (amountOf ch a s 2)
 
@@ -21,10 +22,10 @@ spread-small ch k a =
     near-spread 4000000000000 (numberAt ch a) k
     (λ i j p q. omega (arith, natAbs-- (numberAt ch a i) (numberAt ch a j), number-small ch a i, number-small ch a j))
 
-times-small : (v : ℤ) (p : ℕ) → natAbs v ≤ 2000000000000 → natAbs (v *ℤ pos p) ≤ 2000000000000 * p
+times-small : (v : ℤ) (p : ℕ) → natAbs v ≤ LARGEST → natAbs (v *ℤ pos p) ≤ LARGEST * p
 times-small v p h = rw (natAbs-* v (pos p)) (N.mul-le-mul-right p h)
 
-pub weighted-small : (ch : List ℕ) (k : ℕ) (a : List ℕ) → natAbs (weightedOf ch k a) ≤ 2000000000000 * sumTo (partsOf ch a) k
+pub weighted-small : (ch : List ℕ) (k : ℕ) (a : List ℕ) → natAbs (weightedOf ch k a) ≤ LARGEST * sumTo (partsOf ch a) k
 unfolding weightedOf sumToZ sumTo
 weighted-small ch zero a = zero-le
 weighted-small ch (suc k) a =
@@ -35,13 +36,13 @@ weighted-small ch (suc k) a =
       times-small (numberAt ch a k) (partsOf ch a k) (number-small ch a k),
     )
 
-pub mean-small : (ch : List ℕ) (k : ℕ) (a : List ℕ) → sumTo (partsOf ch a) k ≤ 1000000 → natAbs (meanOf ch k a) ≤ 2000000000000
+pub mean-small : (ch : List ℕ) (k : ℕ) (a : List ℕ) → sumTo (partsOf ch a) k ≤ 1000000 → natAbs (meanOf ch k a) ≤ LARGEST
 unfolding meanOf
 mean-small ch k a h =
     rw (natAbs-quot (weightedOf ch k a) 1000000)
     (N.div-le-of-le-mul 1000000 (omega (arith, weighted-small ch k a)))
 
-pub inert-small : (n1 : ℕ) → natAbs (inertNumber n1) ≤ 2000000000000
+pub inert-small : (n1 : ℕ) → natAbs (inertNumber n1) ≤ LARGEST
 unfolding inertNumber
 inert-small n1 = partial-small 20 n1 (1000000 - n1) 0
 

@@ -4,27 +4,27 @@ use Prim.Native.Nat.{ℕ, _+_, _≤_}
 use native.Mathlib.Omega.{arith}
 use lib.IntN.{ℤ, natAbs}
 use Rattle.ternary.specs.Size.{horner-le, step-le}
-use Rattle.ternary.specs.WorkingRule.{stepZ, horner, coefs, sumAbs, worked, rowsOf}
+use Rattle.ternary.specs.WorkingRule.{stepZ, horner, coefs, sumAbs, worked, rowsOf, LARGEST}
 
 -- four steps: the rows 4 to 7, combined already, and the rows 3 to 0
 abbrev pub stepsOf : ℕ → ℕ → ℤ → ℤ → ℤ → ℤ → ℤ → ℤ
 stepsOf n d h r3 r2 r1 r0 = stepZ (stepZ (stepZ (stepZ h n d r3) n d r2) n d r1) n d r0
 
-module _ (h r3 r2 r1 r0 : ℤ) (n d : ℕ) (n≤d : n ≤ d) (small : natAbs h + natAbs r3 + natAbs r2 + natAbs r1 + natAbs r0 ≤ 2000000000000) where
-  pub room-3 : natAbs h + natAbs r3 ≤ 2000000000000
+module _ (h r3 r2 r1 r0 : ℤ) (n d : ℕ) (n≤d : n ≤ d) (small : natAbs h + natAbs r3 + natAbs r2 + natAbs r1 + natAbs r0 ≤ LARGEST) where
+  pub room-3 : natAbs h + natAbs r3 ≤ LARGEST
   room-3 = omega arith
 
-  pub room-2 : natAbs (stepZ h n d r3) + natAbs r2 ≤ 2000000000000
+  pub room-2 : natAbs (stepZ h n d r3) + natAbs r2 ≤ LARGEST
   room-2 = omega (arith, step-le h r3 n≤d)
 
-  pub room-1 : natAbs (stepZ (stepZ h n d r3) n d r2) + natAbs r1 ≤ 2000000000000
+  pub room-1 : natAbs (stepZ (stepZ h n d r3) n d r2) + natAbs r1 ≤ LARGEST
   room-1 = omega (arith, step-le h r3 n≤d, step-le (stepZ h n d r3) r2 n≤d)
 
-  pub room-0 : natAbs (stepZ (stepZ (stepZ h n d r3) n d r2) n d r1) + natAbs r0 ≤ 2000000000000
+  pub room-0 : natAbs (stepZ (stepZ (stepZ h n d r3) n d r2) n d r1) + natAbs r0 ≤ LARGEST
   room-0 = omega (arith, step-le h r3 n≤d, step-le (stepZ h n d r3) r2 n≤d, step-le (stepZ (stepZ h n d r3) n d r2) r1 n≤d)
 
 -- room for two numbers is room for their equals
-pub room-moved : {x x′ y y′ : ℤ} → x′ ≡ x → y′ ≡ y → natAbs x + natAbs y ≤ 2000000000000 → natAbs x′ + natAbs y′ ≤ 2000000000000
+pub room-moved : {x x′ y y′ : ℤ} → x′ ≡ x → y′ ≡ y → natAbs x + natAbs y ≤ LARGEST → natAbs x′ + natAbs y′ ≤ LARGEST
 room-moved e f h = omega (arith, ap natAbs e, ap natAbs f)
 
 -- ---- the rows of a list of coefficients
@@ -43,7 +43,7 @@ steps-moved n d p q r s t =
 
 module _ (a : ℕ → ℤ) (n1 n2 d e : ℕ) {h r3 r2 r1 r0 : ℤ} (h-is : h ≡ horner n1 d (coefs a 16 4)) (r3-is : r3 ≡ horner n2 e (coefs a 14 2)) (r2-is : r2 ≡ horner n2 e (coefs a 11 3)) (r1-is : r1 ≡ horner n2 e (coefs a 7 4)) (r0-is : r0 ≡ horner n2 e (coefs a 0 7)) where
   -- the rule of the coefficients leaves the rows room together
-  pub rows-room : n1 ≤ d → n2 ≤ e → sumAbs (coefs a 0 20) ≤ 2000000000000 → natAbs h + natAbs r3 + natAbs r2 + natAbs r1 + natAbs r0 ≤ 2000000000000
+  pub rows-room : n1 ≤ d → n2 ≤ e → sumAbs (coefs a 0 20) ≤ LARGEST → natAbs h + natAbs r3 + natAbs r2 + natAbs r1 + natAbs r0 ≤ LARGEST
   rows-room n1≤d n2≤e small =
       rw (h-is, r3-is, r2-is, r1-is, r0-is)
       (omega (arith, sums a, horner-le n1 d (coefs a 16 4) n1≤d, horner-le n2 e (coefs a 14 2) n2≤e, horner-le n2 e (coefs a 11 3) n2≤e, horner-le n2 e (coefs a 7 4) n2≤e, horner-le n2 e (coefs a 0 7) n2≤e))

@@ -4,7 +4,7 @@ use Prim.Native.Nat.{ℕ, zero, suc, _+_, _-_, _≤_, _<_}
 use native.Mathlib.Omega.{arith}
 use lib.IntN.{ℤ, pos, natAbs}
 use Rattle.ternary.specs.Size.{horner-le, part-le}
-use Rattle.ternary.specs.WorkingRule.{stepZ, horner, coefs, sumAbs}
+use Rattle.ternary.specs.WorkingRule.{stepZ, horner, coefs, sumAbs, LARGEST}
 use Rattle.ternary.proofs.Signs.{zero-step}
 
 -- before the loop: no coefficient yet
@@ -37,7 +37,7 @@ module _ (a : ℕ → ℤ) (n d i total : ℕ) (i>0 : 0 < i) (i≤total : i ≤ 
       ∙ row-next a n d (i - 1) (total - i)
       ∙ ap (λ (x : ℕ). horner n d (coefs a (i - 1) x)) (sym left)
 
-  pub row-room : (m : ℕ) → n ≤ d → total ≤ m → sumAbs (coefs a 0 m) ≤ 2000000000000 → natAbs (horner n d (coefs a i (total - i))) + natAbs (a (i - 1)) ≤ 2000000000000
+  pub row-room : (m : ℕ) → n ≤ d → total ≤ m → sumAbs (coefs a 0 m) ≤ LARGEST → natAbs (horner n d (coefs a i (total - i))) + natAbs (a (i - 1)) ≤ LARGEST
   row-room m n≤d t≤ h =
       omega (arith, horner-le n d (coefs a i (total - i)) n≤d, ap (λ (x : ℕ). sumAbs (coefs a x (total - i))) there, sum-next a (i - 1) (total - i), part-le a (i - 1) (suc (total - i)) m inside)
     where

@@ -12,7 +12,7 @@ use mir.Val.{Fits, SFits, toZ, ofZ}
 use mir.ValLaws.{toZ-ofZ, toZ-pos}
 use Rattle.integer.specs.Bits.{sfits-small}
 use Rattle.integer.specs.Ring.{natAbs-+, natAbs--, natAbs-neg}
-use Rattle.ternary.specs.WorkingRule.{stepZ}
+use Rattle.ternary.specs.WorkingRule.{stepZ, LARGEST}
 
 -- ---- over whole numbers
 
@@ -51,10 +51,10 @@ share-small x n (suc d) h = N.le-of-mul-le-mul-right {k = suc d} (N.le-trans (N.
 pub size-back : (a : ℤ) → SFits w64 a → natAbs (toZ w64 (ofZ w64 a)) ≡ natAbs a
 size-back a f = ap natAbs (toZ-ofZ w64 a f)
 
-pub size-le : (a : ℤ) → SFits w64 a → natAbs a ≤ 2000000000000 → natAbs (toZ w64 (ofZ w64 a)) ≤ 2000000000000
+pub size-le : (a : ℤ) → SFits w64 a → natAbs a ≤ LARGEST → natAbs (toZ w64 (ofZ w64 a)) ≤ LARGEST
 size-le a f h = rw (size-back a f) h
 
-pub cast-ok : (a : ℤ) → SFits w64 a → T (nonNeg a) → natAbs a ≤ 2000000000000 → T (nonNeg (toZ w64 (ofZ w64 a))) × Fits w64 (natAbs (toZ w64 (ofZ w64 a)))
+pub cast-ok : (a : ℤ) → SFits w64 a → T (nonNeg a) → natAbs a ≤ LARGEST → T (nonNeg (toZ w64 (ofZ w64 a))) × Fits w64 (natAbs (toZ w64 (ofZ w64 a)))
 cast-ok a f s h = (subst⁻¹ (λ (v : ℤ). T (nonNeg v)) (toZ-ofZ w64 a f) s, record { fits = N.lt-of-le-of-lt (size-le a f h) (lit< tt) })
 
 pub as-signed : (q : ℕ) → q ≤ 2000001000001 → SFits w64 (pos q)
@@ -65,14 +65,14 @@ share-is a q n d f h e = toZ-pos w64 q (N.lt-of-le-of-lt h (lit< tt)) ∙ ap pos
 
 -- ---- what `step` cites
 
-module _ (acc c : ℤ) (fa : SFits w64 acc) (fc : SFits w64 c) (small : natAbs acc + natAbs c ≤ 2000000000000) where
-  acc-le : natAbs acc ≤ 2000000000000
+module _ (acc c : ℤ) (fa : SFits w64 acc) (fc : SFits w64 c) (small : natAbs acc + natAbs c ≤ LARGEST) where
+  acc-le : natAbs acc ≤ LARGEST
   acc-le = omega arith
 
   moved-neg : pos 0 -ℤ toZ w64 (ofZ w64 acc) ≡ pos 0 -ℤ acc
   moved-neg = ap (λ (v : ℤ). pos 0 -ℤ v) (toZ-ofZ w64 acc fa)
 
-  neg-le : natAbs (pos 0 -ℤ acc) ≤ 2000000000000
+  neg-le : natAbs (pos 0 -ℤ acc) ≤ LARGEST
   neg-le = rw (neg-size acc) acc-le
 
   neg-fits : SFits w64 (pos 0 -ℤ acc)
@@ -87,10 +87,10 @@ module _ (acc c : ℤ) (fa : SFits w64 acc) (fc : SFits w64 c) (small : natAbs a
   sign-back : {b : Bool} → ltZ (toZ w64 (ofZ w64 acc)) (pos 0) ≡ b → ltZ acc (pos 0) ≡ b
   sign-back t = ap (λ (v : ℤ). ltZ v (pos 0)) (sym (toZ-ofZ w64 acc fa)) ∙ t
 
-  pub neg-asked : ltZ (toZ w64 (ofZ w64 acc)) (pos 0) ≡ true → T (nonNeg (toZ w64 (ofZ w64 (pos 0 -ℤ toZ w64 (ofZ w64 acc))))) × (natAbs (toZ w64 (ofZ w64 (pos 0 -ℤ toZ w64 (ofZ w64 acc)))) ≤ 2000000000000)
-  neg-asked t = (subst⁻¹ (λ (v : ℤ). T (nonNeg v)) neg-back (neg-sign acc (sign-back t)), subst⁻¹ (λ (v : ℤ). natAbs v ≤ 2000000000000) neg-back neg-le)
+  pub neg-asked : ltZ (toZ w64 (ofZ w64 acc)) (pos 0) ≡ true → T (nonNeg (toZ w64 (ofZ w64 (pos 0 -ℤ toZ w64 (ofZ w64 acc))))) × (natAbs (toZ w64 (ofZ w64 (pos 0 -ℤ toZ w64 (ofZ w64 acc)))) ≤ LARGEST)
+  neg-asked t = (subst⁻¹ (λ (v : ℤ). T (nonNeg v)) neg-back (neg-sign acc (sign-back t)), subst⁻¹ (λ (v : ℤ). natAbs v ≤ LARGEST) neg-back neg-le)
 
-  pub pos-asked : ltZ (toZ w64 (ofZ w64 acc)) (pos 0) ≡ false → T (nonNeg (toZ w64 (ofZ w64 acc))) × (natAbs (toZ w64 (ofZ w64 acc)) ≤ 2000000000000)
+  pub pos-asked : ltZ (toZ w64 (ofZ w64 acc)) (pos 0) ≡ false → T (nonNeg (toZ w64 (ofZ w64 acc))) × (natAbs (toZ w64 (ofZ w64 acc)) ≤ LARGEST)
   pos-asked t = (subst⁻¹ (λ (v : ℤ). T (nonNeg v)) (toZ-ofZ w64 acc fa) (pos-sign acc (sign-back t)), size-le acc fa acc-le)
 
   pub zero-is : (n d : ℕ) → ofZ w64 acc ≡ 0 → toZ w64 (ofZ w64 c) ≡ stepZ acc n d c

@@ -9,7 +9,7 @@ use lib.ListN.{getD}
 use lib.IntN.{ℤ, pos, natAbs}
 use Rattle.integer.specs.Tests.{both, both-left, both-right}
 use Rattle.ternary.specs.Size.{horner-le, worked-is, inner-le}
-use Rattle.ternary.specs.WorkingRule.{coefs, sumAbs, worked, rowsOf, innerOf}
+use Rattle.ternary.specs.WorkingRule.{coefs, sumAbs, worked, rowsOf, innerOf, LARGEST}
 use Rattle.ternary.specs.Coefficients.{tables, coeff}
 
 size : List ℤ → ℕ
@@ -17,19 +17,19 @@ size t = sumAbs (coefs (λ (i : ℕ). getD t i (pos 0)) 0 20)
 
 every : List (List ℤ) → Bool
 every [] = true
-every (t ∷ ts) = both (leb (size t) 2000000000000) (every ts)
+every (t ∷ ts) = both (leb (size t) LARGEST) (every ts)
 
-at-each : (ts : List (List ℤ)) → T (every ts) → (s : ℕ) → size (getD ts s []) ≤ 2000000000000
+at-each : (ts : List (List ℤ)) → T (every ts) → (s : ℕ) → size (getD ts s []) ≤ LARGEST
 unfolding every size sumAbs coefs
 at-each [] t s = zero-le
-at-each (x ∷ ts) t zero = leb→le (size x) 2000000000000 (both-left (leb (size x) 2000000000000) (every ts) t)
-at-each (x ∷ ts) t (suc s) = at-each ts (both-right (leb (size x) 2000000000000) (every ts) t) s
+at-each (x ∷ ts) t zero = leb→le (size x) LARGEST (both-left (leb (size x) LARGEST) (every ts) t)
+at-each (x ∷ ts) t (suc s) = at-each ts (both-right (leb (size x) LARGEST) (every ts) t) s
 
-pub small : (s : ℕ) → sumAbs (coefs (coeff s) 0 20) ≤ 2000000000000
+pub small : (s : ℕ) → sumAbs (coefs (coeff s) 0 20) ≤ LARGEST
 unfolding size every sumAbs coefs
 small s = at-each tables tt s
 
-pub worked-small : (s n1 n2 d : ℕ) → n1 ≤ d → n2 ≤ d → natAbs (worked n1 n2 d (rowsOf (coeff s))) ≤ 2000000000000
+pub worked-small : (s n1 n2 d : ℕ) → n1 ≤ d → n2 ≤ d → natAbs (worked n1 n2 d (rowsOf (coeff s))) ≤ LARGEST
 worked-small s n1 n2 d h1 h2 =
     rw (← worked-is (coeff s) n1 n2 d)
     (N.le-trans (horner-le n1 d (coefs (innerOf (coeff s) n2 d) 0 8) h1) (N.le-trans (inner-le (coeff s) n2 d h2) (small s)))

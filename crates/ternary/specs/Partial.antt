@@ -6,7 +6,7 @@ use native.Mathlib.Nat as N
 use native.Mathlib.Omega.{arith}
 use lib.IntN.{ℤ, pos, natAbs}
 use Rattle.integer.specs.Fraction.{Fraction, Within}
-use Rattle.ternary.specs.WorkingRule.{worked, rowsOf, exact}
+use Rattle.ternary.specs.WorkingRule.{worked, rowsOf, exact, LARGEST}
 use Rattle.ternary.specs.Coefficients.{coeffOf, systems, placeIn}
 use Rattle.ternary.specs.Error.{within}
 use Rattle.ternary.specs.Bound.{worked-small}
@@ -26,6 +26,6 @@ partial-within system n1 n2 n3 h =
     record { positive = N.one-le-pow 7 (n1 + n2 + n3) h; near = within n1 n2 (n1 + n2 + n3) (omega arith) (omega arith) h (coeffOf system) }
 
 -- and at most 2000000000000 units in magnitude
-pub partial-small : (system n1 n2 n3 : ℕ) → natAbs (partialNumber system n1 n2 n3) ≤ 2000000000000
+pub partial-small : (system n1 n2 n3 : ℕ) → natAbs (partialNumber system n1 n2 n3) ≤ LARGEST
 unfolding partialNumber
 partial-small system n1 n2 n3 = worked-small (placeIn systems system) n1 n2 (n1 + n2 + n3) (omega arith) (omega arith)

@@ -6,7 +6,7 @@ use Prim.Native.Nat.{ℕ, _*_, _/_, _%_, _≤_, _<_}
 abbrev pub scaledOf : ℕ → ℕ → ℕ
 scaledOf n d = n * (9223372036854775808 / d) / 1048576
 
--- high and low are its two halves, of 21 and 22 binary digits
+-- low is its last 22 binary digits, high the others
 pub record Precomputed (n d high low : ℕ) : Type 0 where
   pub n-le : n ≤ d
   pub d-pos : 0 < d

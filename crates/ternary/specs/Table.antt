@@ -3,10 +3,10 @@ use mathlib.Core.List.{List}
 use Prim.Native.Nat.{ℕ, _≤_}
 use lib.IntN.{ℤ, pos}
 use lib.ListN.{getD}
-use Rattle.ternary.specs.WorkingRule.{coefs, sumAbs}
+use Rattle.ternary.specs.WorkingRule.{coefs, sumAbs, LARGEST}
 
 abbrev pub inTable : List ℤ → ℕ → ℤ
 inTable t i = getD t i (pos 0)
 
 pub record Bounded (t : List ℤ) : Type 0 where
-  pub sum : sumAbs (coefs (inTable t) 0 20) ≤ 2000000000000
+  pub sum : sumAbs (coefs (inTable t) 0 20) ≤ LARGEST

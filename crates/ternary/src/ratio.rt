@@ -5,7 +5,7 @@ ghost use Prim.Native.Nat.{_+_, _*_, _/_, _<_, _≤_};
 ghost use lib.IntN.{ℤ, pos, natAbs};
 ghost use lib.Dec.{T};
 ghost use lib.Signed.{nonNeg};
-ghost use Rattle.ternary.specs.WorkingRule.{stepZ};
+ghost use Rattle.ternary.specs.WorkingRule.{stepZ, LARGEST};
 ghost use Rattle.ternary.specs.Precomputed.{Precomputed};
 
 // 1 / d is counted in 2^63ths.
@@ -43,7 +43,7 @@ pub(crate) fn ratio_of(n: u32, d: u64, inverse: u64) -> Ratio
 
 // One step of the working rule: n / d of acc, its fraction dropped towards zero, and the next coefficient c.
 pub(crate) fn step(acc: i64, c: i64, w: Ratio) -> i64
-    requires { ⌜ (natAbs acc + natAbs c ≤ 2000000000000) × Precomputed (w .n) (w .d) (w .high) (w .low) ⌝ }
+    requires { ⌜ (natAbs acc + natAbs c ≤ LARGEST) × Precomputed (w .n) (w .d) (w .high) (w .low) ⌝ }
     ensures { λ r. ⌜ r ≡ stepZ acc (w .n) (w .d) c ⌝ }
 {
     if acc < 0 {
@@ -57,7 +57,7 @@ pub(crate) fn step(acc: i64, c: i64, w: Ratio) -> i64
 
 // n / d of a, which is not negative, its fraction dropped: an estimate from below by the digits of n / d, and one correction.
 fn share(a: i64, w: Ratio) -> i64
-    requires { ⌜ T (nonNeg a) × (natAbs a ≤ 2000000000000) × Precomputed (w .n) (w .d) (w .high) (w .low) ⌝ }
+    requires { ⌜ T (nonNeg a) × (natAbs a ≤ LARGEST) × Precomputed (w .n) (w .d) (w .high) (w .low) ⌝ }
     ensures { λ r. ⌜ r ≡ pos (natAbs a * (w .n) / (w .d)) ⌝ }
 {
     let x = a as u64;

@@ -5,7 +5,7 @@ ghost use lib.IntN.{ℤ, natAbs};
 ghost use mathlib.Core.Bool.{true};
 ghost use Rattle.ternary.specs.Answer.{isSystem};
 ghost use Rattle.ternary.specs.Coefficients.{coeffOf};
-ghost use Rattle.ternary.specs.WorkingRule.{stepZ, horner, coefs, worked, rowsOf};
+ghost use Rattle.ternary.specs.WorkingRule.{stepZ, horner, coefs, worked, rowsOf, LARGEST};
 ghost use Rattle.ternary.specs.Precomputed.{Precomputed};
 ghost use Rattle.ternary.specs.Table.{inTable, Bounded};
 use super::coefficients::table;
@@ -55,7 +55,7 @@ fn row(t: &[i64; 20], at: usize, count: usize, w: Ratio) -> i64
 
 // Rows 0 to 3 and the higher rows, already combined, in v.
 fn combined(high: i64, r3: i64, r2: i64, r1: i64, r0: i64, v: Ratio) -> i64
-    requires { ⌜ (natAbs high + natAbs r3 + natAbs r2 + natAbs r1 + natAbs r0 ≤ 2000000000000) × Precomputed (v .n) (v .d) (v .high) (v .low) ⌝ }
+    requires { ⌜ (natAbs high + natAbs r3 + natAbs r2 + natAbs r1 + natAbs r0 ≤ LARGEST) × Precomputed (v .n) (v .d) (v .high) (v .low) ⌝ }
     ensures { λ r. ⌜ r ≡ stepZ (stepZ (stepZ (stepZ high (v .n) (v .d) r3) (v .n) (v .d) r2) (v .n) (v .d) r1) (v .n) (v .d) r0 ⌝ }
 {
     step(step(step(step(high, r3, v), r2, v), r1, v), r0, v)
