@@ -1,7 +1,7 @@
 // An analysis and its check: refusals 5 (out of range) and 6 (total).
 // No public function has a `requires`.
 ghost use mathlib.Core.Path.{_≡_};
-ghost use Prim.Native.Nat.{ℕ, _+_, _<_, _≤_};
+ghost use Prim.Native.Nat.{_+_, _<_, _≤_};
 ghost use lib.Dec.{eqb};
 ghost use Rattle.analysis.specs.Register.{CODES, ifElse};
 ghost use Rattle.analysis.specs.Packed.{rangeOf};

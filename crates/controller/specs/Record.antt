@@ -1,8 +1,6 @@
 -- Counts of units as doubles (document 01, "Writer, display, controller"). Assumes nothing.
 use mathlib.Core.Path.{_≡_, refl}
 use Prim.Native.Nat.{ℕ, _≤_}
-use native.Mathlib.Nat as N
-use native.Mathlib.Omega.{arith}
 use lib.Dec.{T, le→leb, lt→ltb}
 use lib.IntN.{ℤ, pos, negsuc, natAbs}
 use lib.Ieee.{Float, binary64, div, ofInt, ofBits, toBits, inFloat}

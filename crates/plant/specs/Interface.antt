@@ -2,7 +2,6 @@
 --
 -- A refusal leaves every buffer as it was. `x` is the answer of the library's function, and the other argument of a
 -- buffer's definition is what the buffer held.
-use mathlib.Core.Bool.{Bool, true, false}
 use mathlib.Core.List.{List, [], _∷_}
 use Prim.Native.Nat.{ℕ, _<_}
 use lib.Dec.{eqb}
@@ -12,7 +11,6 @@ use Rattle.analysis.specs.Register.{ifElse}
 use Rattle.ternary.specs.declared.Partial.{Partial}
 use Rattle.ternary.specs.declared.Partial.the-variants as partial
 use Rattle.sheet.specs.declared.Split.{Split}
-use Rattle.sheet.specs.declared.Sheet.{Sheet}
 use Rattle.sheet.specs.declared.Reading.{Reading}
 use Rattle.sheet.specs.declared.Reading.the-variants as reading
 use Rattle.sheet.specs.declared.Written.{Written}

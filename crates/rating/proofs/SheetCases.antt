@@ -1,13 +1,13 @@
 -- What the rating of a sheet meets. Assumes nothing.
-use mathlib.Core.Path.{_≡_, refl, sym, ap, ap₂, _∙_, subst}
+use mathlib.Core.Path.{_≡_, refl, sym, ap, _∙_, subst}
 use mathlib.Core.Bool.{Bool, true, false}
 use mathlib.Core.Logic.{_⊎_, inl, inr}
 use mathlib.Core.List.{List}
-use Prim.Native.Nat.{ℕ, zero, suc, _+_, _*_, _≤_, _<_}
+use Prim.Native.Nat.{ℕ, zero, suc, _+_}
 use native.Mathlib.Omega.{arith}
 use lib.Dec.{eqb}
-use lib.ListN.{getD, length}
-use borrow.Author.Tests.{eq-eqb, ne-eqb, eqb-true, eqb-false}
+use lib.ListN.{getD}
+use borrow.Author.Tests.{ne-eqb}
 use Rattle.analysis.specs.Register.{ifElse}
 use Rattle.analysis.specs.Check.{refusalOf}
 use Rattle.sheet.specs.Components.{codeRefusal, codesReading}
@@ -15,7 +15,6 @@ use Rattle.sheet.specs.Split.{noSplit}
 use Rattle.sheet.specs.Sheet.{sectionsOf}
 use Rattle.sheet.specs.Read as read
 use Rattle.sheet.specs.Read.{readOf, ReadAs, FaultIn, amountsRefusal, byAmounts, contentOf, withAnswer, afterCodes}
-use Rattle.sheet.specs.declared.Split.{Split}
 use Rattle.sheet.specs.declared.Sections.{Sections}
 use Rattle.sheet.specs.declared.Sections.the-variants as sections
 use Rattle.sheet.specs.declared.Reading.{Reading}
@@ -24,7 +23,7 @@ use Rattle.sheet.specs.declared.Sheet.{Sheet}
 use Rattle.split.specs.Rated.{IsRated}
 use Rattle.split.specs.declared.Answer.{Answer}
 use Rattle.split.specs.declared.Answer.the-variants.{Rated, Refused}
-use Rattle.rating.specs.Rate.{ROUNDS, splitAnswer, outcome, searchOutcome, readBy, sheetOutcome, numberOf, codeOf}
+use Rattle.rating.specs.Rate.{splitAnswer, outcome, searchOutcome, readBy, sheetOutcome, numberOf, codeOf}
 use Rattle.rating.specs.Sheets.{RatedOr, split-ends, search-ends, read-passed}
 use Rattle.rating.specs.declared.Outcome.{Outcome}
 

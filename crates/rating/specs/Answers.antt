@@ -1,5 +1,5 @@
 -- The answers by cases, for the third demand. Assumes nothing.
-use mathlib.Core.Path.{_≡_, refl, sym, ap, ap₂, _∙_, subst}
+use mathlib.Core.Path.{_≡_, refl, sym, ap, _∙_, subst}
 use mathlib.Core.Bool.{Bool, true, false}
 use mathlib.Core.List.{List}
 use Prim.Native.Nat.{ℕ, _+_, _*_, _≤_, _<_, min}
@@ -13,14 +13,13 @@ use Rattle.analysis.specs.Check.{refusalOf}
 use Rattle.sheet.specs.Split.{noSplit}
 use Rattle.sheet.specs.declared.Split.{Split}
 use Rattle.mixture.specs.Inert.{inertFirst}
-use Rattle.split.specs.Fold.{allTo, table}
+use Rattle.split.specs.Fold.{table}
 use Rattle.split.specs.Folds.{all-of}
 use Rattle.split.specs.Tables.{getD-table}
-use Rattle.split.specs.Split.{RECORDS, CELLS, cellsOf, amountsOf, numberAt}
-use Rattle.split.specs.Rating.{spreadOf, ratingOf, proposedOf}
+use Rattle.split.specs.Split.{RECORDS, cellsOf}
+use Rattle.split.specs.Rating.{ratingOf, proposedOf}
 use Rattle.split.specs.Rated.{IsRated, rated-is}
-use Rattle.split.specs.Start.{startOf}
-use Rattle.split.specs.Search.{LEVEL, searchOf}
+use Rattle.split.specs.Search.{LEVEL}
 use Rattle.split.specs.Finds.{Balance, input-fits, find-search, find-balanced}
 use Rattle.split.specs.PutBack.{put-back-records}
 use Rattle.split.specs.declared.Answer.{Answer}
@@ -29,7 +28,7 @@ use Rattle.split.specs.declared.Search.{Search}
 use Rattle.split.specs.declared.Search.the-variants.{Balanced, Unbalanced}
 use Rattle.split.specs.declared.Found.{Found}
 use Rattle.rating.specs.Records.{systemAt, codeAt, systemsOf, codesOf, matchesAt, fitsOf}
-use Rattle.rating.specs.Rate.{LIMIT, ROUNDS, mixOf, systemsFor, countFor, checkedBy, splitBy, splitAnswer, recordsOf, outcome, foundBy, foundOutcome, searched, searchOutcome, numberOf}
+use Rattle.rating.specs.Rate.{LIMIT, ROUNDS, mixOf, systemsFor, countFor, checkedBy, splitBy, splitAnswer, recordsOf, outcome, foundBy, foundOutcome, searched, searchOutcome}
 use Rattle.rating.specs.Ready.{room, shared, input}
 use Rattle.rating.specs.declared.Outcome.{Outcome}
 

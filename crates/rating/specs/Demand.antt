@@ -9,29 +9,25 @@
 --
 -- The public functions `rate_split`, `rate_by_search` and `rate_sheet` promise `splitAnswer`, `searchOutcome` and `sheetOutcome`, of
 -- which these theorems speak. `code` is the code that refusal 5 carries: any code at fault.
-use mathlib.Core.Path.{_≡_, refl, sym, ap, ap₂, _∙_, subst}
-use mathlib.Core.Bool.{Bool, true, false}
+use mathlib.Core.Path.{_≡_, refl, sym, _∙_, subst}
 use mathlib.Core.Logic.{_↔_, _⊎_}
 use mathlib.Core.List.{List}
-use Prim.Native.Nat.{ℕ, _+_, _*_, _≤_, _<_, min}
+use Prim.Native.Nat.{ℕ, _*_}
 use native.Mathlib.Omega.{arith}
-use lib.Dec.{eqb}
-use lib.IntN.{ℤ, natAbs}
-use lib.ListN.{getD, length}
+use lib.IntN.{ℤ}
+use lib.ListN.{length}
 use Rattle.integer.specs.Fraction.{Within}
-use Rattle.analysis.specs.Register.{ifElse}
 use Rattle.analysis.specs.Check.{refusalOf}
 use Rattle.sheet.specs.Read.{readOf}
 use Rattle.sheet.specs.declared.Split.{Split}
 use Rattle.sheet.specs.declared.Reading.the-variants.{Read}
 use Rattle.mixture.specs.Inert.{inertFirst}
 use Rattle.split.specs.Split.{cellsOf, numberAt}
-use Rattle.split.specs.Rating.{spreadOf, ratingOf, proposedOf}
+use Rattle.split.specs.Rating.{spreadOf, ratingOf}
 use Rattle.split.specs.Exact.{exactRating}
 use Rattle.split.specs.Fits.{Fit}
 use Rattle.split.specs.Rated.{IsRated, fit-rated, rated-fit}
 use Rattle.split.specs.Accuracy.{rated-within}
-use Rattle.split.specs.declared.Answer.{Answer}
 use Rattle.split.specs.declared.Answer.the-variants.{Rated, Refused}
 use Rattle.rating.specs.Records.{systemsOf, codesOf}
 use Rattle.rating.specs.Rate.{LIMIT, mixOf, systemsFor, countFor, splitAnswer, searchOutcome, sheetOutcome}

@@ -1,8 +1,8 @@
 -- What else is so of the answers: a larger allowance leaves a rating as it was, and ratings and spreads lie below 2^53,
 -- where a double holds every whole number. Assumes nothing.
-use mathlib.Core.Path.{_≡_, refl, sym, ap, _∙_, subst}
+use mathlib.Core.Path.{_≡_, sym, ap, _∙_}
 use mathlib.Core.List.{List}
-use Prim.Native.Nat.{ℕ, _*_, _≤_, _<_, min}
+use Prim.Native.Nat.{ℕ, _≤_, _<_, min}
 use native.Mathlib.Omega.{arith}
 use lib.IntN.{ℤ, natAbs}
 use lib.ListN.{length}
@@ -16,7 +16,7 @@ use Rattle.split.specs.Accuracy.{rated-small, rated-spread-small}
 use Rattle.split.specs.declared.Answer.the-variants.{Rated}
 use Rattle.split.specs.declared.Search.the-variants.{Balanced}
 use Rattle.split.specs.declared.Found.{Found}
-use Rattle.rating.specs.Rate.{LIMIT, ROUNDS, mixOf, systemsFor, countFor, foundOutcome, searched, splitAnswer, searchOutcome, outcome}
+use Rattle.rating.specs.Rate.{LIMIT, ROUNDS, mixOf, systemsFor, countFor, searched, splitAnswer, searchOutcome}
 use Rattle.rating.specs.Ready.{chosen, million, input}
 use Rattle.rating.specs.Answers.{split-rated, search-rated, found-back}
 

@@ -1,17 +1,13 @@
 -- The answers to an analysis with a proposed split, to an analysis by the search, and to a sheet
 -- (document 01, "The split and the rating", "The search", "What is turned away"). Assumes nothing.
-use mathlib.Core.Path.{_≡_}
 use mathlib.Core.List.{List}
-use mathlib.Core.Bool.{Bool, true, false}
-use Prim.Native.Nat.{ℕ, _+_, _*_, min}
+use Prim.Native.Nat.{ℕ, _*_, min}
 use lib.Dec.{eqb}
-use lib.ListN.{getD, length}
 use Rattle.analysis.specs.Register.{ifElse}
-use Rattle.analysis.specs.Check.{refusalOf, AtFault}
+use Rattle.analysis.specs.Check.{refusalOf}
 use Rattle.sheet.specs.Split.{noSplit}
-use Rattle.sheet.specs.Read.{readOf, FaultIn}
+use Rattle.sheet.specs.Read.{readOf}
 use Rattle.sheet.specs.declared.Split.{Split}
-use Rattle.sheet.specs.declared.Sheet.{Sheet}
 use Rattle.sheet.specs.declared.Reading.{Reading}
 use Rattle.sheet.specs.declared.Reading.the-variants as reading
 use Rattle.mixture.specs.Simplification.{simplifiedOf}

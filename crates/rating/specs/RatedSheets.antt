@@ -1,5 +1,5 @@
 -- A rated sheet's rating is that of a split of its analysis: the one it has, or the one that the search found. Assumes nothing.
-use mathlib.Core.Path.{_≡_, refl, sym, ap, _∙_, subst}
+use mathlib.Core.Path.{_≡_, refl, sym, subst}
 use mathlib.Core.Bool.{Bool, true, false}
 use mathlib.Core.List.{List}
 use Prim.Native.Nat.{ℕ}
@@ -13,10 +13,9 @@ use Rattle.sheet.specs.declared.Split.{Split}
 use Rattle.sheet.specs.declared.Reading.{Reading}
 use Rattle.sheet.specs.declared.Reading.the-variants as reading
 use Rattle.split.specs.Rated.{IsRated}
-use Rattle.split.specs.declared.Answer.{Answer}
 use Rattle.split.specs.declared.Answer.the-variants.{Rated, Refused}
 use Rattle.rating.specs.Rate.{ROUNDS, splitAnswer, outcome, searchOutcome, readBy, sheetOutcome}
-use Rattle.rating.specs.Answers.{split-rated, rated-zero, found-back}
+use Rattle.rating.specs.Answers.{rated-zero, found-back}
 use Rattle.rating.specs.Sheets.{read-long}
 
 -- the analysis of a sheet, and the split that is rated

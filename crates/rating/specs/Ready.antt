@@ -1,6 +1,6 @@
 -- What holds of an analysis that neither 5 nor 6 turns away: its mixture, its chosen systems and its inert mixture are
 -- such that every split of them can be worked out and the search can begin. Assumes nothing.
-use mathlib.Core.Path.{_≡_, refl, sym, ap, ap₂, _∙_, subst}
+use mathlib.Core.Path.{_≡_, refl, sym, ap, _∙_}
 use mathlib.Core.List.{List, [], _∷_}
 use mathlib.Core.Bool.{Bool, true, false, cond, _||_}
 use mathlib.Core.Logic.{inr}
@@ -10,17 +10,15 @@ use lib.ListN.{getD, length}
 use Rattle.analysis.specs.Register.{statusOf}
 use Rattle.analysis.specs.Check.{refusalOf}
 use Rattle.analysis.specs.Check as analysis
-use Rattle.analysis.specs.Ranges.{WithinRanges, within-ranges}
-use Rattle.mixture.specs.Scaling.{WHOLE}
+use Rattle.analysis.specs.Ranges.{within-ranges}
 use Rattle.mixture.specs.Simplification.{tenthsOf, tenthsTotal, simplifiedOf}
 use Rattle.mixture.specs.Inert.{inertFirst}
 use Rattle.mixture.specs.Share.{NearShare}
-use Rattle.mixture.specs.Bounds.{simplified-length, simplified-total, simplified-near, inert-greatest, tenths-greatest, tenths-positive, GREATEST_TENTHS}
+use Rattle.mixture.specs.Bounds.{simplified-length, simplified-total, simplified-near, inert-greatest, tenths-greatest, tenths-positive}
 use Rattle.systems.specs.Systems.{COMPONENTS, memberOf, hasOf, Candidate}
 use Rattle.systems.specs.Table.{each-candidate, to-true}
 use Rattle.systems.specs.Members.{countTo}
-use Rattle.systems.specs.Choice.{choiceOf}
-use Rattle.systems.specs.Chosen.{Choosable, choice-choosable}
+use Rattle.systems.specs.Chosen.{choice-choosable}
 use Rattle.split.specs.Fold.{sumTo}
 use Rattle.split.specs.Split.{RECORDS, systemOf, Chosen}
 use Rattle.split.specs.Sums.{totalOf}

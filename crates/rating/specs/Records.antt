@@ -1,7 +1,7 @@
 -- The records of a split of the chosen systems (document 01, "The split and the rating"). Assumes nothing.
 use Prim.Native.Nat.{ℕ, _+_, _*_, _/_, _%_}
 use mathlib.Core.List.{List, [], _∷_}
-use mathlib.Core.Bool.{Bool, true, false, cond}
+use mathlib.Core.Bool.{Bool, cond}
 use lib.Dec.{ltb, eqb}
 use lib.ListN.{getD}
 use Rattle.systems.specs.Systems.{COMPONENTS, hasOf}

@@ -3,12 +3,11 @@ use mathlib.Core.Path.{_≡_, refl, sym, ap, _∙_, subst}
 use mathlib.Core.Bool.{Bool, true, false}
 use mathlib.Core.Logic.{_⊎_, inl, inr}
 use mathlib.Core.List.{List}
-use Prim.Native.Nat.{ℕ, zero, suc, _+_, _*_, _≤_, _<_}
+use Prim.Native.Nat.{ℕ, zero, suc, _+_, _≤_}
 use native.Mathlib.Omega.{arith}
 use lib.Dec.{eqb, leb, ltb}
-use lib.IntN.{ℤ}
 use lib.ListN.{getD, length, length-set}
-use borrow.Author.Tests.{eqb-true, eqb-false}
+use borrow.Author.Tests.{eqb-false}
 use Rattle.analysis.specs.Register.{Status, live, retired, splitsOnly, unknown, statusOf, ifElse}
 use Rattle.analysis.specs.Check.{refusalBy, refusalOf, allInRange, totalFits, totalOf}
 use Rattle.sheet.specs.Bytes.{numberAt}
@@ -17,7 +16,7 @@ use Rattle.sheet.specs.Components.{codeRefusal, codesReading, amountsFrom, zero
 use Rattle.sheet.specs.Split.{noSplit}
 use Rattle.sheet.specs.Sheet.{sectionsOf}
 use Rattle.sheet.specs.Read as read
-use Rattle.sheet.specs.Read.{readOf, amountsOf, amountsRefusal, byAmounts, refusedSheet, contentOf, withAnswer, afterCodes}
+use Rattle.sheet.specs.Read.{readOf, amountsOf, amountsRefusal, byAmounts, contentOf, withAnswer, afterCodes}
 use Rattle.sheet.specs.Cases.{Whole, read-whole, read-good, amounts-back}
 use Rattle.sheet.specs.declared.Split.{Split}
 use Rattle.sheet.specs.declared.Sections.{Sections}

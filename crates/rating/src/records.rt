@@ -1,7 +1,7 @@
 // The records of a split and its cells: which system and component each record is of, and the amounts in
 // either order.
 ghost use mathlib.Core.Path.{_≡_};
-ghost use Prim.Native.Nat.{ℕ, _*_, _<_, _≤_};
+ghost use Prim.Native.Nat.{_*_, _<_, _≤_};
 ghost use lib.Dec.{eqb};
 ghost use Rattle.systems.specs.Systems.{COMPONENTS, Candidate};
 ghost use Rattle.split.specs.Split.{SYSTEMS, RECORDS, both, componentAt, cellsOf, Chosen};

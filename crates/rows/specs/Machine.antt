@@ -10,7 +10,6 @@ use lib.IntN.{ℤ, pos, negsuc, natAbs, _-ℤ_}
 use lib.Signed.{quotZ, ltZ, nonNeg}
 use mir.Syntax.{w64}
 use mir.Val.{SFits, Fits, toZ, ofZ}
-use mir.ValLaws.{toZ-ofZ}
 use Rattle.integer.specs.Bits.{sfits-small, back}
 use Rattle.integer.specs.Ring.{natAbs--, natAbs-quot}
 use mathlib.Core.List.{List}

@@ -1,6 +1,6 @@
 // The rows of a split: their partial numbers and their parts. No public function has a `requires`.
 ghost use mathlib.Core.Path.{_≡_};
-ghost use Prim.Native.Nat.{ℕ, _+_, _<_, _≤_};
+ghost use Prim.Native.Nat.{_+_, _<_, _≤_};
 ghost use Rattle.systems.specs.Systems.{memberOf, candidates, elem, Candidate};
 ghost use Rattle.split.specs.Split.{SYSTEMS, cellOf};
 ghost use Rattle.rows.specs.Rows.{partsIn, answerIn, none, rowsOf};

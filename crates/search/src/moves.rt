@@ -2,7 +2,7 @@
 ghost use mathlib.Core.Path.{_≡_};
 ghost use mathlib.Core.Bool.{true};
 ghost use Prim.Native.Nat.{ℕ, _+_, _*_, _-_, _<_, _≤_};
-ghost use lib.IntN.{ℤ, natAbs};
+ghost use lib.IntN.{natAbs};
 ghost use Rattle.ternary.specs.WorkingRule.{LARGEST};
 ghost use Rattle.split.specs.Fold.{sumTo};
 ghost use Rattle.split.specs.Split.{SYSTEMS, cellOf, numberAt, Chosen, Sound};

@@ -1,7 +1,7 @@
 // A row's parts and partial number, and the spread of some numbers.
 ghost use mathlib.Core.Path.{_≡_};
-ghost use Prim.Native.Nat.{ℕ, _+_, _*_, _<_, _≤_};
-ghost use lib.IntN.{ℤ, natAbs};
+ghost use Prim.Native.Nat.{_+_, _*_, _<_, _≤_};
+ghost use lib.IntN.{natAbs};
 ghost use Rattle.ternary.specs.WorkingRule.{LARGEST};
 ghost use Rattle.ternary.specs.Partial.{partialNumber};
 ghost use Rattle.systems.specs.Systems.{memberOf, Candidate};

@@ -1,13 +1,12 @@
 // The partial numbers that moves of one stride lead to, each worked out when it is first asked for and kept while its row stays.
 ghost use mathlib.Core.Path.{_≡_};
-ghost use Prim.Native.Nat.{ℕ, _+_, _*_, _-_, _/_, _%_, _<_, _≤_};
-ghost use lib.IntN.{ℤ, pos, natAbs};
+ghost use Prim.Native.Nat.{_+_, _*_, _-_, _/_, _%_, _<_, _≤_};
+ghost use lib.IntN.{natAbs};
 ghost use lib.ListN.{getD, length, replicate};
 ghost use Rattle.ternary.specs.WorkingRule.{LARGEST};
 ghost use Rattle.systems.specs.Systems.{memberOf, Candidate};
 ghost use Rattle.split.specs.Split.{SYSTEMS, CELLS};
 ghost use Rattle.split.specs.Steps.{insteadOf, numberWith};
-ghost use Rattle.rows.specs.Rows.{listed};
 ghost use Rattle.rows.specs.Carried.{Workable};
 ghost use Rattle.search.specs.Tried.{TRIES, UNKNOWN, triedOf, wantedOf, Triable, Tried, Forgot};
 use super::state::number;

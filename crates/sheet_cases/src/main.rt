@@ -9,7 +9,6 @@ use sheet::RECORDS;
 use sheet::Reading;
 use sheet::Split;
 use sheet::Written;
-ghost use Rattle.ternary.specs.WorkingRule.{LARGEST};
 
 // The largest buffer, and the byte that stands in every buffer before a writing.
 const LARGEST: usize = 112;

@@ -1,17 +1,16 @@
 -- What is so of the rating of a proposed split: it is less than 40 units from the exact one, and it and its spread lie
 -- below 2 ^ 53 (document 01, "The split and the rating", the third demand). Assumes nothing.
-use mathlib.Core.Path.{_≡_, refl, sym, ap, _∙_, subst}
+use mathlib.Core.Path.{_≡_, sym, _∙_, subst}
 use mathlib.Core.List.{List}
-use Prim.Native.Nat.{ℕ, _+_, _^_, _≤_, _<_}
+use Prim.Native.Nat.{ℕ, _≤_, _<_}
 use native.Mathlib.Nat as N
 use native.Mathlib.Omega.{arith}
 use lib.ListN.{length}
 use lib.IntN.{ℤ, natAbs}
 use Rattle.integer.specs.Fraction.{Within}
-use Rattle.systems.specs.Systems.{COMPONENTS}
 use Rattle.split.specs.Fold.{sumTo}
-use Rattle.split.specs.Split.{CELLS, partsOf, columnOf, numberAt, Chosen, Stock, Sound}
-use Rattle.split.specs.Rating.{spreadOf, ratingOf, proposedOf}
+use Rattle.split.specs.Split.{CELLS, partsOf, Chosen, Sound}
+use Rattle.split.specs.Rating.{ratingOf, proposedOf}
 use Rattle.split.specs.Clean.{Clean}
 use Rattle.split.specs.Exact.{NoneEmpty, exactRating, rating-within}
 use Rattle.split.specs.Fits.{Resums, Fit}

@@ -1,13 +1,13 @@
 -- A system with a first component is a candidate. Assumes nothing.
-use Prim.Native.Nat.{ℕ, zero, suc, _≤_, _<_}
-use mathlib.Core.Path.{_≡_, refl, sym, ap, _∙_}
+use Prim.Native.Nat.{ℕ, _≤_}
+use mathlib.Core.Path.{_≡_, refl, ap, _∙_}
 use mathlib.Core.Bool.{Bool, true, false, not}
 use native.Mathlib.Omega.{arith}
-use lib.Dec.{T, ltb, leb, eqb}
+use lib.Dec.{T, ltb}
 use borrow.Author.Tests.{ltb-true, ltb-false}
 use Rattle.systems.specs.Systems.{COMPONENTS, candidates, memberOf, elem}
 use Rattle.systems.specs.Members.{candidate-le, member-none}
-use Rattle.systems.specs.Table.{everyTo, eachTo}
+use Rattle.systems.specs.Table.{eachTo}
 
 abbrev same : Bool → Bool → Bool
 same true y = y

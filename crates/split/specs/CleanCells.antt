@@ -1,19 +1,18 @@
 -- A cell of a component that its row's system lacks, and a cell of a row past the chosen ones, is 0: of the start, and after every move. Assumes nothing.
-use Prim.Native.Nat.{ℕ, zero, suc, _+_, _*_, _-_, _/_, _%_, _^_, _≤_, _<_}
-use mathlib.Core.Path.{_≡_, refl, sym, ap, ap₂, _∙_}
+use Prim.Native.Nat.{ℕ, _+_, _*_, _-_, _/_, _%_, _^_, _≤_, _<_}
+use mathlib.Core.Path.{_≡_, refl, ap₂, _∙_}
 use mathlib.Core.Bool.{Bool, true, false}
 use mathlib.Core.List.{List}
 use native.Mathlib.Omega.{arith}
 use lib.Dec.{ltb}
-use lib.ListN.{length, getD, List·getD-eq-default}
+use lib.ListN.{length, List·getD-eq-default}
 use borrow.Author.Tests.{lt-ltb, ltb-true, ltb-false}
 use Rattle.systems.specs.Systems.{COMPONENTS, hasOf}
-use Rattle.split.specs.Split.{SYSTEMS, CELLS, cellOf, systemOf, heldOf, both, Sound}
+use Rattle.split.specs.Split.{SYSTEMS, CELLS, cellOf, systemOf, heldOf, Sound}
 use Rattle.split.specs.Start.{givenOf, startCell, startOf}
-use Rattle.split.specs.Move.{MOVES, componentOf, giverOf, takerOf, movedOf}
+use Rattle.split.specs.Move.{componentOf, giverOf, takerOf, movedOf}
 use Rattle.split.specs.Search.{turnOf, stepOf, runOf}
-use Rattle.split.specs.declared.Turn.the-variants.{Rate, Refuse, Move, Halve}
-use Rattle.split.specs.declared.Found.{Found}
+use Rattle.split.specs.declared.Turn.the-variants.{Move}
 use Rattle.split.specs.Tables.{length-table, getD-table}
 use Rattle.split.specs.Clean.{Clean}
 use Rattle.split.specs.Tests.{Fit, Between}

@@ -1,11 +1,11 @@
 -- The exact rating of a split, the same formulas with no fraction dropped, as a numerator over a denominator;
 -- a rating is less than 40 units from it (document 01, "The split and the rating"). Assumes nothing.
-use mathlib.Core.Path.{_≡_, refl, sym, ap, ap₂, _∙_}
+use mathlib.Core.Path.{_≡_, refl, ap, ap₂, _∙_}
 use mathlib.Core.List.{List}
 use Prim.Native.Nat.{ℕ, zero, suc, _+_, _*_, _-_, _^_, _≤_, _<_}
 use native.Mathlib.Nat as N
 use native.Mathlib.Omega.{arith}
-use lib.IntN.{ℤ, pos, negsuc}
+use lib.IntN.{pos, negsuc}
 use Rattle.integer.specs.Fraction.{Fraction, whole, plus, times, over, Within, Close}
 use Rattle.integer.specs.Distance.{close, looser, close-looser, close-whole, close-plus, close-times, within-plus, within-over}
 use Rattle.ternary.specs.Partial.{exactNumber, partial-within}

@@ -2,7 +2,7 @@
 use mathlib.Core.Path.{_≡_, refl}
 use mathlib.Core.List.{List, [], _∷_}
 use Prim.Native.Nat.{ℕ}
-use lib.IntN.{ℤ, pos, negsuc}
+use lib.IntN.{pos, negsuc}
 use Rattle.ternary.specs.WorkingRule.{worked, rowsOf, horner, coefs}
 use Rattle.ternary.specs.Coefficients.{placeIn}
 use Rattle.ternary.specs.Partial.{partialNumber}

@@ -1,5 +1,5 @@
 -- The search from a mixture and its chosen systems (document 01, "The search"), for every input. Assumes nothing.
-use Prim.Native.Nat.{ℕ, _+_, _*_, _≤_, _<_}
+use Prim.Native.Nat.{ℕ}
 use mathlib.Core.List.{List}
 use mathlib.Core.Bool.{Bool, true, false, not}
 use lib.Dec.{ltb, leb}
@@ -10,7 +10,7 @@ use Rattle.split.specs.Split.{SYSTEMS, CELLS, systemOf, both}
 use Rattle.split.specs.Rating.{someEmpty}
 use Rattle.split.specs.Start.{startOf}
 use Rattle.split.specs.Search.{LEVEL, found, searchOf}
-use Rattle.split.specs.declared.Search.the-variants.{Balanced, Unbalanced}
+use Rattle.split.specs.declared.Search.the-variants.{Unbalanced}
 use Rattle.split.specs.declared.Found.{Found}
 
 -- one or more chosen systems that there is room for, each a candidate

@@ -1,28 +1,28 @@
 -- What holds of every search from a mixture and its chosen systems: of each state that it reaches and of what it finds. Assumes nothing.
-use Prim.Native.Nat.{ℕ, zero, suc, _+_, _*_, _-_, _≤_, _<_}
+use Prim.Native.Nat.{ℕ, _+_, _-_, _≤_, _<_}
 use mathlib.Core.Path.{_≡_, refl, sym, ap, _∙_}
-use mathlib.Core.Bool.{Bool, true, false, not}
+use mathlib.Core.Bool.{Bool, true, false}
 use mathlib.Core.List.{List}
 use native.Mathlib.Omega.{arith}
 use lib.Dec.{ltb, leb, eqb}
-use lib.IntN.{ℤ, natAbs}
+use lib.IntN.{natAbs}
 use lib.ListN.{getD, replicate}
 use borrow.Author.Tests.{lt-ltb, le-leb, ltb-true, leb-true, eqb-false, ne-eqb, not-true}
 use Rattle.ternary.specs.WorkingRule.{LARGEST}
-use Rattle.systems.specs.Systems.{COMPONENTS, candidates, elem, Candidate}
-use Rattle.split.specs.Fold.{sumTo, allTo, someTo}
-use Rattle.split.specs.Split.{SYSTEMS, CELLS, systemOf, partsOf, columnOf, numberAt, both, Chosen, Stock, Sound}
+use Rattle.systems.specs.Systems.{COMPONENTS, candidates, elem}
+use Rattle.split.specs.Fold.{sumTo}
+use Rattle.split.specs.Split.{SYSTEMS, CELLS, systemOf, partsOf, columnOf, numberAt, Chosen, Stock, Sound}
 use Rattle.split.specs.Rating.{spreadOf, someEmpty}
 use Rattle.split.specs.Start.{startOf}
 use Rattle.split.specs.Move.{imbalanceOf}
-use Rattle.split.specs.Search.{LEVEL, found, runOf, searchOf}
+use Rattle.split.specs.Search.{LEVEL, found, searchOf}
 use Rattle.split.specs.Find.{chosenFit, mixtureFit, searchFit, findOf}
 use Rattle.split.specs.declared.Search.the-variants.{Balanced, Unbalanced}
 use Rattle.split.specs.declared.Found.{Found}
 use Rattle.split.specs.Folds.{all-each, all-of, some-each, some-of}
 use Rattle.split.specs.Members.{both-left, both-right}
 use Rattle.split.specs.Starts.{Shared, Supplied, start-sums, start-stock, start-sound}
-use Rattle.split.specs.Runs.{Kept, Reached, reached-kept, reached-falls, reached-rounds, result-kept, result-says, result-rounds, larger-allowance}
+use Rattle.split.specs.Runs.{Reached, reached-kept, reached-falls, reached-rounds, result-kept, result-says, result-rounds, larger-allowance}
 use Rattle.split.specs.Clean.{Clean}
 use Rattle.split.specs.Size.{number-small}
 use Rattle.split.specs.CleanCells.{start-clean, reached-clean, result-clean}

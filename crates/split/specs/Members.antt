@@ -1,9 +1,9 @@
 -- The three components of a candidate system as one record; tests of two Bools. Assumes nothing.
-use Prim.Native.Nat.{ℕ, zero, suc, _<_}
+use Prim.Native.Nat.{ℕ, _<_}
 use mathlib.Core.Path.{_≡_, refl}
 use mathlib.Core.Bool.{Bool, true, false}
 use native.Mathlib.Omega.{arith}
-use Rattle.systems.specs.Systems.{COMPONENTS, memberOf, hasOf, Candidate}
+use Rattle.systems.specs.Systems.{COMPONENTS, memberOf, Candidate}
 use Rattle.systems.specs.Members.{member-lt, members-apart}
 use Rattle.split.specs.Split.{both}
 

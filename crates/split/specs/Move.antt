@@ -1,8 +1,7 @@
 -- Moves: which there are, in their order, what one does, and the first that lowers the imbalance (document 01, "The search"). Assumes nothing.
-use Prim.Native.Nat.{ℕ, zero, suc, _+_, _*_, _-_, _/_, _%_, _≤_, _<_}
+use Prim.Native.Nat.{ℕ, _+_, _*_, _-_, _/_, _%_}
 use mathlib.Core.List.{List}
-use mathlib.Core.Bool.{Bool, true, false, not}
-use mathlib.Core.Path.{_≡_}
+use mathlib.Core.Bool.{Bool, not}
 use lib.IntN.{ℤ, pos, natAbs, _-ℤ_}
 use lib.Signed.{quotZ}
 use lib.Dec.{ltb, leb, eqb}

@@ -1,14 +1,13 @@
 -- A split that the search found, put back as a proposed one, is rated with the search's spread; its rating is less than
 -- 40 units from the exact one (document 01, the third demand). Assumes nothing.
-use mathlib.Core.Path.{_≡_, sym, ap, ap₂, _∙_}
+use mathlib.Core.Path.{_≡_, sym, ap, _∙_}
 use mathlib.Core.List.{List}
-use Prim.Native.Nat.{ℕ, _+_, _*_, _≤_, _<_}
+use Prim.Native.Nat.{ℕ, _*_, _≤_, _<_}
 use native.Mathlib.Nat as N
-use lib.IntN.{ℤ}
 use Rattle.integer.specs.Fraction.{Within}
 use Rattle.systems.specs.Systems.{COMPONENTS}
 use Rattle.split.specs.Split.{RECORDS, cellsOf, amountsOf, numberAt}
-use Rattle.split.specs.Rating.{spreadOf, ratingOf, proposedOf}
+use Rattle.split.specs.Rating.{ratingOf, proposedOf}
 use Rattle.split.specs.Starts.{Shared}
 use Rattle.split.specs.Finds.{Balance}
 use Rattle.split.specs.Spread.{spread-near}
@@ -18,7 +17,6 @@ use Rattle.split.specs.Rated.{fit-rated}
 use Rattle.split.specs.Sums.{totalOf}
 use Rattle.split.specs.Accuracy.{rated-within}
 use Rattle.split.specs.Records.{cells-back}
-use Rattle.split.specs.declared.Answer.{Answer}
 use Rattle.split.specs.declared.Answer.the-variants.{Rated}
 
 module _ (mix ch : List ℕ) (k limit allowance : ℕ) (a : List ℕ) (s r : ℕ) (balance : Balance mix ch k limit allowance a s r) (shared : (c : ℕ) → c < COMPONENTS → Shared mix ch k c) where

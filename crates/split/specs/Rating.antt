@@ -8,7 +8,7 @@ use lib.IntN.{ℤ, pos, negsuc, natAbs, _+ℤ_, _-ℤ_, _*ℤ_}
 use lib.Signed.{quotZ}
 use Rattle.ternary.specs.Partial.{partialNumber}
 use Rattle.systems.specs.Systems.{COMPONENTS}
-use Rattle.split.specs.Fold.{sumTo, sumToZ, greatestTo, leastTo, allTo, someTo}
+use Rattle.split.specs.Fold.{sumToZ, greatestTo, leastTo, allTo, someTo}
 use Rattle.split.specs.Split.{partsOf, columnOf, numberAt}
 use Rattle.split.specs.declared.Answer.{Answer}
 use Rattle.split.specs.declared.Answer.the-variants.{Rated, Refused}

@@ -3,14 +3,13 @@
 use mathlib.Core.Path.{_≡_, refl, sym, ap, ap₂, _∙_}
 use mathlib.Core.Bool.{Bool, true, false, cond}
 use mathlib.Core.List.{List}
-use Prim.Native.Nat.{ℕ, zero, suc, _+_, _*_, _/_, _%_, _≤_, _<_}
+use Prim.Native.Nat.{ℕ, _+_, _*_, _/_, _%_, _≤_, _<_}
 use native.Mathlib.Omega.{arith}
 use lib.Dec.{ltb}
 use lib.ListN.{getD, length, List·getD-eq-default}
 use lib.Seq.{ext-getD}
 use borrow.Author.Tests.{lt-ltb, le-ltb, ltb-true, ltb-false}
-use Rattle.systems.specs.Systems.{COMPONENTS, hasOf, Candidate}
-use Rattle.split.specs.Fold.{table}
+use Rattle.systems.specs.Systems.{COMPONENTS, hasOf}
 use Rattle.split.specs.Split.{SYSTEMS, CELLS, RECORDS, cellOf, systemOf, heldOf, both, rankOf, componentAt, cellsOf, amountsOf, Chosen}
 use Rattle.split.specs.Tables.{length-table, getD-table}
 use Rattle.split.specs.Clean.{Clean}

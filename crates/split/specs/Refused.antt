@@ -14,9 +14,8 @@ use Rattle.split.specs.Split.{numberAt}
 use Rattle.split.specs.Rating.{spreadOf, ratingOf, resums, someEmpty, verdict, proposedOf}
 use Rattle.split.specs.Spread.{EveryTwo, spread-near, near-spread}
 use Rattle.split.specs.Exact.{NoneEmpty}
-use Rattle.split.specs.Fits.{Resums, Fit, resums-yes, yes-resums, empty-no, no-empty}
+use Rattle.split.specs.Fits.{Resums, resums-yes, yes-resums, empty-no, no-empty}
 use Rattle.split.specs.Rated.{IsRated, refusalOf, proposed-unsummed, proposed-empty, proposed-wide, fit-rated, rated-fit}
-use Rattle.split.specs.declared.Answer.{Answer}
 use Rattle.split.specs.declared.Answer.the-variants.{Rated, Refused}
 
 fails : (b : Bool) {P : Type 0} → (b ≡ true → P) → (P → ⊥) → b ≡ false

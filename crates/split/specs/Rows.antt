@@ -1,14 +1,11 @@
 -- A row's amounts and parts are no more than the whole split's. Assumes nothing.
-use Prim.Native.Nat.{ℕ, zero, suc, _+_, _*_, _≤_, _<_}
-use mathlib.Core.Path.{_≡_, refl, sym, ap, ap₂, _∙_}
+use Prim.Native.Nat.{ℕ, _≤_, _<_}
 use mathlib.Core.List.{List}
 use native.Mathlib.Omega.{arith}
-use lib.ListN.{getD, length}
-use Rattle.systems.specs.Systems.{COMPONENTS, memberOf, Candidate}
-use Rattle.split.specs.Fold.{sumTo}
-use Rattle.split.specs.Split.{cellOf, systemOf, amountOf, partsOf, columnOf, Chosen, Stock}
+use Rattle.systems.specs.Systems.{COMPONENTS, memberOf}
+use Rattle.split.specs.Split.{cellOf, systemOf, partsOf, columnOf, Stock}
 use Rattle.split.specs.Folds.{sum-has, sum-three}
-use Rattle.split.specs.Members.{Three, three}
+use Rattle.split.specs.Members.{three}
 
 pub cell-in : (k : ℕ) (a : List ℕ) (s c : ℕ) → s < k → cellOf a s c ≤ columnOf k a c
 unfolding columnOf

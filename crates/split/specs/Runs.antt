@@ -1,24 +1,22 @@
 -- What holds of every search. Assumes nothing.
-use Prim.Native.Nat.{ℕ, zero, suc, _+_, _*_, _-_, _/_, _%_, _^_, _≤_, _<_}
-use mathlib.Core.Path.{_≡_, refl, sym, ap, subst, _∙_}
-use mathlib.Core.Bool.{Bool, true, false, cond}
-use mathlib.Core.List.{List, [], _∷_}
+use Prim.Native.Nat.{ℕ, zero, suc, _+_, _-_, _^_, _≤_, _<_}
+use mathlib.Core.Path.{_≡_, refl, sym, ap, _∙_}
+use mathlib.Core.Bool.{Bool, true, false}
+use mathlib.Core.List.{List}
 use native.Mathlib.Omega.{arith}
 use lib.Dec.{leb, ltb, eqb}
-use lib.ListN.{getD, length}
-use borrow.Author.Tests.{ne-eqb, leb-true, ltb-true, leb-false, ltb-false, eqb-true, eqb-false}
+use borrow.Author.Tests.{leb-true, ltb-true, leb-false, ltb-false, eqb-true, eqb-false}
 use Rattle.systems.specs.Systems.{COMPONENTS}
-use Rattle.split.specs.Split.{numberAt, columnOf, partsOf, Sound}
+use Rattle.split.specs.Split.{numberAt, columnOf, Sound}
 use Rattle.split.specs.Rating.{spreadOf}
-use Rattle.split.specs.Move.{MOVES, imbalanceOf, firstOf, movedOf, lowersOf}
+use Rattle.split.specs.Move.{MOVES, imbalanceOf, firstOf, lowersOf}
 use Rattle.split.specs.Search.{goOn, turnOf, stepOf, found, runOf, searchOf}
 use Rattle.split.specs.declared.Turn.{Turn}
 use Rattle.split.specs.declared.Turn.the-variants.{Rate, Refuse, Move, Halve}
-use Rattle.split.specs.declared.Search.{Search}
 use Rattle.split.specs.declared.Search.the-variants.{Balanced, Unbalanced}
 use Rattle.split.specs.declared.Found.{Found}
 use Rattle.split.specs.Steps.{moved-keeps}
-use Rattle.split.specs.Turns.{go-move, go-refuse, go-halve, turn-rate, turn-refuse, turn-on, Moves, moves, halves, under, sound-step, run-rate, run-refuse, run-move, run-halve}
+use Rattle.split.specs.Turns.{go-move, go-refuse, go-halve, turn-rate, turn-refuse, turn-on, moves, halves, under, sound-step, run-rate, run-refuse, run-move, run-halve}
 
 -- one induction over the turns serves every theorem
 module _ (ch : List ℕ) (k : ℕ) (limit allowance : ℕ) (P : List ℕ → ℕ → ℕ → Found → Type 0)

@@ -1,7 +1,7 @@
 -- The search (document 01, "The search"): what is done before and in each round, and what the rounds come to. Assumes nothing.
-use Prim.Native.Nat.{ℕ, zero, suc, _+_, _*_, _-_, _^_}
+use Prim.Native.Nat.{ℕ, zero, suc, _+_, _-_, _^_}
 use mathlib.Core.List.{List}
-use mathlib.Core.Bool.{Bool, true, false}
+use mathlib.Core.Bool.{true, false}
 use lib.Dec.{ltb, leb, eqb}
 use Rattle.split.specs.Split.{numberAt}
 use Rattle.split.specs.Rating.{spreadOf}

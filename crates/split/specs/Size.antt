@@ -1,10 +1,9 @@
 -- How large spreads, weighted sums and ratings are at most. Assumes nothing.
-use mathlib.Core.Path.{_≡_, refl, ap}
 use mathlib.Core.List.{List}
-use Prim.Native.Nat.{ℕ, zero, suc, _+_, _*_, _-_, _≤_, _<_, zero-le}
+use Prim.Native.Nat.{ℕ, zero, suc, _+_, _*_, _-_, _≤_, zero-le}
 use native.Mathlib.Nat as N
 use native.Mathlib.Omega.{arith}
-use lib.IntN.{ℤ, pos, negsuc, natAbs, _+ℤ_, _-ℤ_, _*ℤ_}
+use lib.IntN.{ℤ, pos, negsuc, natAbs, _+ℤ_, _*ℤ_}
 use Rattle.integer.specs.Ring.{natAbs-+, natAbs--, natAbs-*, natAbs-quot}
 use Rattle.ternary.specs.WorkingRule.{LARGEST}
 use Rattle.ternary.specs.Partial.{partial-small}

@@ -1,7 +1,7 @@
 -- The spread, greatest less smallest, is the widest distance of two numbers; so it is at most a limit exactly when
 -- every two numbers are at most that far apart. Assumes nothing.
 use mathlib.Core.Path.{_≡_, refl, sym, ap, _∙_, subst}
-use mathlib.Core.Bool.{Bool, true, false, not, cond}
+use mathlib.Core.Bool.{Bool, true, false}
 use mathlib.Core.Logic.{⊎-elim, _↔_}
 use mathlib.Core.List.{[], _∷_}
 use Prim.Native.Nat.{ℕ, zero, suc, _+_, _-_, _≤_, _<_, zero-le, max}
@@ -10,11 +10,11 @@ use native.Mathlib.Omega.{arith}
 use lib.Dec.{T, ltb, leb→le, le→leb, ltb→lt}
 use borrow.Author.Tests.{ltb-true, ltb-false}
 use lib.IntN.{ℤ, pos, negsuc, negℤ, natAbs, _+ℤ_, _-ℤ_, +ℤ-invr}
-use lib.Signed.{ltZ, leZ, _≤ℤ_, ltZ-no, leZ-yes, ≤ℤ-refl}
+use lib.Signed.{ltZ, _≤ℤ_, ltZ-no, leZ-yes, ≤ℤ-refl}
 use Rattle.integer.specs.Tests.{at-cond}
 use Rattle.integer.specs.Ring.{ring, natAbs-neg}
 use Rattle.integer.specs.Order.{≤ℤ-diff, ≤ℤ-more, ≤ℤ-trans, natAbs-upper}
-use Rattle.integer.specs.Normal.{E, X, _⊕_, ⊖, solve, env}
+use Rattle.integer.specs.Normal.{X, _⊕_, ⊖, solve, env}
 use Rattle.split.specs.Fold.{maxTo, greatestTo, leastTo}
 use Rattle.split.specs.Rating.{spreadOf}
 

@@ -1,7 +1,7 @@
 -- The split that a search begins with (document 01, "The search"). Assumes nothing.
-use Prim.Native.Nat.{ℕ, _+_, _*_, _/_, _%_}
+use Prim.Native.Nat.{ℕ, _+_, _/_, _%_}
 use mathlib.Core.List.{List}
-use mathlib.Core.Bool.{Bool, true, false, cond}
+use mathlib.Core.Bool.{true, false, cond}
 use lib.Dec.{ltb}
 use lib.ListN.{getD}
 use Rattle.systems.specs.Systems.{COMPONENTS, hasOf}

@@ -1,21 +1,18 @@
 -- The laws of the split that a search begins with. Assumes nothing.
 use Prim.Native.Nat.{ℕ, zero, suc, _+_, _*_, _-_, _/_, _%_, _≤_, _<_, min}
-use mathlib.Core.Path.{_≡_, refl, sym, ap, ap₂, subst, _∙_}
+use mathlib.Core.Path.{_≡_, refl, sym, ap, ap₂, _∙_}
 use mathlib.Core.Bool.{Bool, true, false, cond}
 use mathlib.Core.Logic.{_⊎_, inl, inr}
-use mathlib.Core.List.{List, [], _∷_}
+use mathlib.Core.List.{List}
 use native.Mathlib.Nat as N
-use native.Mathlib.Nat.{not-suc-le-zero, le-of-suc-le-suc}
 use native.Mathlib.Omega.{arith}
 use lib.Dec.{ltb, eqb}
-use lib.ListN.{length, getD, set, length-set}
-use lib.Seq.{getD-set-same, getD-set-other, ext-getD}
-use borrow.Author.Count.{below-more}
-use borrow.Author.Tests.{lt-ltb, le-ltb, ltb-true, ltb-false, eqb-true, eqb-false, eq-eqb, ne-eqb}
-use Rattle.systems.specs.Systems.{COMPONENTS, candidates, memberOf, hasOf, Candidate}
+use lib.ListN.{length, getD}
+use borrow.Author.Tests.{lt-ltb, le-ltb, ltb-true, ltb-false, eqb-true, eqb-false}
+use Rattle.systems.specs.Systems.{COMPONENTS, memberOf, hasOf}
 use Rattle.systems.specs.Members.{has-cases}
-use Rattle.split.specs.Fold.{sumTo, table}
-use Rattle.split.specs.Split.{SYSTEMS, CELLS, cellOf, systemOf, amountOf, partsOf, columnOf, heldOf, both, Chosen, Stock, Sound}
+use Rattle.split.specs.Fold.{sumTo}
+use Rattle.split.specs.Split.{SYSTEMS, CELLS, cellOf, systemOf, partsOf, columnOf, heldOf, Chosen, Stock, Sound}
 use Rattle.split.specs.Start.{sharersOf, shareOf, givenOf, startCell, startOf}
 use Rattle.split.specs.Tables.{length-table, getD-table}
 use Rattle.split.specs.Folds.{sum-more, sum-none, sum-same, sum-has}

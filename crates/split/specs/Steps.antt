@@ -1,19 +1,17 @@
 -- A move that may be made: what it needs, and what it leads to. Assumes nothing.
-use Prim.Native.Nat.{ℕ, _+_, _*_, _-_, _/_, _%_, _≤_, _<_}
-use mathlib.Core.Path.{_≡_, refl, sym, ap, ap₂, _∙_}
+use Prim.Native.Nat.{ℕ, _+_, _-_, _≤_, _<_}
+use mathlib.Core.Path.{_≡_, refl, sym}
 use mathlib.Core.Bool.{Bool, true, false, cond}
 use mathlib.Core.List.{List}
 use native.Mathlib.Omega.{arith}
-use lib.Dec.{ltb, eqb}
-use lib.ListN.{length, getD, set}
+use lib.Dec.{eqb}
 use lib.IntN.{ℤ}
 use borrow.Author.Tests.{eqb-true, eqb-false}
 use Rattle.systems.specs.Systems.{COMPONENTS, memberOf}
 use Rattle.ternary.specs.Partial.{partialNumber}
-use Rattle.split.specs.Fold.{sumTo}
-use Rattle.split.specs.Split.{SYSTEMS, CELLS, cellOf, systemOf, amountOf, partsOf, columnOf, numberAt, Sound}
-use Rattle.split.specs.Move.{MOVES, componentOf, giverOf, takerOf, shift, movedOf, betweenOf, affordsOf}
-use Rattle.split.specs.Members.{Three, three}
+use Rattle.split.specs.Split.{SYSTEMS, cellOf, systemOf, columnOf, numberAt, Sound}
+use Rattle.split.specs.Move.{MOVES, componentOf, giverOf, takerOf, movedOf}
+use Rattle.split.specs.Members.{Three}
 use Rattle.split.specs.Moves.{taken-fits, sound-after, number-other, column-same, cell-column, cell-giver, cell-taker}
 use Rattle.split.specs.Tests.{Fit, Between, between-true, Affords, affords-true}
 

@@ -1,19 +1,19 @@
 -- The parts of all rows are the columns' sums, so a split that re-sums has as many parts as the mixture
 -- (document 01, "The split and the rating"). Assumes nothing.
-use mathlib.Core.Path.{_≡_, refl, sym, ap, ap₂, _∙_}
+use mathlib.Core.Path.{_≡_, refl, sym, ap, _∙_}
 use mathlib.Core.Bool.{Bool, true, false, cond}
 use mathlib.Core.List.{List}
 use Prim.Native.Nat.{ℕ, zero, suc, _+_, _≤_, _<_}
 use native.Mathlib.Nat as N
 use native.Mathlib.Omega.{arith}
-use lib.Dec.{eqb, ltb}
+use lib.Dec.{eqb}
 use lib.ListN.{getD}
 use borrow.Author.Tests.{eq-eqb, ne-eqb, lt-ltb}
 use Rattle.systems.specs.Systems.{COMPONENTS, memberOf, hasOf, Candidate}
 use Rattle.systems.specs.Members.{member-lt, members-apart}
 use Rattle.split.specs.Fold.{sumTo}
 use Rattle.split.specs.Folds.{sum-same, sum-but, sum-has}
-use Rattle.split.specs.Split.{cellOf, systemOf, partsOf, columnOf, heldOf, both, Chosen}
+use Rattle.split.specs.Split.{cellOf, systemOf, partsOf, columnOf, heldOf, Chosen}
 use Rattle.split.specs.Clean.{Clean}
 use Rattle.split.specs.Fits.{Resums}
 

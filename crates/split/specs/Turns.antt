@@ -1,22 +1,19 @@
 -- The laws of a turn, and of the turns that follow one another. Assumes nothing.
-use Prim.Native.Nat.{ℕ, zero, suc, _+_, _*_, _-_, _/_, _^_, _≤_, _<_}
-use mathlib.Core.Path.{_≡_, refl, sym, ap, subst, _∙_}
+use Prim.Native.Nat.{ℕ, suc, _+_, _-_, _^_, _≤_, _<_}
+use mathlib.Core.Path.{_≡_, refl, ap, _∙_}
 use mathlib.Core.Bool.{Bool, true, false}
 use mathlib.Core.List.{List}
-use native.Mathlib.Nat.{add-zero}
 use native.Mathlib.Omega.{arith}
 use lib.Dec.{leb, ltb, eqb}
-use lib.ListN.{getD}
 use borrow.Author.Tests.{le-leb, lt-leb, lt-ltb, le-ltb, eq-eqb, ne-eqb, leb-true, ltb-true, leb-false, ltb-false, eqb-true, eqb-false}
 use Rattle.split.specs.Split.{numberAt, Sound}
 use Rattle.split.specs.Rating.{spreadOf}
 use Rattle.split.specs.Move.{MOVES, canOf, lowersOf, firstOf}
 use Rattle.split.specs.Search.{goOn, turnOf, stepOf, found, runOf, searchOf}
-use Rattle.split.specs.declared.Turn.{Turn}
 use Rattle.split.specs.declared.Turn.the-variants.{Rate, Refuse, Move, Halve}
 use Rattle.split.specs.declared.Search.the-variants.{Balanced, Unbalanced}
 use Rattle.split.specs.declared.Found.{Found}
-use Rattle.split.specs.Tests.{Fit, Can, can-true, can-fit}
+use Rattle.split.specs.Tests.{Fit, can-true, can-fit}
 use Rattle.split.specs.Steps.{sound-moved}
 use Rattle.split.specs.Folds.{first-holds}
 

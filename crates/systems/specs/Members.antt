@@ -8,7 +8,7 @@ use lib.Dec.{T, eqb, ltb, leb, eqb→eq, ltb→lt, leb→le}
 use lib.ListN.{getD, length, List·getD-eq-default}
 use borrow.Author.Tests.{eqb-true, eq-eqb, ne-eqb}
 use Rattle.systems.specs.Systems.{COMPONENTS, members, memberOf, hasOf, elem, Candidate}
-use Rattle.systems.specs.Table.{each, each-candidate, everyTo, eachTo, to-true, of-true}
+use Rattle.systems.specs.Table.{each-candidate, everyTo, eachTo, to-true, of-true}
 
 -- the number of the numbers below n that the test passes at
 unfoldable pub countTo : (ℕ → Bool) → ℕ → ℕ

@@ -1,6 +1,6 @@
 -- A system's table keeps the rule of the coefficients, and its number is the partial number. Assumes nothing.
-use mathlib.Core.Path.{_≡_, refl, sym, ap, _∙_, subst⁻¹}
-use mathlib.Core.Bool.{Bool, true, false}
+use mathlib.Core.Path.{_≡_, sym, ap, _∙_, subst⁻¹}
+use mathlib.Core.Bool.{true, false}
 use mathlib.Core.List.{List}
 use Prim.Native.Nat.{ℕ, _+_, _-_, _≤_, _<_}
 use native.Mathlib.Omega.{arith}
@@ -11,7 +11,6 @@ use Rattle.ternary.specs.Bound.{small}
 use Rattle.ternary.specs.Table.{inTable, Bounded}
 use Rattle.ternary.specs.Partial.{partialNumber}
 use Rattle.ternary.specs.Answer.{isSystem, tableOf, isMixture, partialOf, partial-is, partial-12}
-use Rattle.ternary.specs.declared.Partial.{Partial}
 use Rattle.ternary.specs.declared.Partial.the-variants.{Number, Refused}
 
 pub small-table : (s : ℕ) (t : List ℤ) → t ≡ tableOf s → Bounded t

@@ -1,6 +1,6 @@
 -- The rule of the coefficients: each list's magnitudes add up to at most 2000000000000 units, by one computed test of all lists; so no
 -- partial number is larger. Assumes nothing.
-use mathlib.Core.Bool.{Bool, true, false}
+use mathlib.Core.Bool.{Bool, true}
 use mathlib.Core.List.{List, [], _∷_}
 use Prim.Native.Nat.{ℕ, zero, suc, _≤_, zero-le}
 use native.Mathlib.Nat as N

@@ -1,7 +1,7 @@
 -- The coefficients of the five systems in units (001 Table 5, Mix1 to Mix5; a(2,2) of system 20 as 000 prints it): a(k,l) times
 -- 100 ^ (k + l), by rows, row k with l rising. Assumes nothing.
 use mathlib.Core.List.{List, [], _∷_}
-use mathlib.Core.Bool.{Bool, true, false}
+use mathlib.Core.Bool.{true, false}
 use Prim.Native.Nat.{ℕ, suc}
 use lib.Dec.{eqb}
 use lib.IntN.{ℤ, pos, negsuc}

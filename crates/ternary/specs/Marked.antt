@@ -1,6 +1,6 @@
 -- The marked figures of partial numbers (document 01, "Gases and their figures"), computed. Assumes nothing.
 use mathlib.Core.Path.{_≡_, refl}
-use lib.IntN.{ℤ, pos}
+use lib.IntN.{pos}
 use Rattle.ternary.specs.WorkingRule.{worked, rowsOf, horner, coefs}
 use Rattle.ternary.specs.Coefficients.{placeIn}
 use Rattle.ternary.specs.Partial.{partialNumber}

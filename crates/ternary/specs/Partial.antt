@@ -1,10 +1,8 @@
 -- A partial number of a system at three amounts (000 A.3.4; document 01, "A partial number"): as worked out, and exactly. Assumes nothing.
-use mathlib.Core.Path.{_≡_, refl}
-use mathlib.Core.List.{List, [], _∷_}
-use Prim.Native.Nat.{ℕ, zero, suc, _+_, _*_, _^_, _≤_, _<_}
+use Prim.Native.Nat.{ℕ, _+_, _^_, _≤_, _<_}
 use native.Mathlib.Nat as N
 use native.Mathlib.Omega.{arith}
-use lib.IntN.{ℤ, pos, natAbs}
+use lib.IntN.{ℤ, natAbs}
 use Rattle.integer.specs.Fraction.{Fraction, Within}
 use Rattle.ternary.specs.WorkingRule.{worked, rowsOf, exact, LARGEST}
 use Rattle.ternary.specs.Coefficients.{coeffOf, systems, placeIn}

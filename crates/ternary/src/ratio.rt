@@ -2,7 +2,7 @@
 // by multiplications with n / d in binary digits in place of a division.
 ghost use mathlib.Core.Path.{_≡_};
 ghost use Prim.Native.Nat.{_+_, _*_, _/_, _<_, _≤_};
-ghost use lib.IntN.{ℤ, pos, natAbs};
+ghost use lib.IntN.{pos, natAbs};
 ghost use lib.Dec.{T};
 ghost use lib.Signed.{nonNeg};
 ghost use Rattle.ternary.specs.WorkingRule.{stepZ, LARGEST};

@@ -1,7 +1,7 @@
 // The working rule over a lent table of twenty coefficients: each row in n2, then the rows in n1.
 ghost use mathlib.Core.Path.{_≡_};
 ghost use Prim.Native.Nat.{_+_, _<_, _≤_};
-ghost use lib.IntN.{ℤ, natAbs};
+ghost use lib.IntN.{natAbs};
 ghost use mathlib.Core.Bool.{true};
 ghost use Rattle.ternary.specs.Answer.{isSystem};
 ghost use Rattle.ternary.specs.Coefficients.{coeffOf};

@@ -1,12 +1,10 @@
 -- Rounding down after one division towards zero: the remainder says whether the quotient is one too high, right or one too low,
 -- and nothing leaves 64 bits. Assumes nothing.
-use mathlib.Core.Path.{_≡_, refl, sym, ap, ap₂, _∙_, subst, subst⁻¹}
-use mathlib.Core.Bool.{Bool, true, false}
-use mathlib.Core.List.{[], _∷_}
-use Prim.Native.Nat.{ℕ, zero, suc, _+_, _-_, _*_, _/_, _≤_, _<_}
-use native.Mathlib.Nat as N
+use mathlib.Core.Path.{_≡_, sym, ap, _∙_, subst, subst⁻¹}
+use mathlib.Core.Bool.{true, false}
+use Prim.Native.Nat.{ℕ, suc, _+_, _-_, _*_, _≤_, _<_}
 use native.Mathlib.Omega.{arith}
-use lib.Dec.{T, lit<, ltb→lt, nltb→le, ltb}
+use lib.Dec.{T, lit<}
 use lib.IntN.{ℤ, pos, negsuc, natAbs, _+ℤ_, _-ℤ_, _*ℤ_, +ℤ-idr}
 use lib.Signed.{quotZ, remZ, ltZ, natAbs-le}
 use borrow.Author.Tests.{ltb-true, ltb-false}
@@ -16,7 +14,6 @@ use mir.ValLaws.{toZ-ofZ}
 use Rattle.integer.specs.Bits.{sfits-small}
 use Rattle.integer.specs.Ring.{ring, natAbs-+, natAbs--, natAbs-quot, quot-rem, rem-lt}
 use Rattle.integer.specs.Order.{sub-ge, sub-lt}
-use Rattle.integer.specs.Normal.{E, X, K, _⊕_, _⊗_, ⊖, solve, env}
 use Rattle.integer.specs.Floor.{floor-unique, neg-split}
 use Rattle.whole.specs.Whole.{wholeNumber}
 

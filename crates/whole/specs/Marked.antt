@@ -1,6 +1,6 @@
 -- The marked whole numbers (document 01, "Gases and their figures"), computed. Assumes nothing.
 use mathlib.Core.Path.{_≡_, refl}
-use lib.IntN.{ℤ, pos, negsuc}
+use lib.IntN.{pos, negsuc}
 use Rattle.whole.specs.Whole.{wholeNumber}
 
 pub record MarkedWholes : Type 0 where

@@ -6,20 +6,13 @@ use mir.ValLaws.{toZ-ofZ}
 use Rattle.controller.specs.Record.{methaneNumber, recordOf}
 use Rattle.controller.proofs.record.Statement.{statement}
 use Rattle.controller.proofs.record.Tie as tie
-use Rattle.controller.proofs.record.Reads as reads
-use Rattle.controller.proofs.record.Lts as lts
-use Rattle.controller.proofs.signed.Reads as signed-reads
-use Rattle.controller.proofs.unsigned.Reads as unsigned-reads
 
--- src/lib.rt:20:17
 signed-requires : tie.Need-signed-requires
 signed-requires c κs = search needs
 
--- src/lib.rt:21:17
 unsigned-requires : tie.Need-unsigned-requires
 unsigned-requires c κs = search needs
 
--- src/lib.rt:16:1
 returns : tie.Need-returns
 unfolding recordOf
 returns c =

@@ -7,15 +7,10 @@ use mir.ValLaws.{toZ-ofZ}
 use Rattle.controller.specs.Record.{methaneNumber}
 use Rattle.controller.proofs.signed.Statement.{statement}
 use Rattle.controller.proofs.signed.Tie as tie
-use Rattle.controller.proofs.signed.Reads as reads
-use Rattle.controller.proofs.signed.Lts as lts
-use Rattle.std.proofs.num.nearest_i64_to_f64.Reads as nearest-i64-to-f64-reads
 
--- src/lib.rt:28:5
 nearest-i64-to-f64-requires : tie.Need-nearest-i64-to-f64-requires
 nearest-i64-to-f64-requires c κs = search needs
 
--- src/lib.rt:25:1
 returns : tie.Need-returns
 unfolding methaneNumber
 returns c =

@@ -5,15 +5,10 @@ use lib.Ieee.{Float, binary64, div, ofBits}
 use Rattle.controller.specs.Record.{methaneNumber}
 use Rattle.controller.proofs.unsigned.Statement.{statement}
 use Rattle.controller.proofs.unsigned.Tie as tie
-use Rattle.controller.proofs.unsigned.Reads as reads
-use Rattle.controller.proofs.unsigned.Lts as lts
-use Rattle.std.proofs.num.nearest_u64_to_f64.Reads as nearest-u64-to-f64-reads
 
--- src/lib.rt:34:5
 nearest-u64-to-f64-requires : tie.Need-nearest-u64-to-f64-requires
 nearest-u64-to-f64-requires c κs = search needs
 
--- src/lib.rt:31:1
 returns : tie.Need-returns
 unfolding methaneNumber
 returns c =

@@ -1,14 +1,11 @@
 -- `plant::proposed` meets its contract. Assumes nothing.
-use mathlib.Core.Path.{_≡_, sym, ap, _∙_, subst}
+use mathlib.Core.Path.{_≡_, sym, subst}
 use lib.ListN.{length}
 use Rattle.plant.specs.Interface.{SmallFigures}
 use Rattle.plant.specs.Small.{split-small}
 use borrow.Author.Needs.{needs}
 use Rattle.plant.proofs.proposed.Statement.{statement}
 use Rattle.plant.proofs.proposed.Tie as tie
-use Rattle.plant.proofs.proposed.Reads as reads
-use Rattle.plant.proofs.proposed.Lts as lts
-use Rattle.rating.proofs.rate_split.Reads as rate-split-reads
 
 rate-split-requires : tie.Need-rate-split-requires
 rate-split-requires c κs = search needs

@@ -3,8 +3,6 @@ use Rattle.plant.proofs.Cases.{spread-fits, put-rated, put-refused}
 use borrow.Author.Needs.{needs}
 use Rattle.plant.proofs.put_figures.Statement.{statement}
 use Rattle.plant.proofs.put_figures.Tie as tie
-use Rattle.plant.proofs.put_figures.Reads as reads
-use Rattle.plant.proofs.put_figures.Lts as lts
 
 enum-known-answer : tie.Need-enum-known-answer
 enum-known-answer c = search needs

@@ -3,8 +3,6 @@ use Rattle.plant.proofs.Cases.{column-put, column-left}
 use borrow.Author.Needs.{needs}
 use Rattle.plant.proofs.put_split.Statement.{statement}
 use Rattle.plant.proofs.put_split.Tie as tie
-use Rattle.plant.proofs.put_split.Reads as reads
-use Rattle.plant.proofs.put_split.Lts as lts
 
 enum-told : tie.Need-enum-told
 enum-told c = search needs

@@ -1,6 +1,5 @@
 -- `plant::read_refused` meets its contract. Assumes nothing.
 use mathlib.Core.Path.{ap}
-use Prim.Native.Nat.{ℕ}
 use Rattle.plant.specs.Interface.{reply}
 use Rattle.plant.proofs.Sheets.{place-five, place-other}
 use Rattle.plant.proofs.read_refused.Statement.{statement}

@@ -1,5 +1,5 @@
 -- `plant::saugrinte_controller` meets its contract. Assumes nothing.
-use mathlib.Core.Path.{_≡_, sym, ap, _∙_, subst}
+use mathlib.Core.Path.{ap, _∙_}
 use mir.Syntax.{w64}
 use mir.ValLaws.{toZ-ofZ}
 use lib.IntN.{ℤ}
@@ -7,9 +7,6 @@ use Rattle.controller.specs.Record.{recordOf}
 use borrow.Author.Needs.{needs}
 use Rattle.plant.proofs.saugrinte_controller.Statement.{statement}
 use Rattle.plant.proofs.saugrinte_controller.Tie as tie
-use Rattle.plant.proofs.saugrinte_controller.Reads as reads
-use Rattle.plant.proofs.saugrinte_controller.Lts as lts
-use Rattle.controller.proofs.record.Reads as record-reads
 
 record-requires : tie.Need-record-requires
 record-requires c κs = search needs

@@ -1,14 +1,11 @@
 -- `plant::saugrinte_partial_number` meets its contract. Assumes nothing.
-use mathlib.Core.Path.{_≡_, sym, ap, _∙_, subst}
+use mathlib.Core.Path.{sym, _∙_}
 use mir.Syntax.{w64}
 use mir.ValLaws.{toZ-ofZ}
 use Rattle.plant.proofs.Cases.{partial-done, partial-refused}
 use borrow.Author.Needs.{needs}
 use Rattle.plant.proofs.saugrinte_partial_number.Statement.{statement}
 use Rattle.plant.proofs.saugrinte_partial_number.Tie as tie
-use Rattle.plant.proofs.saugrinte_partial_number.Reads as reads
-use Rattle.plant.proofs.saugrinte_partial_number.Lts as lts
-use Rattle.ternary.proofs.partial_number.Reads as partial-number-reads
 
 partial-number-requires : tie.Need-partial-number-requires
 partial-number-requires c κs = search needs

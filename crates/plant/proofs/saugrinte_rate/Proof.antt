@@ -1,5 +1,5 @@
 -- `plant::saugrinte_rate` meets its contract. Assumes nothing.
-use mathlib.Core.Path.{_≡_, sym, ap, _∙_, subst}
+use mathlib.Core.Path.{sym, ap, subst}
 use Rattle.split.specs.declared.Answer.{Answer}
 use Rattle.rating.specs.declared.Outcome.{Outcome}
 use Rattle.plant.specs.Interface.{SmallFigures}
@@ -12,10 +12,6 @@ use Rattle.plant.proofs.Cases.{reply-is, figures-are, fault-at}
 use borrow.Author.Needs.{needs}
 use Rattle.plant.proofs.saugrinte_rate.Statement.{statement}
 use Rattle.plant.proofs.saugrinte_rate.Tie as tie
-use Rattle.plant.proofs.saugrinte_rate.Reads as reads
-use Rattle.plant.proofs.saugrinte_rate.Lts as lts
-use Rattle.plant.proofs.put_figures.Reads as put-figures-reads
-use Rattle.rating.proofs.rate_sheet.Reads as rate-sheet-reads
 
 rate-sheet-requires : tie.Need-rate-sheet-requires
 rate-sheet-requires c κs = search needs

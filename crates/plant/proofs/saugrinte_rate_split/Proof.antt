@@ -1,5 +1,4 @@
 -- `plant::saugrinte_rate_split` meets its contract. Assumes nothing.
-use mathlib.Core.Path.{_≡_, sym, ap, _∙_, subst}
 use Rattle.analysis.specs.Check.{AtFault}
 use Prim.Native.Nat.{ℕ}
 use Rattle.split.specs.declared.Answer.{Answer}
@@ -9,10 +8,6 @@ use Rattle.plant.proofs.Cases.{reply-is, figures-are, fault-at}
 use borrow.Author.Needs.{needs}
 use Rattle.plant.proofs.saugrinte_rate_split.Statement.{statement}
 use Rattle.plant.proofs.saugrinte_rate_split.Tie as tie
-use Rattle.plant.proofs.saugrinte_rate_split.Reads as reads
-use Rattle.plant.proofs.saugrinte_rate_split.Lts as lts
-use Rattle.plant.proofs.proposed.Reads as proposed-reads
-use Rattle.plant.proofs.put_figures.Reads as put-figures-reads
 
 proposed-requires : tie.Need-proposed-requires
 proposed-requires c κs = search needs

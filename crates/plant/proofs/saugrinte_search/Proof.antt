@@ -1,5 +1,5 @@
 -- `plant::saugrinte_search` meets its contract. Assumes nothing.
-use mathlib.Core.Path.{_≡_, sym, ap, _∙_, subst}
+use mathlib.Core.Path.{ap, _∙_}
 use Rattle.analysis.specs.Check.{AtFault}
 use Prim.Native.Nat.{ℕ}
 use Rattle.split.specs.declared.Answer.{Answer}
@@ -10,11 +10,6 @@ use Rattle.plant.proofs.Cases.{reply-is, figures-are, fault-at, outcome
 use borrow.Author.Needs.{needs}
 use Rattle.plant.proofs.saugrinte_search.Statement.{statement}
 use Rattle.plant.proofs.saugrinte_search.Tie as tie
-use Rattle.plant.proofs.saugrinte_search.Reads as reads
-use Rattle.plant.proofs.saugrinte_search.Lts as lts
-use Rattle.plant.proofs.put_figures.Reads as put-figures-reads
-use Rattle.plant.proofs.put_split.Reads as put-split-reads
-use Rattle.plant.proofs.searched.Reads as searched-reads
 
 searched-requires : tie.Need-searched-requires
 searched-requires c κs = search needs

@@ -1,14 +1,11 @@
 -- `plant::saugrinte_whole_number` meets its contract. Assumes nothing.
-use mathlib.Core.Path.{_≡_, sym, ap, _∙_, subst}
+use mathlib.Core.Path.{ap, _∙_}
 use mir.Syntax.{w64}
 use mir.ValLaws.{toZ-ofZ}
 use Rattle.whole.specs.Whole.{wholeNumber}
 use borrow.Author.Needs.{needs}
 use Rattle.plant.proofs.saugrinte_whole_number.Statement.{statement}
 use Rattle.plant.proofs.saugrinte_whole_number.Tie as tie
-use Rattle.plant.proofs.saugrinte_whole_number.Reads as reads
-use Rattle.plant.proofs.saugrinte_whole_number.Lts as lts
-use Rattle.whole.proofs.whole_number.Reads as whole-number-reads
 
 whole-number-requires : tie.Need-whole-number-requires
 whole-number-requires c κs = search needs

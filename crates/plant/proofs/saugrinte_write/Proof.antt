@@ -3,9 +3,6 @@ use Rattle.plant.proofs.Sheets.{written-done, written-refused}
 use borrow.Author.Needs.{needs}
 use Rattle.plant.proofs.saugrinte_write.Statement.{statement}
 use Rattle.plant.proofs.saugrinte_write.Tie as tie
-use Rattle.plant.proofs.saugrinte_write.Reads as reads
-use Rattle.plant.proofs.saugrinte_write.Lts as lts
-use Rattle.writer.proofs.write.Reads as write-reads
 
 write-requires : tie.Need-write-requires
 write-requires c κs = search needs

@@ -1,5 +1,5 @@
 -- `plant::searched` meets its contract. Assumes nothing.
-use mathlib.Core.Path.{_≡_, sym, ap, _∙_, subst}
+use mathlib.Core.Path.{_≡_, sym, ap, subst}
 use lib.ListN.{length}
 use Rattle.rating.specs.declared.Outcome.{Outcome}
 use Rattle.plant.specs.Interface.{SmallFigures}
@@ -7,9 +7,6 @@ use Rattle.plant.specs.Small.{search-small}
 use borrow.Author.Needs.{needs}
 use Rattle.plant.proofs.searched.Statement.{statement}
 use Rattle.plant.proofs.searched.Tie as tie
-use Rattle.plant.proofs.searched.Reads as reads
-use Rattle.plant.proofs.searched.Lts as lts
-use Rattle.rating.proofs.rate_by_search.Reads as rate-by-search-reads
 
 rate-by-search-requires : tie.Need-rate-by-search-requires
 rate-by-search-requires c κs = search needs

@@ -1,5 +1,5 @@
 -- `proposal::column` meets its contract: the sum of the first s rows, each at most 4294967295. Assumes nothing.
-use Prim.Native.Nat.{ℕ, _+_, _*_, _-_, _≤_, _<_}
+use Prim.Native.Nat.{_*_, _-_, _≤_}
 use mathlib.Core.Path.{_≡_, refl, _∙_}
 use native.Mathlib.Omega.{arith}
 use Rattle.split.specs.Split.{cellOf, columnOf}

@@ -1,6 +1,5 @@
 -- `proposal::resums` meets its contract: the columns before c add up. Assumes nothing.
-use Prim.Native.Nat.{ℕ, _+_, _*_, _-_, _≤_, _<_}
-use mathlib.Core.Path.{_≡_, sym, ap, _∙_}
+use Prim.Native.Nat.{_-_, _≤_}
 use native.Mathlib.Omega.{arith}
 use borrow.Author.Needs.{needs}
 use Rattle.proposal.proofs.Checks.{Summed, summed-none, summed-more, unsummed, summed-all}

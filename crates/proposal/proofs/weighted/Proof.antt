@@ -1,17 +1,14 @@
+-- `proposal::weighted` meets its contract. Assumes nothing.
 use Rattle.integer.specs.Bits.{read-back}
 use Rattle.proposal.proofs.Weights.{WeighedTo, weighed-none, weigh-asks, weighed-more, weighed-all}
 use Rattle.rows.specs.Machine.{at-back}
 use mir.Val.{toZ}
 use mir.Syntax.{w64}
-use borrow.Author.Needs.{needs}
-use mathlib.Core.Path.{_≡_, refl, sym, ap, ap₂, _∙_}
-use Prim.Native.Nat.{ℕ, zero, suc, _+_, _*_, _-_, _/_, _%_, _^_, _≤_, _<_}
+use mathlib.Core.Path.{refl, _∙_}
+use Prim.Native.Nat.{_-_}
 use native.Mathlib.Omega.{arith}
 use Rattle.proposal.proofs.weighted.Statement.{statement}
 use Rattle.proposal.proofs.weighted.Tie as tie
-use Rattle.proposal.proofs.weighted.Reads as reads
-use Rattle.proposal.proofs.weighted.Lts as lts
-use Rattle.proposal.proofs.weigh.Reads as weigh-reads
 
 abbrev Inv-loop : tie.InvT-loop
 Inv-loop v p k sum₀ s₀ sum s = WeighedTo v p k s (toZ w64 sum)
@@ -19,43 +16,33 @@ Inv-loop v p k sum₀ s₀ sum s = WeighedTo v p k s (toZ w64 sum)
 abbrev μ-loop : tie.MeasureT-loop
 μ-loop v p k sum₀ s₀ sum s = k - s
 
--- src/lib.rt:86:5
 loop-holds : tie.Need-loop-holds Inv-loop μ-loop
 loop-holds c = weighed-none _ _ _
 
--- src/lib.rt:87:26
 mul-weigh : tie.Need-mul-weigh Inv-loop μ-loop
 mul-weigh c = omega arith
 
--- src/lib.rt:87:26
 element-copy-out-weigh : tie.Need-element-copy-out-weigh Inv-loop μ-loop
 element-copy-out-weigh c = omega (arith, c .before .before .pre .small .most)
 
--- src/lib.rt:87:32
 mul-weigh-2 : tie.Need-mul-weigh-2 Inv-loop μ-loop
 mul-weigh-2 c = omega arith
 
--- src/lib.rt:87:32
 element-copy-out-weigh-2 : tie.Need-element-copy-out-weigh-2 Inv-loop μ-loop
 element-copy-out-weigh-2 c = omega (arith, c .before .before .before .pre .small .most, c .before .loop-test .taken)
 
--- src/lib.rt:87:9
 weigh-requires : tie.Need-weigh-requires Inv-loop μ-loop
 weigh-requires c κs = weigh-asks _ _ _ (c .before .before .before .before .pre) _ _ _ _ (c .before .before .before .loop .inv) (c .before .before .loop-test .taken) (at-back _ _ _ (c .before .before .before .before .pre .small) (c .before .before .loop-test .taken)) refl
 
--- src/lib.rt:88:9
 add-s : tie.Need-add-s Inv-loop μ-loop
 add-s c = omega arith
 
--- src/lib.rt:86:5
 loop-less : tie.Need-loop-less Inv-loop μ-loop
 loop-less c = omega arith
 
--- src/lib.rt:86:5
 loop-again : tie.Need-loop-again Inv-loop μ-loop
 loop-again c = weighed-more _ _ _ (c .before .before .before .before .before .pre) _ _ _ _ (c .before .before .before .before .loop .inv) (c .before .before .before .loop-test .taken) (at-back _ _ _ (c .before .before .before .before .before .pre .small) (c .before .before .before .loop-test .taken)) refl _ (read-back (c .weigh .result) (c .weigh .ok) ∙ c .weigh .ensures)
 
--- src/lib.rt:80:1
 returns : tie.Need-returns Inv-loop μ-loop
 returns c = weighed-all _ _ _ (c .before .before .pre) _ _ (c .before .loop .inv) (c .loop-test .left)
 

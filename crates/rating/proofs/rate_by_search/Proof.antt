@@ -1,18 +1,10 @@
 -- `rating::rate_by_search` meets its contract. Assumes nothing.
 use Rattle.rating.proofs.CallCases.{in-range, turned-away, search-away-is, given-proposal, found-fit, search-in, search-not-five}
-use mathlib.Core.Path.{_≡_, sym, ap, _∙_}
+use mathlib.Core.Path.{_≡_}
 use lib.ListN.{length}
 use borrow.Author.Needs.{needs}
 use Rattle.rating.proofs.rate_by_search.Statement.{statement}
 use Rattle.rating.proofs.rate_by_search.Tie as tie
-use Rattle.rating.proofs.rate_by_search.Reads as reads
-use Rattle.rating.proofs.rate_by_search.Lts as lts
-use Rattle.mixture.proofs.simplify.Reads as simplify-reads
-use Rattle.rating.proofs.at_most.Reads as at-most-reads
-use Rattle.rating.proofs.found_outcome.Reads as found-outcome-reads
-use Rattle.rating.proofs.refused.Reads as refused-reads
-use Rattle.search.proofs.find.Reads as find-reads
-use Rattle.choice.proofs.choose.Reads as choose-reads
 
 simplify-requires : tie.Need-simplify-requires
 simplify-requires c κs = search needs

@@ -1,48 +1,32 @@
 -- `rating::rate_sheet` meets its contract. Assumes nothing.
 use Rattle.rating.proofs.SheetCases.{passed, sheet-refused-is, sheet-read, sheet-not-five}
-use mathlib.Core.Path.{_≡_, sym, ap, _∙_, subst}
 use Rattle.sheet.specs.Read.{ReadAs}
-use Rattle.rating.specs.Rate.{numberOf, codeOf}
 use borrow.Author.Needs.{needs}
 use Rattle.rating.proofs.rate_sheet.Statement.{statement}
 use Rattle.rating.proofs.rate_sheet.Tie as tie
-use Rattle.rating.proofs.rate_sheet.Reads as reads
-use Rattle.rating.proofs.rate_sheet.Lts as lts
-use Rattle.rating.proofs.carried.Reads as carried-reads
-use Rattle.rating.proofs.rate_read.Reads as rate-read-reads
-use Rattle.rating.proofs.refused.Reads as refused-reads
-use Rattle.reader.proofs.read.Reads as read-reads
 
--- src/lib.rt:88:9
 read-requires : tie.Need-read-requires
 read-requires c κs = search needs
 
--- src/lib.rt:93:28
 enum-known-answer : tie.Need-enum-known-answer
 enum-known-answer c = search needs
 
--- src/lib.rt:93:69
 carried-requires : tie.Need-carried-requires
 carried-requires c κs = search needs
 
--- src/lib.rt:93:53
 refused-requires : tie.Need-refused-requires
 refused-requires c κs = search needs
 
--- src/lib.rt:94:26
 enum-told : tie.Need-enum-told
 enum-told c = search needs
 
--- src/lib.rt:94:26
 rate-read-requires : tie.Need-rate-read-requires
 rate-read-requires c κs = passed _ _ (record { sheet = c .before .before .before .before .read .ensures .0; code = c .before .before .before .before .read .ensures .1 }) (c .enum-told .given .1)
 
--- src/lib.rt:84:1
 returns : tie.Need-returns
 returns c = sheet-refused-is _ _ (record { sheet = c .before .before .before .before .before .before .before .read .ensures .0; code = c .before .before .before .before .before .before .before .read .ensures .1 }) _ _ _ (c .before .before .before .answer .given .1) _ _
     (c .before .carried .ensures) (c .refused .ensures)
 
--- src/lib.rt:84:1
 returns-2 : tie.Need-returns-2
 returns-2 c = let e0 = c .before .before .before .before .before .read .ensures in
     let h : ReadAs (c .before .before .before .before .before .before .before .args .s .now) (c .before .before .before .before .before .read .result) = record { sheet = e0 .0; code = e0 .1 } in

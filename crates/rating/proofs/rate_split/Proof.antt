@@ -1,15 +1,10 @@
 -- `rating::rate_split` meets its contract. Assumes nothing.
 use Rattle.rating.proofs.CallCases.{in-range, turned-away, split-away, given-proposal, given-room, split-in, split-not-five}
-use mathlib.Core.Path.{_≡_, sym, ap, _∙_}
+use mathlib.Core.Path.{_≡_}
 use lib.ListN.{length}
 use borrow.Author.Needs.{needs}
 use Rattle.rating.proofs.rate_split.Statement.{statement}
 use Rattle.rating.proofs.rate_split.Tie as tie
-use Rattle.rating.proofs.rate_split.Reads as reads
-use Rattle.rating.proofs.rate_split.Lts as lts
-use Rattle.mixture.proofs.simplify.Reads as simplify-reads
-use Rattle.rating.proofs.split_by.Reads as split-by-reads
-use Rattle.choice.proofs.choose.Reads as choose-reads
 
 simplify-requires : tie.Need-simplify-requires
 simplify-requires c κs = search needs

@@ -1,36 +1,28 @@
+-- `rows::amount` meets its contract. Assumes nothing.
 use Rattle.split.specs.Split.{cellOf}
 use Rattle.systems.specs.Members.{member-lt}
-use mathlib.Core.Path.{_≡_, refl, sym, ap, ap₂, _∙_}
-use Prim.Native.Nat.{ℕ, zero, suc, _+_, _*_, _-_, _/_, _%_, _^_, _≤_, _<_}
+use mathlib.Core.Path.{ap}
+use Prim.Native.Nat.{_-_}
 use native.Mathlib.Omega.{arith}
 use borrow.Author.Needs.{needs}
 use Rattle.rows.proofs.amount.Statement.{statement}
 use Rattle.rows.proofs.amount.Tie as tie
-use Rattle.rows.proofs.amount.Reads as reads
-use Rattle.rows.proofs.amount.Lts as lts
-use Rattle.systems.proofs.member.Reads as member-reads
 
--- src/lib.rt:49:9
 member-requires : tie.Need-member-requires
 member-requires c κs = search needs
 
--- src/lib.rt:50:13
 mul-i : tie.Need-mul-i
 mul-i c = search needs
 
--- src/lib.rt:50:13
 add-i : tie.Need-add-i
 add-i c = omega (arith, c .member .ensures, member-lt _ (c .before .pre .0) _ (c .before .pre .2))
 
--- src/lib.rt:51:5
 mul-result : tie.Need-mul-result
 mul-result c = omega (arith, c .member .ensures, member-lt _ (c .before .pre .0) _ (c .before .pre .2))
 
--- src/lib.rt:51:5
 element-copy-out-result : tie.Need-element-copy-out-result
 element-copy-out-result c = omega (arith, c .member .ensures, member-lt _ (c .before .pre .0) _ (c .before .pre .2))
 
--- src/lib.rt:45:1
 returns : tie.Need-returns
 returns c = ap (cellOf (c .before .before .args .a .now) (c .before .before .args .s)) (c .before .member .ensures)
 

@@ -1,3 +1,4 @@
+-- `rows::evaluate` meets its contract. Assumes nothing.
 use mathlib.Core.Bool.{true}
 use Rattle.rows.specs.Laws.{Front, front-next, front-none, none-tested, rows-many, rows-unfit, row-unfit, may-parts, more-numbers, more-parts, more-tested, rows-fit, front-all}
 use Rattle.rows.specs.Rows.{rowFit}
@@ -5,16 +6,11 @@ use Rattle.split.specs.Split.{SYSTEMS, partsOf, numberAt}
 use Rattle.split.specs.Fold.{allTo}
 use lib.IntN.{pos}
 use borrow.Author.Needs.{needs}
-use mathlib.Core.Path.{_≡_, refl, sym, ap, ap₂, _∙_}
-use Prim.Native.Nat.{ℕ, zero, suc, _+_, _*_, _-_, _/_, _%_, _^_, _≤_, _<_}
+use mathlib.Core.Path.{_≡_, _∙_}
+use Prim.Native.Nat.{_-_, _≤_}
 use native.Mathlib.Omega.{arith}
 use Rattle.rows.proofs.evaluate.Statement.{statement}
 use Rattle.rows.proofs.evaluate.Tie as tie
-use Rattle.rows.proofs.evaluate.Reads as reads
-use Rattle.rows.proofs.evaluate.Lts as lts
-use Rattle.rows.proofs.answer.Reads as answer-reads
-use Rattle.rows.proofs.parts.Reads as parts-reads
-use Rattle.rows.proofs.unfit.Reads as unfit-reads
 
 abbrev Inv-loop : tie.InvT-loop
 Inv-loop cells ch k numbers₀ shares₀ s₀ numbers shares s = Front (pos 0) k (numberAt ch cells) SYSTEMS numbers s × Front 0 k (partsOf ch cells) SYSTEMS shares s × (s ≤ k) × (allTo (rowFit ch cells) s ≡ true)
@@ -22,79 +18,60 @@ Inv-loop cells ch k numbers₀ shares₀ s₀ numbers shares s = Front (pos 0) k
 abbrev μ-loop : tie.MeasureT-loop
 μ-loop cells ch k numbers₀ shares₀ s₀ numbers shares s = k - s
 
--- src/lib.rt:95:9
 unfit-requires : tie.Need-unfit-requires Inv-loop μ-loop
 unfit-requires c κs = search needs
 
--- src/lib.rt:95:9
 returns : tie.Need-returns Inv-loop μ-loop
 returns c = c .unfit .ensures ∙ rows-many _ _ _ (c .before .if1 .taken)
 
--- src/lib.rt:100:5
 loop-holds : tie.Need-loop-holds Inv-loop μ-loop
 loop-holds c = (front-none (pos 0) (c .before .before .args .choice .count) (numberAt (c .before .before .args .choice .systems) (c .before .before .args .t2)) SYSTEMS, front-none 0 (c .before .before .args .choice .count) (partsOf (c .before .before .args .choice .systems) (c .before .before .args .t2)) SYSTEMS, omega arith, none-tested _ _)
 
--- src/lib.rt:101:24
 array-read-answer : tie.Need-array-read-answer Inv-loop μ-loop
 array-read-answer c = omega (arith, c .before .before .if1 .left)
 
--- src/lib.rt:101:13
 answer-requires : tie.Need-answer-requires Inv-loop μ-loop
 answer-requires c κs = omega (arith, c .before .before .before .if1 .left)
 
--- src/lib.rt:103:29
 enum-known-p : tie.Need-enum-known-p Inv-loop μ-loop
 enum-known-p c = search needs
 
--- src/lib.rt:104:17
 mul-numbers : tie.Need-mul-numbers Inv-loop μ-loop
 mul-numbers c = omega (arith, c .before .before .before .before .before .before .before .if1 .left)
 
--- src/lib.rt:104:17
 array-set-from-numbers : tie.Need-array-set-from-numbers Inv-loop μ-loop
 array-set-from-numbers c = omega (arith, c .before .before .before .before .before .before .before .if1 .left)
 
--- src/lib.rt:105:35
 array-read-parts : tie.Need-array-read-parts Inv-loop μ-loop
 array-read-parts c = omega (arith, c .before .before .before .before .before .before .before .if1 .left)
 
--- src/lib.rt:105:29
 parts-requires : tie.Need-parts-requires Inv-loop μ-loop
 parts-requires c κs = may-parts (c .before .before .before .before .before .before .before .before .before .before .args .choice .systems) (c .before .before .before .before .before .before .before .before .before .before .args .t2) _ _ (c .before .before .before .before .answer .ensures) _ (c .before .before .p .given .1) (omega (arith, c .before .before .before .before .before .before .before .before .if1 .left, c .before .before .before .before .before .before .loop-test .taken))
 
--- src/lib.rt:105:17
 mul-shares : tie.Need-mul-shares Inv-loop μ-loop
 mul-shares c = omega (arith, c .before .before .before .before .before .before .before .before .before .if1 .left, c .before .before .before .before .before .before .before .loop-test .taken)
 
--- src/lib.rt:105:17
 array-write-shares : tie.Need-array-write-shares Inv-loop μ-loop
 array-write-shares c = omega (arith, c .before .before .before .before .before .before .before .before .before .if1 .left, c .before .before .before .before .before .before .before .loop-test .taken)
 
--- src/lib.rt:108:17
 enum-told : tie.Need-enum-told Inv-loop μ-loop
 enum-told c = search needs
 
--- src/lib.rt:108:17
 unfit-requires-2 : tie.Need-unfit-requires-2 Inv-loop μ-loop
 unfit-requires-2 c κs = search needs
 
--- src/lib.rt:108:17
 returns-2 : tie.Need-returns-2 Inv-loop μ-loop
 returns-2 c = c .unfit2 .ensures ∙ rows-unfit _ _ _ _ (c .before .before .before .before .before .loop-test .taken) (row-unfit _ _ _ _ (c .before .before .before .answer .ensures) _ (c .before .enum-told .given .1))
 
--- src/lib.rt:111:9
 add-s : tie.Need-add-s Inv-loop μ-loop
 add-s c = omega (arith, c .before .before .before .before .before .before .before .before .before .if1 .left, c .before .before .before .before .before .before .before .loop-test .taken)
 
--- src/lib.rt:100:5
 loop-less : tie.Need-loop-less Inv-loop μ-loop
 loop-less c = omega (arith, c .before .before .before .before .before .before .before .loop-test .taken)
 
--- src/lib.rt:100:5
 loop-again : tie.Need-loop-again Inv-loop μ-loop
 loop-again c = (front-next (pos 0) (c .before .before .before .before .before .before .before .before .before .before .before .args .choice .count) (numberAt (c .before .before .before .before .before .before .before .before .before .before .before .args .choice .systems) (c .before .before .before .before .before .before .before .before .before .before .before .args .t2)) SYSTEMS (c .before .before .before .before .before .before .before .before .loop .numbers) _ _ (omega (arith, c .before .before .before .before .before .before .before .before .before .if1 .left, c .before .before .before .before .before .before .before .loop-test .taken)) (c .before .before .before .before .before .before .before .before .loop .inv .0) (more-numbers (c .before .before .before .before .before .before .before .before .before .before .before .args .choice .systems) (c .before .before .before .before .before .before .before .before .before .before .before .args .t2) _ _ (c .before .before .before .before .before .answer .ensures) _ (c .before .before .before .p .given .1)), front-next 0 (c .before .before .before .before .before .before .before .before .before .before .before .args .choice .count) (partsOf (c .before .before .before .before .before .before .before .before .before .before .before .args .choice .systems) (c .before .before .before .before .before .before .before .before .before .before .before .args .t2)) SYSTEMS (c .before .before .before .before .before .before .before .before .loop .shares) _ _ (omega (arith, c .before .before .before .before .before .before .before .before .before .if1 .left, c .before .before .before .before .before .before .before .loop-test .taken)) (c .before .before .before .before .before .before .before .before .loop .inv .1) (more-parts (c .before .before .before .before .before .before .before .before .before .before .before .args .choice .systems) (c .before .before .before .before .before .before .before .before .before .before .before .args .t2) _ _ (c .before .before .before .before .before .answer .ensures) _ (c .before .before .before .p .given .1) _ (c .parts .ensures)), omega (arith, c .before .before .before .before .before .before .before .loop-test .taken), more-tested (c .before .before .before .before .before .before .before .before .before .before .before .args .choice .systems) (c .before .before .before .before .before .before .before .before .before .before .before .args .t2) _ _ (c .before .before .before .before .before .answer .ensures) _ (c .before .before .before .p .given .1) (c .before .before .before .before .before .before .before .before .loop .inv .3))
 
--- src/lib.rt:89:1
 returns-3 : tie.Need-returns-3 Inv-loop μ-loop
 returns-3 c = let q : c .before .loop .s ≡ c .before .before .before .before .args .choice .count = omega (arith, c .before .loop .inv .2, c .loop-test .left) in rows-fit _ _ _ (c .before .before .if1 .left) (rw q at (c .before .loop .inv .3)) _ _ (front-all (pos 0) _ _ SYSTEMS _ _ q (c .before .loop .inv .0)) (front-all 0 _ _ SYSTEMS _ _ q (c .before .loop .inv .1))
 

@@ -3,23 +3,16 @@ use Rattle.start.proofs.Contained.{contained-yes, contained-no}
 use borrow.Author.Needs.{needs}
 use Rattle.start.proofs.contains.Statement.{statement}
 use Rattle.start.proofs.contains.Tie as tie
-use Rattle.start.proofs.contains.Reads as reads
-use Rattle.start.proofs.contains.Lts as lts
-use Rattle.systems.proofs.has.Reads as has-reads
 
--- src/lib.rt:77:21
 element-copy-out-has : tie.Need-element-copy-out-has
 element-copy-out-has c = search needs
 
--- src/lib.rt:77:8
 has-requires : tie.Need-has-requires
 has-requires c κs = search needs
 
--- src/lib.rt:78:9
 returns : tie.Need-returns
 returns c = contained-yes (c .before .before .before .args .ch .now) (c .before .before .before .args .i) _ (c .before .has .ensures) (c .if1 .taken)
 
--- src/lib.rt:73:1
 returns-2 : tie.Need-returns-2
 returns-2 c = contained-no (c .before .before .before .args .ch .now) (c .before .before .before .args .i) _ (c .before .has .ensures) (c .if1 .left)
 

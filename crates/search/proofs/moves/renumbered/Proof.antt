@@ -1,60 +1,44 @@
+-- `search::moves::renumbered` meets its contract. Assumes nothing.
 use Rattle.search.proofs.Trials.{renumber-ok}
 use Rattle.search.proofs.Tries.{giver-triable, giver-wanted, taker-triable, taker-wanted}
-use mathlib.Core.Path.{_≡_, refl, sym, ap, ap₂, _∙_}
-use Prim.Native.Nat.{ℕ, zero, suc, _+_, _*_, _-_, _/_, _%_, _^_, _≤_, _<_}
-use native.Mathlib.Omega.{arith}
+use Prim.Native.Nat.{_-_}
 use borrow.Author.Needs.{needs}
 use Rattle.search.proofs.moves.renumbered.Statement.{statement}
 use Rattle.search.proofs.moves.renumbered.Tie as tie
-use Rattle.search.proofs.moves.renumbered.Reads as reads
-use Rattle.search.proofs.moves.renumbered.Lts as lts
-use Rattle.search.proofs.tried.number_tried.Reads as number-tried-reads
 
--- src/moves.rt:143:45
 mul-number-tried : tie.Need-mul-number-tried
 mul-number-tried c = search needs
 
--- src/moves.rt:143:45
 add-number-tried : tie.Need-add-number-tried
 add-number-tried c = search needs
 
--- src/moves.rt:143:12
 number-tried-requires : tie.Need-number-tried-requires
 number-tried-requires c κs = (giver-triable _ _ _ _ _ (c .before .before .pre .0 .sound) (c .before .before .pre .1), c .before .before .pre .2)
 
--- src/moves.rt:143:5
 mul-w : tie.Need-mul-w
 mul-w c = search needs
 
--- src/moves.rt:143:5
 array-set-from-w : tie.Need-array-set-from-w
 array-set-from-w c = search needs
 
--- src/moves.rt:144:53
 mul-number-tried-2 : tie.Need-mul-number-tried-2
 mul-number-tried-2 c = search needs
 
--- src/moves.rt:144:45
 add-number-tried-2 : tie.Need-add-number-tried-2
 add-number-tried-2 c = search needs
 
--- src/moves.rt:144:45
 add-number-tried-3 : tie.Need-add-number-tried-3
 add-number-tried-3 c = search needs
 
--- src/moves.rt:144:12
 number-tried-requires-2 : tie.Need-number-tried-requires-2
 number-tried-requires-2 c κs = (taker-triable _ _ _ _ _ (c .before .before .before .before .pre .0 .sound) (c .before .before .before .before .pre .1), c .before .number-tried .ensures .2)
 
--- src/moves.rt:144:5
 mul-w-2 : tie.Need-mul-w-2
 mul-w-2 c = search needs
 
--- src/moves.rt:144:5
 array-set-from-w-2 : tie.Need-array-set-from-w-2
 array-set-from-w-2 c = search needs
 
--- src/moves.rt:127:1
 returns : tie.Need-returns
 returns c = let x = c .before .before .number-tried .ensures in let y = c .number-tried2 .ensures in let r = renumber-ok _ _ _ _ (c .before .before .before .before .before .args .m) (c .before .before .before .before .before .pre .0 .sound) (c .before .before .before .before .before .pre .1) (c .before .before .before .before .before .args .v .now) _ _ (c .before .before .before .before .before .pre .0 .carried) (c .before .before .before .before .before .pre .0 .small) (giver-wanted _ _ _ _ (c .before .before .before .before .before .args .m) (c .before .before .before .before .before .pre .0 .sound) (c .before .before .before .before .before .pre .1) _ (x .0, x .1)) (taker-wanted _ _ _ _ (c .before .before .before .before .before .args .m) (c .before .before .before .before .before .pre .0 .sound) (c .before .before .before .before .before .pre .1) _ (y .0, y .1)) in (r .0, r .1, y .2)
 

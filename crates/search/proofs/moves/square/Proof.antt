@@ -1,35 +1,25 @@
+-- `search::moves::square` meets its contract. Assumes nothing.
 use native.Mathlib.Omega.{arith}
-use Prim.Native.Nat.{ℕ, zero, suc, _+_, _*_, _-_, _/_, _%_, _^_, _≤_, _<_}
-use mathlib.Core.Path.{_≡_, refl, sym, ap, ap₂, _∙_}
-use borrow.Author.Needs.{needs}
+use Prim.Native.Nat.{_-_}
 use Rattle.rows.specs.Machine.{cut-fits, square-sub, square-size, square-mul, square-is}
 use Rattle.search.proofs.moves.square.Statement.{statement}
 use Rattle.search.proofs.moves.square.Tie as tie
-use Rattle.search.proofs.moves.square.Reads as reads
-use Rattle.search.proofs.moves.square.Lts as lts
-use Rattle.search.proofs.state.size.Reads as size-reads
 
--- src/moves.rt:33:18
 div-size : tie.Need-div-size
 div-size c = (omega arith, cut-fits (c .args .x) (c .pre .0))
 
--- src/moves.rt:33:35
 div-size-2 : tie.Need-div-size-2
 div-size-2 c = (omega arith, cut-fits (c .args .y) (c .pre .1))
 
--- src/moves.rt:33:18
 sub-size : tie.Need-sub-size
 sub-size c = square-sub (c .args .x) (c .args .y) (c .pre .0) (c .pre .1)
 
--- src/moves.rt:33:9
 size-requires : tie.Need-size-requires
 size-requires c κs = square-size (c .args .x) (c .args .y) (c .pre .0) (c .pre .1)
 
--- src/moves.rt:34:5
 mul-result : tie.Need-mul-result
 mul-result c = square-mul (c .before .args .x) (c .before .args .y) (c .before .pre .0) (c .before .pre .1) (c .size .result) (c .size .ensures)
 
--- src/moves.rt:29:1
 returns : tie.Need-returns
 returns c = square-is (c .before .args .x) (c .before .args .y) (c .before .pre .0) (c .before .pre .1) (c .size .result) (c .size .ensures)
 

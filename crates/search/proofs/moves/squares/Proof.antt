@@ -1,6 +1,7 @@
+-- `search::moves::squares` meets its contract. Assumes nothing.
 use native.Mathlib.Omega.{arith}
-use Prim.Native.Nat.{ℕ, zero, suc, _+_, _*_, _-_, _/_, _%_, _^_, _≤_, _<_}
-use mathlib.Core.Path.{_≡_, refl, sym, ap, ap₂, _∙_}
+use Prim.Native.Nat.{_*_, _-_, _≤_}
+use mathlib.Core.Path.{_≡_}
 use borrow.Author.Needs.{needs}
 use Rattle.split.specs.Folds.{sum-none, sum-more}
 use Rattle.rows.specs.Machine.{at-small, square-at}
@@ -9,9 +10,6 @@ use Rattle.rows.specs.Rows.{listed}
 use Rattle.split.specs.Move.{squareOf}
 use Rattle.search.proofs.moves.squares.Statement.{statement}
 use Rattle.search.proofs.moves.squares.Tie as tie
-use Rattle.search.proofs.moves.squares.Reads as reads
-use Rattle.search.proofs.moves.squares.Lts as lts
-use Rattle.search.proofs.moves.square.Reads as square-reads
 
 abbrev Inv-loop : tie.InvT-loop
 Inv-loop v k i acc₀ j₀ acc j = (j ≤ i) × (acc ≡ sumTo (λ j. squareOf (listed v i) (listed v j)) j) × (acc ≤ 160000000000000000 * j)
@@ -19,47 +17,36 @@ Inv-loop v k i acc₀ j₀ acc j = (j ≤ i) × (acc ≡ sumTo (λ j. squareOf (
 abbrev μ-loop : tie.MeasureT-loop
 μ-loop v k i acc₀ j₀ acc j = i - j
 
--- src/moves.rt:44:5
 loop-holds : tie.Need-loop-holds Inv-loop μ-loop
 loop-holds c = (omega arith, sum-none _, omega arith)
 
--- src/moves.rt:45:23
 mul-square : tie.Need-mul-square Inv-loop μ-loop
 mul-square c = search needs
 
--- src/moves.rt:45:23
 element-copy-out-square : tie.Need-element-copy-out-square Inv-loop μ-loop
 element-copy-out-square c = search needs
 
--- src/moves.rt:45:29
 mul-square-2 : tie.Need-mul-square-2 Inv-loop μ-loop
 mul-square-2 c = search needs
 
--- src/moves.rt:45:29
 element-copy-out-square-2 : tie.Need-element-copy-out-square-2 Inv-loop μ-loop
 element-copy-out-square-2 c = search needs
 
--- src/moves.rt:45:16
 square-requires : tie.Need-square-requires Inv-loop μ-loop
 square-requires c κs = (at-small _ _ _ (c .before .before .before .before .pre .0) (c .before .before .before .before .pre .1), at-small _ _ _ (c .before .before .before .before .pre .0) (omega arith))
 
--- src/moves.rt:45:9
 add-acc : tie.Need-add-acc Inv-loop μ-loop
 add-acc c = omega (arith, c .square .ensures .1, c .before .before .before .before .before .pre .0 .most)
 
--- src/moves.rt:46:9
 add-j : tie.Need-add-j Inv-loop μ-loop
 add-j c = search needs
 
--- src/moves.rt:44:5
 loop-less : tie.Need-loop-less Inv-loop μ-loop
 loop-less c = search needs
 
--- src/moves.rt:44:5
 loop-again : tie.Need-loop-again Inv-loop μ-loop
 loop-again c = (omega arith, sum-more _ _ _ _ (c .before .before .before .before .loop .inv .1) (square-at _ _ _ _ (c .before .before .before .before .before .pre .0) (c .before .before .before .before .before .pre .1) (c .before .before .before .loop-test .taken) _ (c .square .ensures .0)), omega (arith, c .square .ensures .1))
 
--- src/moves.rt:38:1
 returns : tie.Need-returns Inv-loop μ-loop
 returns c = let q : c .before .loop .j ≡ c .before .before .args .i = omega arith in (rw q at (c .before .loop .inv .1), omega arith)
 

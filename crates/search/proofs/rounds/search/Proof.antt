@@ -4,10 +4,10 @@ use Rattle.search.proofs.Tries.{tried-as, none-is}
 use Rattle.search.proofs.Loop.{rounds-left, fit-is, step-next}
 use Rattle.search.specs.Tried.{Tried}
 use Rattle.rows.specs.Carried.{Held}
-use Rattle.split.specs.Search.{searchOf, runOf, turnOf}
+use Rattle.split.specs.Search.{searchOf, runOf}
 use borrow.Author.Needs.{needs}
-use mathlib.Core.Path.{_≡_, refl, sym, ap, ap₂, _∙_}
-use Prim.Native.Nat.{ℕ, zero, suc, _+_, _*_, _-_, _/_, _%_, _^_, _≤_, _<_}
+use mathlib.Core.Path.{_≡_, sym, _∙_}
+use Prim.Native.Nat.{suc, _+_, _-_, _^_, _≤_}
 use native.Mathlib.Omega.{arith}
 use Rattle.search.proofs.rounds.search.Statement.{statement}
 use Rattle.search.proofs.rounds.search.Tie as tie

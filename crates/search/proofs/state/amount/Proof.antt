@@ -1,36 +1,28 @@
+-- `search::state::amount` meets its contract. Assumes nothing.
 use native.Mathlib.Omega.{arith}
-use Prim.Native.Nat.{ℕ, zero, suc, _+_, _*_, _-_, _/_, _%_, _^_, _≤_, _<_}
-use mathlib.Core.Path.{_≡_, refl, sym, ap, ap₂, _∙_}
+use Prim.Native.Nat.{_-_}
+use mathlib.Core.Path.{ap}
 use borrow.Author.Needs.{needs}
 use Rattle.systems.specs.Members.{member-lt}
 use Rattle.split.specs.Split.{cellOf}
 use Rattle.search.proofs.state.amount.Statement.{statement}
 use Rattle.search.proofs.state.amount.Tie as tie
-use Rattle.search.proofs.state.amount.Reads as reads
-use Rattle.search.proofs.state.amount.Lts as lts
-use Rattle.systems.proofs.member.Reads as member-reads
 
--- src/state.rt:92:9
 member-requires : tie.Need-member-requires
 member-requires c κs = search needs
 
--- src/state.rt:93:13
 mul-i : tie.Need-mul-i
 mul-i c = search needs
 
--- src/state.rt:93:13
 add-i : tie.Need-add-i
 add-i c = omega (arith, c .member .ensures, member-lt _ (c .before .pre .0) _ (c .before .pre .2))
 
--- src/state.rt:94:5
 mul-result : tie.Need-mul-result
 mul-result c = omega (arith, c .member .ensures, member-lt _ (c .before .pre .0) _ (c .before .pre .2))
 
--- src/state.rt:94:5
 element-copy-out-result : tie.Need-element-copy-out-result
 element-copy-out-result c = omega (arith, c .member .ensures, member-lt _ (c .before .pre .0) _ (c .before .pre .2))
 
--- src/state.rt:88:1
 returns : tie.Need-returns
 returns c = ap (cellOf (c .before .before .args .a .now) (c .before .before .args .s)) (c .before .member .ensures)
 

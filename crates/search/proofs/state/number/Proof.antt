@@ -1,36 +1,25 @@
-use native.Mathlib.Omega.{arith}
-use Prim.Native.Nat.{ℕ, zero, suc, _+_, _*_, _-_, _/_, _%_, _^_, _≤_, _<_}
-use mathlib.Core.Path.{_≡_, refl, sym, ap, ap₂, _∙_}
+-- `search::state::number` meets its contract. Assumes nothing.
+use Prim.Native.Nat.{_-_}
 use borrow.Author.Needs.{needs}
 use Rattle.search.proofs.Numbers.{number-ok, number-never}
 use Rattle.search.proofs.state.number.Statement.{statement}
 use Rattle.search.proofs.state.number.Tie as tie
-use Rattle.search.proofs.state.number.Reads as reads
-use Rattle.search.proofs.state.number.Lts as lts
-use Rattle.search.proofs.state.wide.Reads as wide-reads
-use Rattle.ternary.proofs.partial_number.Reads as partial-number-reads
 
--- src/state.rt:80:37
 wide-requires : tie.Need-wide-requires
 wide-requires c κs = search needs
 
--- src/state.rt:80:9
 partial-number-requires : tie.Need-partial-number-requires
 partial-number-requires c κs = search needs
 
--- src/state.rt:82:34
 enum-known-p : tie.Need-enum-known-p
 enum-known-p c = search needs
 
--- src/state.rt:83:41
 enum-told : tie.Need-enum-told
 enum-told c = search needs
 
--- src/state.rt:76:1
 returns : tie.Need-returns
 returns c = number-ok _ _ _ _ _ _ (c .before .before .before .before .wide .ensures) (c .before .before .before .partial-number .ensures) (c .before .before .before .before .before .pre .0) (c .before .before .before .before .before .pre .1) (c .before .before .before .before .before .pre .2) _ (c .before .p .given .1)
 
--- src/state.rt:76:1
 returns-2 : tie.Need-returns-2
 returns-2 c = number-never _ _ _ _ _ _ (c .before .before .before .wide .ensures) (c .before .before .partial-number .ensures) (c .before .before .before .before .pre .0) (c .before .before .before .before .pre .1) (c .before .before .before .before .pre .2) _ (c .enum-told .given .1)
 

@@ -1,42 +1,32 @@
-use mathlib.Core.Path.{_≡_, refl, sym, ap, ap₂, _∙_}
-use Prim.Native.Nat.{ℕ, zero, suc, _+_, _*_, _-_, _/_, _%_, _^_, _≤_, _<_}
+-- `search::tried::amount_tried` meets its contract. Assumes nothing.
+use Prim.Native.Nat.{_-_}
 use native.Mathlib.Omega.{arith}
 use Rattle.search.proofs.Tries.{less-is, more-is}
 use borrow.Author.Needs.{needs}
 use Rattle.search.proofs.tried.amount_tried.Statement.{statement}
 use Rattle.search.proofs.tried.amount_tried.Tie as tie
-use Rattle.search.proofs.tried.amount_tried.Reads as reads
-use Rattle.search.proofs.tried.amount_tried.Lts as lts
 
--- src/tried.rt:59:16
 mul-result : tie.Need-mul-result
 mul-result c = search needs
 
--- src/tried.rt:59:16
 element-copy-out-result : tie.Need-element-copy-out-result
 element-copy-out-result c = search needs
 
--- src/tried.rt:59:16
 sub-result : tie.Need-sub-result
 sub-result c = c .before .before .pre .1 (c .before .if1 .taken)
 
--- src/tried.rt:59:9
 returns : tie.Need-returns
 returns c = less-is _ _ _ (c .before .if1 .taken)
 
--- src/tried.rt:61:5
 mul-result-2 : tie.Need-mul-result-2
 mul-result-2 c = search needs
 
--- src/tried.rt:61:5
 element-copy-out-result-2 : tie.Need-element-copy-out-result-2
 element-copy-out-result-2 c = search needs
 
--- src/tried.rt:61:5
 add-result : tie.Need-add-result
 add-result c = omega (arith, c .before .before .pre .2 (c .before .if1 .left))
 
--- src/tried.rt:54:1
 returns-2 : tie.Need-returns-2
 returns-2 c = more-is _ _ _ (c .before .if1 .left)
 

@@ -1,12 +1,9 @@
+-- `search::tried::forget` meets its contract. Assumes nothing.
 use Rattle.search.proofs.Tries.{Going, going-starts, going-on, going-ends}
-use borrow.Author.Needs.{needs}
-use mathlib.Core.Path.{_≡_, refl, sym, ap, ap₂, _∙_}
-use Prim.Native.Nat.{ℕ, zero, suc, _+_, _*_, _-_, _/_, _%_, _^_, _≤_, _<_}
+use Prim.Native.Nat.{_-_}
 use native.Mathlib.Omega.{arith}
 use Rattle.search.proofs.tried.forget.Statement.{statement}
 use Rattle.search.proofs.tried.forget.Tie as tie
-use Rattle.search.proofs.tried.forget.Reads as reads
-use Rattle.search.proofs.tried.forget.Lts as lts
 
 abbrev Inv-loop : tie.InvT-loop
 Inv-loop tried₀ s c₀ tried c = Going tried₀ s tried c
@@ -14,51 +11,39 @@ Inv-loop tried₀ s c₀ tried c = Going tried₀ s tried c
 abbrev μ-loop : tie.MeasureT-loop
 μ-loop tried₀ s c₀ tried c = 4 - c
 
--- src/tried.rt:100:5
 loop-holds : tie.Need-loop-holds Inv-loop μ-loop
 loop-holds c = going-starts (c .args .tried .now) (c .args .s) (c .pre .0) (c .pre .1)
 
--- src/tried.rt:101:17
 mul-i : tie.Need-mul-i Inv-loop μ-loop
 mul-i c = omega (arith, c .before .before .pre .0)
 
--- src/tried.rt:101:17
 add-i : tie.Need-add-i Inv-loop μ-loop
 add-i c = omega (arith, c .before .before .pre .0, c .loop-test .taken)
 
--- src/tried.rt:102:9
 mul-tried : tie.Need-mul-tried Inv-loop μ-loop
 mul-tried c = omega (arith, c .before .before .pre .0, c .loop-test .taken)
 
--- src/tried.rt:102:9
 element-set-of-tried : tie.Need-element-set-of-tried Inv-loop μ-loop
 element-set-of-tried c = omega (arith, c .before .before .pre .0, c .loop-test .taken)
 
--- src/tried.rt:103:15
 add-tried : tie.Need-add-tried Inv-loop μ-loop
 add-tried c = omega (arith, c .before .before .pre .0, c .loop-test .taken)
 
--- src/tried.rt:103:9
 mul-tried-2 : tie.Need-mul-tried-2 Inv-loop μ-loop
 mul-tried-2 c = omega (arith, c .before .before .pre .0, c .loop-test .taken)
 
--- src/tried.rt:103:9
 element-set-of-tried-2 : tie.Need-element-set-of-tried-2 Inv-loop μ-loop
 element-set-of-tried-2 c = omega (arith, c .before .before .pre .0, c .loop-test .taken)
 
--- src/tried.rt:104:9
 add-c : tie.Need-add-c Inv-loop μ-loop
 add-c c = omega (arith, c .loop-test .taken)
 
--- src/tried.rt:100:5
 loop-less : tie.Need-loop-less Inv-loop μ-loop
 loop-less c = omega (arith, c .loop-test .taken)
 
--- src/tried.rt:100:5
 loop-again : tie.Need-loop-again Inv-loop μ-loop
 loop-again c = going-on (c .before .before .args .tried .now) (c .before .before .args .s) (c .before .before .pre .0) (c .before .loop .tried) (c .before .loop .c) (c .before .loop .inv) (c .loop-test .taken)
 
--- src/tried.rt:95:1
 returns : tie.Need-returns Inv-loop μ-loop
 returns c = going-ends (c .before .before .args .tried .now) (c .before .before .args .s) (c .before .before .pre .0) (c .before .loop .tried) (c .before .loop .c) (c .before .loop .inv) (c .loop-test .left)
 

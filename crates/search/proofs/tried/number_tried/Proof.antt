@@ -1,36 +1,27 @@
+-- `search::tried::number_tried` meets its contract. Assumes nothing.
 use Rattle.search.proofs.Tries.{known-is, put-is}
 use borrow.Author.Needs.{needs}
 use Rattle.search.proofs.tried.number_tried.Statement.{statement}
 use Rattle.search.proofs.tried.number_tried.Tie as tie
-use Rattle.search.proofs.tried.number_tried.Reads as reads
-use Rattle.search.proofs.tried.number_tried.Lts as lts
-use Rattle.search.proofs.tried.work_out.Reads as work-out-reads
 
--- src/tried.rt:85:13
 mul-x : tie.Need-mul-x
 mul-x c = search needs
 
--- src/tried.rt:85:13
 element-copy-out-x : tie.Need-element-copy-out-x
 element-copy-out-x c = search needs
 
--- src/tried.rt:87:9
 returns : tie.Need-returns
 returns c = known-is _ _ _ _ _ (c .before .before .pre .1) _ (c .before .before .pre .0) (c .if1 .taken)
 
--- src/tried.rt:89:9
 work-out-requires : tie.Need-work-out-requires
 work-out-requires c κs = search needs
 
--- src/tried.rt:90:5
 mul-y : tie.Need-mul-y
 mul-y c = search needs
 
--- src/tried.rt:90:5
 element-set-from-y : tie.Need-element-set-from-y
 element-set-from-y c = search needs
 
--- src/tried.rt:74:1
 returns-2 : tie.Need-returns-2
 returns-2 c = put-is _ _ _ _ _ (c .before .before .before .pre .1) _ (c .before .before .before .pre .0) _ (c .work-out .ensures)
 

@@ -1,5 +1,5 @@
 -- `ternary::coefficients::table` meets its contract. Assumes nothing.
-use mathlib.Core.Path.{_≡_, ap, sym}
+use mathlib.Core.Path.{ap, sym}
 use Rattle.ternary.specs.Coefficients.{placeIn}
 use Rattle.ternary.specs.Answer.{tableOf}
 use Rattle.ternary.proofs.Systems.{last-system}
