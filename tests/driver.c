@@ -164,6 +164,22 @@ static records records_word(void)
     return r;
 }
 
+/* COUNT, AMOUNTS and RECORDS. */
+typedef struct {
+    size_t count;
+    uint32_t amounts[14];
+    records split;
+} gas;
+
+/* A gas from the line, and a copy of all its bytes. */
+static void gas_words(gas *g, gas *before)
+{
+    g->count = (size_t)number();
+    amounts_word(g->amounts);
+    g->split = records_word();
+    memcpy(before, g, sizeof *g);
+}
+
 /* What a call was given must stand as it was. */
 static void same(const void *now, const void *before, size_t size)
 {
@@ -224,36 +240,29 @@ static void search(void)
 static void split(void)
 {
     int fill = fill_byte();
-    size_t count = (size_t)number();
-    uint32_t amounts[14], kept[14];
-    amounts_word(amounts);
-    memcpy(kept, amounts, sizeof kept);
-    records r = records_word(), before = r;
+    gas g, before;
+    gas_words(&g, &before);
     region figures = filled(24, fill);
-    put_answer(saugrinte_rate_split(amounts, count, r.systems, r.codes, r.parts, at(figures)));
+    put_answer(saugrinte_rate_split(g.amounts, g.count, g.split.systems, g.split.codes, g.split.parts, at(figures)));
     put(figures, 8);
-    same(amounts, kept, sizeof kept);
-    same(&r, &before, sizeof r);
+    same(&g, &before, sizeof g);
 }
 
 static void write_sheet(void)
 {
     int fill = fill_byte();
-    size_t count = (size_t)number();
-    uint32_t amounts[14], kept[14];
-    amounts_word(amounts);
-    memcpy(kept, amounts, sizeof kept);
-    records r = records_word(), before = r;
+    gas g, before;
+    gas_words(&g, &before);
     size_t low = (size_t)number(), high = (size_t)number();
     if (high > ROOM)
         fail("too large a room", line);
     for (size_t room = low; room <= high; room++) {
         region buffer = filled(room, fill), length = filled(sizeof(size_t), fill);
-        put_answer(saugrinte_write(amounts, count, r.systems, r.codes, r.parts, at(buffer), room, at(length)));
+        put_answer(saugrinte_write(g.amounts, g.count, g.split.systems, g.split.codes, g.split.parts, at(buffer), room,
+                                   at(length)));
         put(buffer, 1);
         put(length, sizeof(size_t));
-        same(amounts, kept, sizeof kept);
-        same(&r, &before, sizeof r);
+        same(&g, &before, sizeof g);
         if (room < high)
             putchar('\n');
     }

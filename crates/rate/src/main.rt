@@ -2,10 +2,8 @@
 // (document 01, "Writer, display, controller"). Everything that matters is in the library.
 use libc::STDIN_FILENO;
 use libc::STDOUT_FILENO;
+use sheet::SHEET;
 use split::Answer;
-
-// The bytes of the longest sheet.
-const SHEET: usize = 111;
 
 fn put(text: &[u8]) {
     io::write_all(STDOUT_FILENO, text);

@@ -4,8 +4,8 @@ ghost use Prim.Native.Nat.{ℕ, _+_, _*_, _<_, _≤_};
 ghost use lib.ListN.{length, getD, replicate};
 ghost use Rattle.analysis.specs.Register.{CODES};
 ghost use Rattle.sheet.specs.Bytes.{number, numberAt};
-ghost use Rattle.sheet.specs.Components.{codeRefusal, codesReading, amountsFrom};
-ghost use Rattle.sheet.specs.Split.{RECORDS, splitAt};
+ghost use Rattle.sheet.specs.Components.{COMPONENT_BYTES, codeRefusal, codesReading, amountsFrom};
+ghost use Rattle.sheet.specs.Split.{RECORDS, RECORD_BYTES, splitAt};
 ghost use Rattle.sheet.specs.Sheet.{LISTED, sectionsOf};
 ghost use Rattle.sheet.specs.Read.{refusedSheet, readOf, numberOf, codeOf, FaultIn};
 ghost use Rattle.reader.specs.Find.{AmountsRefused};
@@ -13,7 +13,9 @@ use analysis::Analysis;
 use analysis::CODES;
 use analysis::Checked;
 use section::Section;
+use sheet::COMPONENT_BYTES;
 use sheet::LISTED;
+use sheet::RECORD_BYTES;
 use sheet::RECORDS;
 use sheet::Reading;
 use sheet::Sections;
@@ -39,7 +41,7 @@ fn amount_at(s: &[u8], at: usize) -> u32
 fn sections(s: &[u8]) -> Sections
     ensures { λ r. ⌜ r ≡ sectionsOf (now (s .entry)) ⌝ }
 {
-    let components = section::peek(s, 0, 5);
+    let components = section::peek(s, 0, COMPONENT_BYTES as u8);
     let Section::Records {
         count: n,
         first: _,
@@ -51,7 +53,7 @@ fn sections(s: &[u8]) -> Sections
     if LISTED < n {
         return Sections::Torn;
     }
-    let split = section::peek(s, end, 6);
+    let split = section::peek(s, end, RECORD_BYTES as u8);
     let Section::Records {
         count: m,
         first,
@@ -92,7 +94,7 @@ fn code_refusal(c: u8, p: u8) -> u32
 
 // The first of `n` component records whose code is refused, with its place.
 fn codes(s: &[u8], n: usize) -> Reading
-    requires { ⌜ (n ≤ LISTED) × (1 + 5 * n ≤ length (now s)) ⌝ }
+    requires { ⌜ (n ≤ LISTED) × (1 + COMPONENT_BYTES * n ≤ length (now s)) ⌝ }
     ensures { λ r. ⌜ r ≡ codesReading n (now (s .entry)) 1 0 0 ⌝ }
 {
     let mut i: usize = 0;
@@ -112,14 +114,14 @@ fn codes(s: &[u8], n: usize) -> Reading
         p = c;
         i += 1;
         place += 1;
-        at += 5;
+        at += COMPONENT_BYTES;
     }
     Reading::Read
 }
 
 // The amounts of `n` component records, by code.
 fn amounts(s: &[u8], n: usize) -> [u32; CODES]
-    requires { ⌜ 1 + 5 * n ≤ length (now s) ⌝ }
+    requires { ⌜ 1 + COMPONENT_BYTES * n ≤ length (now s) ⌝ }
     ensures { λ r. ⌜ r ≡ amountsFrom n (now (s .entry)) 1 (replicate CODES 0) ⌝ }
 {
     let mut a = [0u32; CODES];
@@ -132,14 +134,14 @@ fn amounts(s: &[u8], n: usize) -> [u32; CODES]
             a[c] = x;
         }
         i += 1;
-        at += 5;
+        at += COMPONENT_BYTES;
     }
     a
 }
 
 // The split of `m` records at `at`.
 fn split_at(s: &[u8], at: usize, m: usize) -> Split
-    requires { ⌜ (m ≤ RECORDS) × (at + 6 * m ≤ length (now s)) ⌝ }
+    requires { ⌜ (m ≤ RECORDS) × (at + RECORD_BYTES * m ≤ length (now s)) ⌝ }
     ensures { λ r. ⌜ r ≡ splitAt m (now (s .entry)) at ⌝ }
 {
     let mut systems = [0u8; RECORDS];
@@ -152,7 +154,7 @@ fn split_at(s: &[u8], at: usize, m: usize) -> Split
         codes[i] = s[w + 1];
         amounts[i] = amount_at(s, w + 2);
         i += 1;
-        w += 6;
+        w += RECORD_BYTES;
     }
     Split {
         count: m,
@@ -193,7 +195,7 @@ fn refused_with(number: u32, place: u32, code: u32) -> Sheet
 
 // Is a component listed at 0, or the analysis out of range? Refused 5 or 6, or not.
 fn amounts_refused(s: &[u8], n: usize, a: Analysis) -> Checked
-    requires { ⌜ (1 + 5 * n ≤ length (now s)) × (a .amounts ≡ amountsFrom n (now s) 1 (replicate CODES 0)) ⌝ }
+    requires { ⌜ (1 + COMPONENT_BYTES * n ≤ length (now s)) × (a .amounts ≡ amountsFrom n (now s) 1 (replicate CODES 0)) ⌝ }
     ensures { λ r. ⌜ AmountsRefused n (now (s .entry)) r ⌝ }
 {
     let mut i: usize = 0;
@@ -207,7 +209,7 @@ fn amounts_refused(s: &[u8], n: usize, a: Analysis) -> Checked
             };
         }
         i += 1;
-        at += 5;
+        at += COMPONENT_BYTES;
     }
     analysis::check(a)
 }

@@ -21,9 +21,9 @@ use Rattle.sheet.specs.declared.Sheet.{Sheet}
 use Rattle.sheet.specs.declared.Split.{Split}
 use Rattle.sheet.specs.declared.Written.{Written}
 use Rattle.sheet.specs.declared.Written.the-variants as w
-use Rattle.sheet.specs.Components.{refusalBy, codeRefusal, codesReading, countOf, componentBytes, zeroListed}
+use Rattle.sheet.specs.Components.{COMPONENT_BYTES, refusalBy, codeRefusal, codesReading, countOf, componentBytes, zeroListed}
 use Rattle.sheet.specs.Bytes.{bytesOf}
-use Rattle.sheet.specs.Split.{RECORDS, allowedCount, recordBytes, splitBytes}
+use Rattle.sheet.specs.Split.{RECORDS, RECORD_BYTES, allowedCount, recordBytes, splitBytes}
 use Rattle.sheet.specs.Sheet.{LISTED, sheetOf, withSplit, withComponents, sectionsOf}
 use Rattle.sheet.specs.Read.{amountsOf, amountsRefusal, byAmounts, refusedSheet, contentOf, withAnswer, afterCodes, readBy, readOf}
 use Rattle.sheet.specs.Write.{writeRefusal, writtenOf, leftOf}
@@ -50,10 +50,10 @@ allowed-most m h = go (eqb m 0) refl h
 pub record Sectioned (s : List ℕ) (n m first : ℕ) : Type 0 where
   pub components : n ≡ getD s 0 0
   pub few : n ≤ LISTED
-  pub begins : first ≡ 2 + 5 * n
-  pub records : m ≡ getD s (1 + 5 * n) 0
+  pub begins : first ≡ 2 + COMPONENT_BYTES * n
+  pub records : m ≡ getD s (1 + COMPONENT_BYTES * n) 0
   pub allowed : allowedCount m ≡ true
-  pub size : length s ≡ 2 + 5 * n + 6 * m
+  pub size : length s ≡ 2 + COMPONENT_BYTES * n + RECORD_BYTES * m
 
 module _ (s : List ℕ) where
   -- the second section, by cases
@@ -106,8 +106,8 @@ module _ (s : List ℕ) where
   sectioned h = first-back (sectionAt s 0 5) refl h
 
   -- and the other way: bytes of that shape are two sections
-  pub sections-both : (n m : ℕ) → getD s 0 0 ≡ n → n ≤ LISTED → getD s (1 + 5 * n) 0 ≡ m → allowedCount m ≡ true → length s ≡ 2 + 5 * n + 6 * m
-      → sectionsOf s ≡ Both n m (2 + 5 * n)
+  pub sections-both : (n m : ℕ) → getD s 0 0 ≡ n → n ≤ LISTED → getD s (1 + COMPONENT_BYTES * n) 0 ≡ m → allowedCount m ≡ true
+      → length s ≡ 2 + COMPONENT_BYTES * n + RECORD_BYTES * m → sectionsOf s ≡ Both n m (2 + COMPONENT_BYTES * n)
   unfolding sectionsOf endAt
   sections-both n m en few em allowed size =
       let i : 0 + 1 + getD s 0 0 * 5 ≡ 1 + 5 * n = omega arith in
@@ -248,23 +248,23 @@ module _ (c p : ℕ) where
 
 -- ---- lengths
 
-pub length-records : (m i : ℕ) (xs ys zs : List ℕ) → length (recordBytes m i xs ys zs) ≡ 6 * m
+pub length-records : (m i : ℕ) (xs ys zs : List ℕ) → length (recordBytes m i xs ys zs) ≡ RECORD_BYTES * m
 length-records zero i xs ys zs = refl
 length-records (suc m) i xs ys zs = omega (arith, length-records m (i + 1) xs ys zs)
 
-pub length-components : (k : ℕ) (xs : List ℕ) → length (componentBytes k xs) ≡ 5 * countOf xs
+pub length-components : (k : ℕ) (xs : List ℕ) → length (componentBytes k xs) ≡ COMPONENT_BYTES * countOf xs
 length-components k [] = refl
 length-components k (x ∷ xs) = go (eqb x 0) (length-components (suc k) xs)
   where
-    go : (t : Bool) → length (componentBytes (suc k) xs) ≡ 5 * countOf xs
-        → length (ifElse t (componentBytes (suc k) xs) (k ∷ bytesOf x ++ componentBytes (suc k) xs)) ≡ 5 * ifElse t (countOf xs) (suc (countOf xs))
+    go : (t : Bool) → length (componentBytes (suc k) xs) ≡ COMPONENT_BYTES * countOf xs
+        → length (ifElse t (componentBytes (suc k) xs) (k ∷ bytesOf x ++ componentBytes (suc k) xs)) ≡ COMPONENT_BYTES * ifElse t (countOf xs) (suc (countOf xs))
     go true h = h
     go false h = omega (arith, h)
 
 -- ---- writing
 
 module _ (a : List ℕ) (p : Split) where
-  pub length-sheet : length (sheetOf a p) ≡ 2 + 5 * countOf a + 6 * p .count
+  pub length-sheet : length (sheetOf a p) ≡ 2 + COMPONENT_BYTES * countOf a + RECORD_BYTES * p .count
   length-sheet =
       let x = length-components 0 a in
       let y = length-records (p .count) 0 (p .systems) (p .codes) (p .amounts) in

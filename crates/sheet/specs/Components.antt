@@ -10,6 +10,10 @@ use Rattle.sheet.specs.declared.Reading.{Reading}
 use Rattle.sheet.specs.declared.Reading.the-variants.{Read, Refused}
 use Rattle.sheet.specs.Bytes.{numberAt, bytesOf}
 
+-- the bytes of a record (document 01, "The register and the sheet"): code and amount
+abbrev pub COMPONENT_BYTES : ℕ
+COMPONENT_BYTES = 5
+
 -- the refusal of a code in components by what the register says of it: 3 retired, 2 unknown or legal in splits only
 abbrev pub refusalBy : Status → ℕ
 refusalBy (live least greatest required) = 0
@@ -26,18 +30,18 @@ abbrev pub codesReading : ℕ → List ℕ → ℕ → ℕ → ℕ → Reading
 codesReading zero s at i p = Read
 codesReading (suc n) s at i p =
     ifElse (eqb (codeRefusal (getD s at 0) p) 0)
-    (codesReading n s (at + 5) (i + 1) (getD s at 0))
+    (codesReading n s (at + COMPONENT_BYTES) (i + 1) (getD s at 0))
     (Refused (codeRefusal (getD s at 0) p) i 0)
 
 -- the amounts `a`, with those of `n` records at `at` put in
 abbrev pub amountsFrom : ℕ → List ℕ → ℕ → List ℕ → List ℕ
 amountsFrom zero s at a = a
-amountsFrom (suc n) s at a = amountsFrom n s (at + 5) (set a (getD s at 0) (numberAt s (at + 1)))
+amountsFrom (suc n) s at a = amountsFrom n s (at + COMPONENT_BYTES) (set a (getD s at 0) (numberAt s (at + 1)))
 
 -- is a component listed at 0 in `n` records at `at`?
 abbrev pub zeroListed : ℕ → List ℕ → ℕ → Bool
 zeroListed zero s at = false
-zeroListed (suc n) s at = ifElse (eqb (numberAt s (at + 1)) 0) true (zeroListed n s (at + 5))
+zeroListed (suc n) s at = ifElse (eqb (numberAt s (at + 1)) 0) true (zeroListed n s (at + COMPONENT_BYTES))
 
 -- how many amounts are listed: only codes with an amount are
 abbrev pub countOf : List ℕ → ℕ

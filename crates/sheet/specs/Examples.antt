@@ -2,15 +2,17 @@
 use mathlib.Core.Path.{_≡_, refl}
 use mathlib.Core.List.{List, [], _∷_}
 use Prim.Native.Nat.{ℕ}
-use lib.ListN.{length}
+use lib.ListN.{length, replicate}
 use Rattle.analysis.specs.Register.{statusOf}
 use Rattle.analysis.specs.Check.{inRange, totalFits, refusalOf}
 use Rattle.section.specs.Section.{endAt, tornOr, sectionAt}
 use Rattle.sheet.specs.declared.Reading.the-variants.{Read, Refused}
-use Rattle.sheet.specs.Split.{allowedCount, noSplit}
+use Rattle.sheet.specs.declared.Split.{Split}
+use Rattle.sheet.specs.Split.{RECORDS, allowedCount, noSplit}
 use Rattle.sheet.specs.Components.{codeRefusal}
-use Rattle.sheet.specs.Sheet.{sheetOf, sectionsOf}
+use Rattle.sheet.specs.Sheet.{SHEET, sheetOf, sectionsOf}
 use Rattle.sheet.specs.Read.{amountsRefusal, refusedSheet, readBy, readOf}
+use Rattle.sheet.specs.Write.{writeRefusal}
 
 -- the bytes 01 09 00 00 00 64 00 are refused 3, at place 0
 retired-code : readOf (1 ∷ 9 ∷ 0 ∷ 0 ∷ 0 ∷ 100 ∷ 0 ∷ []) 0 ≡ refusedSheet (Refused 3 0 0)
@@ -38,3 +40,21 @@ table-a1-passes = refl
 
 table-a1-length : length (sheetOf tableA1 noSplit) ≡ 57
 table-a1-length = refl
+
+-- the longest sheet is 111 bytes: none is longer (`RoundTrip.longest-written`, `longest-read`), and that of this gas with nine
+-- records is as long
+longest : SHEET ≡ 111
+longest = refl
+
+abbrev nineRecords : Split
+nineRecords =
+    record {
+      count = RECORDS;
+      systems = replicate RECORDS 0;
+      codes = replicate RECORDS 0;
+      amounts = replicate RECORDS 0;
+    }
+
+longest-reached : (writeRefusal tableA1 nineRecords SHEET ≡ 0) × (length (sheetOf tableA1 nineRecords) ≡ SHEET)
+unfolding writeRefusal allowedCount refusalOf inRange totalFits statusOf
+longest-reached = (refl, refl)

@@ -14,7 +14,7 @@ use Rattle.sheet.specs.declared.Sections.{Sections}
 use Rattle.sheet.specs.declared.Sections.the-variants.{Torn, Both}
 use Rattle.sheet.specs.declared.Sheet.{Sheet}
 use Rattle.sheet.specs.Bytes.{numberAt}
-use Rattle.sheet.specs.Components.{codesReading, amountsFrom, zeroListed}
+use Rattle.sheet.specs.Components.{COMPONENT_BYTES, codesReading, amountsFrom, zeroListed}
 use Rattle.sheet.specs.Split.{splitAt, noSplit}
 use Rattle.sheet.specs.Sheet.{sectionsOf}
 
@@ -69,8 +69,8 @@ codeOf (Refused number place code) = code
 pub record ListedAtZero (n : ℕ) (s : List ℕ) (code : ℕ) : Type 0 where
   pub place : ℕ
   pub listed : place < n
-  pub code-there : getD s (1 + 5 * place) 0 ≡ code
-  pub amount-there : numberAt s (1 + 5 * place + 1) ≡ 0
+  pub code-there : getD s (1 + COMPONENT_BYTES * place) 0 ≡ code
+  pub amount-there : numberAt s (1 + COMPONENT_BYTES * place + 1) ≡ 0
 
 -- a code at fault in a sheet of `n` components: listed at 0, out of its range, or absent where it may not be
 abbrev pub FaultIn : ℕ → List ℕ → ℕ → Type 0

@@ -1,5 +1,5 @@
 -- The sheet (document 01, "The register and the sheet"): its bytes, and its two sections. Assumes nothing.
-use Prim.Native.Nat.{ℕ}
+use Prim.Native.Nat.{ℕ, _+_, _*_}
 use mathlib.Core.List.{List, [], _∷_, _++_}
 use mathlib.Core.Bool.{Bool, true, false}
 use lib.ListN.{length}
@@ -11,22 +11,23 @@ use Rattle.section.specs.Section.{sectionAt}
 use Rattle.sheet.specs.declared.Split.{Split}
 use Rattle.sheet.specs.declared.Sections.{Sections}
 use Rattle.sheet.specs.declared.Sections.the-variants.{Torn, Both}
-use Rattle.sheet.specs.Components.{countOf, componentBytes}
-use Rattle.sheet.specs.Split.{allowedCount, splitBytes}
+use Rattle.sheet.specs.Components.{COMPONENT_BYTES, countOf, componentBytes}
+use Rattle.sheet.specs.Split.{RECORDS, RECORD_BYTES, allowedCount, splitBytes}
 
 -- the bytes of an analysis and a split: a count and its records, twice
 abbrev pub sheetOf : List ℕ → Split → List ℕ
 sheetOf a p = (countOf a ∷ componentBytes 0 a) ++ (p .count ∷ splitBytes p)
 
--- the most components that a sheet lists, and the bytes of the longest sheet
+-- the most components that a sheet lists
 abbrev pub LISTED : ℕ
 LISTED = 11
 
+-- the bytes of the longest sheet (document 01, "The register and the sheet"): two counts and the most records of each
 abbrev pub SHEET : ℕ
-SHEET = 111
+SHEET = 2 + COMPONENT_BYTES * LISTED + RECORD_BYTES * RECORDS
 
--- section by section: components of 5 bytes at the start, the split's records of 6 bytes where those end, and nothing
--- after the split; torn where a count is not allowed, bytes are missing or bytes are left over
+-- section by section: the components at the start, the split's records where those end, and nothing after the split; torn
+-- where a count is not allowed, bytes are missing or bytes are left over
 abbrev pub withSplit : List ℕ → ℕ → Section → Sections
 withSplit s n found.Torn = Torn
 withSplit s n (found.Records m first end) =
@@ -35,7 +36,7 @@ withSplit s n (found.Records m first end) =
 abbrev pub withComponents : List ℕ → Section → Sections
 withComponents s found.Torn = Torn
 withComponents s (found.Records n first end) =
-    ifElse (leb n LISTED) (withSplit s n (sectionAt s end 6)) Torn
+    ifElse (leb n LISTED) (withSplit s n (sectionAt s end RECORD_BYTES)) Torn
 
 unfoldable pub sectionsOf : List ℕ → Sections
-sectionsOf s = withComponents s (sectionAt s 0 5)
+sectionsOf s = withComponents s (sectionAt s 0 COMPONENT_BYTES)

@@ -13,6 +13,10 @@ use Rattle.sheet.specs.Bytes.{numberAt, bytesOf}
 abbrev pub RECORDS : ℕ
 RECORDS = 9
 
+-- the bytes of a record (document 01, "The register and the sheet"): system, code and amount
+abbrev pub RECORD_BYTES : ℕ
+RECORD_BYTES = 6
+
 -- the counts of a split section: none or nine
 unfoldable pub allowedCount : ℕ → Bool
 allowedCount m = ifElse (eqb m 0) true (eqb m 9)
@@ -28,11 +32,11 @@ splitBytes p = recordBytes (p .count) 0 (p .systems) (p .codes) (p .amounts)
 -- a column of bytes, and one of amounts, of `m` records at `at`
 abbrev pub byteColumn : ℕ → List ℕ → ℕ → List ℕ
 byteColumn zero s at = []
-byteColumn (suc m) s at = getD s at 0 ∷ byteColumn m s (at + 6)
+byteColumn (suc m) s at = getD s at 0 ∷ byteColumn m s (at + RECORD_BYTES)
 
 abbrev pub amountColumn : ℕ → List ℕ → ℕ → List ℕ
 amountColumn zero s at = []
-amountColumn (suc m) s at = numberAt s at ∷ amountColumn m s (at + 6)
+amountColumn (suc m) s at = numberAt s at ∷ amountColumn m s (at + RECORD_BYTES)
 
 -- a column with zeros in the places that are not used
 abbrev pub padded : List ℕ → List ℕ

@@ -10,8 +10,14 @@ pub const LISTED: usize = 11;
 // The most records of a split.
 pub const RECORDS: usize = 9;
 
-// The bytes of the longest sheet.
-pub const SHEET: usize = 111;
+// The bytes of a component's record: code and amount.
+pub const COMPONENT_BYTES: usize = 5;
+
+// The bytes of a split's record: system, code and amount.
+pub const RECORD_BYTES: usize = 6;
+
+// The bytes of the longest sheet, 111: two counts and the most records of each section.
+pub const SHEET: usize = 2 + COMPONENT_BYTES * LISTED + RECORD_BYTES * RECORDS;
 
 // A split as records, in a sheet's order; a count of 0 is no split. Places from the count on are not used.
 pub struct Split {

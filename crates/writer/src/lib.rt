@@ -7,8 +7,8 @@ ghost use lib.ListN.{length, drop};
 ghost use lib.Seq.{sets};
 ghost use Rattle.analysis.specs.Register.{CODES};
 ghost use Rattle.sheet.specs.Bytes.{bytesOf};
-ghost use Rattle.sheet.specs.Components.{countOf, componentBytes};
-ghost use Rattle.sheet.specs.Split.{RECORDS, splitBytes};
+ghost use Rattle.sheet.specs.Components.{COMPONENT_BYTES, countOf, componentBytes};
+ghost use Rattle.sheet.specs.Split.{RECORDS, RECORD_BYTES, splitBytes};
 ghost use Rattle.sheet.specs.Sheet.{sheetOf};
 ghost use Rattle.analysis.specs.Check.{AtFault};
 ghost use Rattle.sheet.specs.Write.{writtenOf, leftOf, numberOf, codeOf};
@@ -16,6 +16,8 @@ ghost use Rattle.writer.specs.Answered.{Answered, roomFor};
 use analysis::Analysis;
 use analysis::CODES;
 use analysis::Checked;
+use sheet::COMPONENT_BYTES;
+use sheet::RECORD_BYTES;
 use sheet::RECORDS;
 use sheet::Split;
 use sheet::Written;
@@ -33,7 +35,7 @@ fn put_amount(b: &mut [u8], at: usize, x: u32)
 
 // A component's record: code and amount.
 fn put_component(b: &mut [u8], at: usize, code: u8, x: u32)
-    requires { ⌜ at + 5 ≤ length (now b) ⌝ }
+    requires { ⌜ at + COMPONENT_BYTES ≤ length (now b) ⌝ }
     ensures { λ _. ⌜ now (b .exit) ≡ sets (now (b .entry)) at (code ∷ bytesOf x) ⌝ }
 {
     b[at] = code;
@@ -42,7 +44,7 @@ fn put_component(b: &mut [u8], at: usize, code: u8, x: u32)
 
 // A split's record: system, code and amount.
 fn put_record(b: &mut [u8], at: usize, system: u8, code: u8, x: u32)
-    requires { ⌜ at + 6 ≤ length (now b) ⌝ }
+    requires { ⌜ at + RECORD_BYTES ≤ length (now b) ⌝ }
     ensures { λ _. ⌜ now (b .exit) ≡ sets (now (b .entry)) at (system ∷ code ∷ bytesOf x) ⌝ }
 {
     b[at] = system;
@@ -66,8 +68,8 @@ fn listed(a: [u32; CODES]) -> usize
 
 // The records of the codes with an amount, after the count byte; where they end.
 fn put_components(a: [u32; CODES], b: &mut [u8]) -> usize
-    requires { ⌜ 1 + 5 * countOf a ≤ length (now b) ⌝ }
-    ensures { λ r. ⌜ (r ≡ 1 + 5 * countOf a) × (now (b .exit) ≡ sets (now (b .entry)) 1 (componentBytes 0 a)) ⌝ }
+    requires { ⌜ 1 + COMPONENT_BYTES * countOf a ≤ length (now b) ⌝ }
+    ensures { λ r. ⌜ (r ≡ 1 + COMPONENT_BYTES * countOf a) × (now (b .exit) ≡ sets (now (b .entry)) 1 (componentBytes 0 a)) ⌝ }
 {
     let mut at: usize = 1;
     let mut k: usize = 0;
@@ -75,7 +77,7 @@ fn put_components(a: [u32; CODES], b: &mut [u8]) -> usize
         let x = a[k];
         if x != 0 {
             put_component(b, at, k as u8, x);
-            at += 5;
+            at += COMPONENT_BYTES;
         }
         k += 1;
     }
@@ -84,7 +86,7 @@ fn put_components(a: [u32; CODES], b: &mut [u8]) -> usize
 
 // The records of a split.
 fn put_split(p: Split, b: &mut [u8], at: usize)
-    requires { ⌜ (p .count ≤ RECORDS) × (at + 6 * p .count ≤ length (now b)) ⌝ }
+    requires { ⌜ (p .count ≤ RECORDS) × (at + RECORD_BYTES * p .count ≤ length (now b)) ⌝ }
     ensures { λ _. ⌜ now (b .exit) ≡ sets (now (b .entry)) at (splitBytes p) ⌝ }
 {
     let m = p.count;
@@ -96,7 +98,7 @@ fn put_split(p: Split, b: &mut [u8], at: usize)
     while i < m {
         put_record(b, w, systems[i], codes[i], amounts[i]);
         i += 1;
-        w += 6;
+        w += RECORD_BYTES;
     }
 }
 
@@ -120,9 +122,9 @@ fn answer(a: Analysis, p: Split, size: usize) -> Written
 // The length of a sheet of these amounts and m split records, where a buffer of `size` bytes has room.
 fn length_in(a: [u32; CODES], m: usize, size: usize) -> Written
     requires { ⌜ m ≤ RECORDS ⌝ }
-    ensures { λ r. ⌜ r ≡ roomFor (2 + 5 * countOf a + 6 * m) size ⌝ }
+    ensures { λ r. ⌜ r ≡ roomFor (2 + COMPONENT_BYTES * countOf a + RECORD_BYTES * m) size ⌝ }
 {
-    let len = 2 + 5 * listed(a) + 6 * m;
+    let len = 2 + COMPONENT_BYTES * listed(a) + RECORD_BYTES * m;
     if size < len {
         return Written::Refused {
             number: 14,

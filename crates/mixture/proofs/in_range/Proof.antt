@@ -4,7 +4,7 @@ use Prim.Native.Nat.{_<_}
 use native.Mathlib.Omega.{arith}
 use Rattle.analysis.specs.Check.{totalOf}
 use Rattle.mixture.specs.Scaling.{scaledOf}
-use Rattle.mixture.specs.Simplification.{amountOf, tenthsTotal}
+use Rattle.mixture.specs.Simplification.{amountOf, tenthsOf, tenthsTotal}
 use Rattle.mixture.specs.Inert.{methaneShare}
 use borrow.Author.Needs.{needs}
 use Rattle.mixture.proofs.in_range.Statement.{statement}
@@ -16,28 +16,32 @@ tenths-requires c κs = search needs
 sum-requires : tie.Need-sum-requires
 sum-requires c κs = search needs
 
+-- T, by what is promised of the total and of the tenths
 scale-requires : tie.Need-scale-requires
+unfolding tenthsOf
 scale-requires c κs =
     let t = c .before .before in
-    let e : c .sum .result ≡ tenthsTotal (t .before .args .a .now) = c .sum .ensures .0 ∙ ap totalOf (t .tenths .ensures .0) in
-    (t .tenths .ensures .1, c .sum .ensures .0, omega (arith, t .before .pre))
+    let f = ap totalOf (t .tenths .ensures .0) in
+    let e : c .sum .result ≡ totalOf (t .tenths .result) = omega (arith, c .sum .ensures .0, f) in
+    (t .tenths .ensures .1, e, omega (arith, t .before .pre, f))
 
 element-copy-out-methane-share : tie.Need-element-copy-out-methane-share
 element-copy-out-methane-share c = search needs
 
 methane-share-requires : tie.Need-methane-share-requires
+unfolding tenthsOf
 methane-share-requires c κs =
     let s = c .before .before in
     let t = s .before .before in
-    let e : s .sum .result ≡ tenthsTotal (t .before .args .a .now) = s .sum .ensures .0 ∙ ap totalOf (t .tenths .ensures .0) in
-    (omega (arith, t .before .pre), s .sum .ensures .1)
+    (omega (arith, t .before .pre, s .sum .ensures .0, ap totalOf (t .tenths .ensures .0)), s .sum .ensures .1)
 
 returns : tie.Need-returns
+unfolding tenthsOf
 returns c =
     let s = c .before .before .before in
     let t = s .before .before in
     let a = t .before .args .a .now in
-    let e : s .sum .result ≡ tenthsTotal a = s .sum .ensures .0 ∙ ap totalOf (t .tenths .ensures .0) in
+    let e : s .sum .result ≡ tenthsTotal a = omega (arith, s .sum .ensures .0, ap totalOf (t .tenths .ensures .0)) in
     (refl, c .before .before .scale .ensures ∙ ap scaledOf (t .tenths .ensures .0), c .methane-share .ensures .0 ∙ ap (λ n. methaneShare n (amountOf a 11)) e)
 
 pub in-range-spec : {M : Type 1} → statement M

@@ -8,6 +8,9 @@ use borrow.Author.Needs.{needs}
 use Rattle.reader.proofs.sections.Statement.{statement}
 use Rattle.reader.proofs.sections.Tie as tie
 
+cast-peek : tie.Need-cast-peek
+cast-peek c = search needs
+
 peek-requires : tie.Need-peek-requires
 peek-requires c κs = search needs
 
@@ -22,6 +25,9 @@ returns c = sym (first-torn _ (sym (c .before .before .peek .ensures) ∙ c .enu
 
 returns-2 : tie.Need-returns-2
 returns-2 c = sym (too-many _ _ _ _ (sym (c .before .before .before .before .peek .ensures) ∙ c .before .before .components .given .1) (c .if1 .taken))
+
+cast-peek-2 : tie.Need-cast-peek-2
+cast-peek-2 c = search needs
 
 peek-requires-2 : tie.Need-peek-requires-2
 peek-requires-2 c κs = search needs
@@ -51,11 +57,13 @@ pub sections-spec : {M : Type 1} → statement M
 sections-spec =
     tie.close
     (tie.spec
+    cast-peek
     peek-requires
     enum-known-components
     enum-told
     returns
     returns-2
+    cast-peek-2
     peek-requires-2
     enum-known-split
     enum-told-2
