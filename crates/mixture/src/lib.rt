@@ -4,7 +4,7 @@ use analysis::Analysis;
 use analysis::CODES;
 use analysis::Checked;
 ghost use mathlib.Core.Path.{_≡_};
-ghost use Prim.Native.Nat.{ℕ, _+_, _*_, _<_, _≤_};
+ghost use Prim.Native.Nat.{_+_, _*_, _<_, _≤_};
 ghost use lib.ListN.{length, replicate};
 ghost use Rattle.analysis.specs.Check.{totalOf};
 ghost use Rattle.mixture.specs.Scaling.{WHOLE, quotientOf, remainderOf, greatestPlace, distributed, scaledOf};

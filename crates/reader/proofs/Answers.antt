@@ -1,8 +1,8 @@
 -- The reader's answers: each is the one of the definition, by the tests that lead to it. Assumes nothing.
 use mathlib.Core.Path.{_≡_, refl, ap, sym, _∙_, subst}
-use mathlib.Core.List.{List, [], _∷_}
+use mathlib.Core.List.{List}
 use mathlib.Core.Bool.{Bool, true, false}
-use mathlib.Core.Logic.{_⊎_, inl, inr, ⊎-elim}
+use mathlib.Core.Logic.{inl, inr}
 use Prim.Native.Nat.{ℕ, zero, suc, _+_, _-_, _*_, _≤_, _<_}
 use native.Mathlib.Omega.{arith}
 use lib.ListN.{length, getD}
@@ -15,17 +15,14 @@ use Rattle.analysis.specs.Check.{refusalOf, answerOf, codeOf, Checking, AtFault
 use Rattle.section.specs.declared.Section.{Section}
 use Rattle.section.specs.declared.Section.the-variants as found
 use Rattle.section.specs.Section.{sectionAt}
-use Rattle.sheet.specs.declared.Reading.{Reading}
 use Rattle.sheet.specs.declared.Reading.the-variants.{Read, Refused}
-use Rattle.sheet.specs.declared.Sections.{Sections}
 use Rattle.sheet.specs.declared.Sections.the-variants.{Torn, Both}
 use Rattle.sheet.specs.declared.Sheet.{Sheet}
-use Rattle.sheet.specs.declared.Split.{Split}
-use Rattle.sheet.specs.Components.{refusalBy, codeRefusal, codesReading, zeroListed}
-use Rattle.sheet.specs.Split.{allowedCount, splitAt}
-use Rattle.sheet.specs.Sheet.{withSplit, withComponents, sectionsOf}
-use Rattle.sheet.specs.Read.{amountsOf, amountsRefusal, refusedSheet, contentOf, readOf, ListedAtZero, FaultIn, ReadAs}
-use Rattle.sheet.specs.Cases.{never, Sectioned, sectioned, read-torn, read-codes, read-amounts, read-good, amounts-zero, amounts-checked}
+use Rattle.sheet.specs.Components.{refusalBy, codeRefusal, codesReading}
+use Rattle.sheet.specs.Split.{allowedCount}
+use Rattle.sheet.specs.Sheet.{withSplit, sectionsOf}
+use Rattle.sheet.specs.Read.{amountsOf, amountsRefusal, refusedSheet, contentOf, readOf, FaultIn, ReadAs}
+use Rattle.sheet.specs.Cases.{never, sectioned, read-torn, read-codes, read-amounts, read-good, amounts-zero, amounts-checked}
 use Rattle.reader.specs.Find.{ZeroRecord, AmountsRefused}
 
 -- ---- the two sections

@@ -1,7 +1,7 @@
 -- What the reader's two searches for a code at fault find. Assumes nothing.
 use mathlib.Core.Path.{_≡_}
 use mathlib.Core.List.{List}
-use mathlib.Core.Bool.{Bool, true, false}
+use mathlib.Core.Bool.{true, false}
 use Prim.Native.Nat.{ℕ, _+_, _*_, _<_, _≤_}
 use Rattle.analysis.specs.declared.Checked.{Checked}
 use Rattle.analysis.specs.Check.{answerOf, codeOf}

@@ -1,6 +1,6 @@
 // The reader of a sheet: refusals 1 to 6, or the analysis and the split. No public function has a `requires`.
 ghost use mathlib.Core.Path.{_≡_};
-ghost use Prim.Native.Nat.{ℕ, _+_, _*_, _<_, _≤_};
+ghost use Prim.Native.Nat.{_+_, _*_, _<_, _≤_};
 ghost use lib.ListN.{length, getD, replicate};
 ghost use Rattle.analysis.specs.Register.{CODES};
 ghost use Rattle.sheet.specs.Bytes.{number, numberAt};

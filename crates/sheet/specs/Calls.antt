@@ -1,5 +1,5 @@
 -- The round trips of the calls: what the promises of the reader and the writer say together. Assumes nothing.
-use mathlib.Core.Path.{_≡_, refl, ap, sym, _∙_, subst}
+use mathlib.Core.Path.{_≡_, ap, sym, _∙_}
 use mathlib.Core.List.{List, _++_}
 use Prim.Native.Nat.{ℕ, _≤_}
 use lib.ListN.{length, take, drop}
@@ -7,7 +7,7 @@ use Rattle.sheet.specs.declared.Reading.the-variants.{Read}
 use Rattle.sheet.specs.declared.Sheet.{Sheet}
 use Rattle.sheet.specs.declared.Split.{Split}
 use Rattle.sheet.specs.declared.Written.{Written}
-use Rattle.sheet.specs.declared.Written.the-variants.{Length, Refused}
+use Rattle.sheet.specs.declared.Written.the-variants.{Length}
 use Rattle.sheet.specs.Split.{trimmed}
 use Rattle.sheet.specs.Read.{codeOf, readOf, ReadAs}
 use Rattle.sheet.specs.Write as w

@@ -5,27 +5,25 @@ use mathlib.Core.Bool.{Bool, true, false}
 use Prim.Native.Nat.{ℕ, zero, suc, _+_, _-_, _*_, _≤_, _<_}
 use native.Mathlib.Omega.{arith}
 use lib.ListN.{length, getD, drop, length-append}
-use lib.Dec.{eqb, leb, ltb}
+use lib.Dec.{eqb, leb}
 use borrow.Author.Tests.{eq-eqb, ne-eqb, le-leb, lt-leb, leb-true, leb-false, eqb-true, eqb-false}
-use Rattle.analysis.specs.Register.{CODES, Status, live, retired, splitsOnly, unknown, register, statusIn, statusOf, ifElse}
+use Rattle.analysis.specs.Register.{CODES, unknown, register, statusIn, statusOf, ifElse}
 use Rattle.analysis.specs.Check.{refusalOf}
 use Rattle.section.specs.declared.Section.{Section}
 use Rattle.section.specs.declared.Section.the-variants as found
 use Rattle.section.specs.Section.{endAt, sectionAt}
-use Rattle.section.specs.Laws.{Found, section-found, section-records}
+use Rattle.section.specs.Laws.{section-found, section-records}
 use Rattle.sheet.specs.declared.Reading.{Reading}
 use Rattle.sheet.specs.declared.Reading.the-variants.{Read, Refused}
 use Rattle.sheet.specs.declared.Sections.{Sections}
 use Rattle.sheet.specs.declared.Sections.the-variants.{Torn, Both}
-use Rattle.sheet.specs.declared.Sheet.{Sheet}
 use Rattle.sheet.specs.declared.Split.{Split}
-use Rattle.sheet.specs.declared.Written.{Written}
 use Rattle.sheet.specs.declared.Written.the-variants as w
 use Rattle.sheet.specs.Components.{COMPONENT_BYTES, refusalBy, codeRefusal, codesReading, countOf, componentBytes, zeroListed}
 use Rattle.sheet.specs.Bytes.{bytesOf}
 use Rattle.sheet.specs.Split.{RECORDS, RECORD_BYTES, allowedCount, recordBytes, splitBytes}
 use Rattle.sheet.specs.Sheet.{LISTED, sheetOf, withSplit, withComponents, sectionsOf}
-use Rattle.sheet.specs.Read.{amountsOf, amountsRefusal, byAmounts, refusedSheet, contentOf, withAnswer, afterCodes, readBy, readOf}
+use Rattle.sheet.specs.Read.{amountsOf, amountsRefusal, refusedSheet, contentOf, withAnswer, afterCodes, readBy, readOf}
 use Rattle.sheet.specs.Write.{writeRefusal, writtenOf, leftOf}
 
 pub never : _≡_ {A = ℕ} 0 1 → ⊥

@@ -6,7 +6,7 @@ use lib.ListN.{length, replicate}
 use Rattle.analysis.specs.Register.{statusOf}
 use Rattle.analysis.specs.Check.{inRange, totalFits, refusalOf}
 use Rattle.section.specs.Section.{endAt, tornOr, sectionAt}
-use Rattle.sheet.specs.declared.Reading.the-variants.{Read, Refused}
+use Rattle.sheet.specs.declared.Reading.the-variants.{Refused}
 use Rattle.sheet.specs.declared.Split.{Split}
 use Rattle.sheet.specs.Split.{RECORDS, allowedCount, noSplit}
 use Rattle.sheet.specs.Components.{codeRefusal}

@@ -1,7 +1,6 @@
 -- The sheet (document 01, "The register and the sheet"): its bytes, and its two sections. Assumes nothing.
 use Prim.Native.Nat.{ℕ, _+_, _*_}
-use mathlib.Core.List.{List, [], _∷_, _++_}
-use mathlib.Core.Bool.{Bool, true, false}
+use mathlib.Core.List.{List, _∷_, _++_}
 use lib.ListN.{length}
 use lib.Dec.{leb, eqb}
 use Rattle.analysis.specs.Register.{ifElse}

@@ -1,8 +1,8 @@
 -- The writer's answers: each is the one of the definition, by the tests that lead to it. Assumes nothing.
 use mathlib.Core.Path.{_≡_, refl, ap, sym, _∙_, subst, subst⁻¹}
-use mathlib.Core.List.{List, [], _∷_, _++_}
+use mathlib.Core.List.{List, _++_}
 use mathlib.Core.Bool.{Bool, true, false}
-use Prim.Native.Nat.{ℕ, zero, suc, _+_, _*_, _≤_, _<_}
+use Prim.Native.Nat.{ℕ, _+_, _*_, _≤_, _<_}
 use native.Mathlib.Omega.{arith}
 use lib.ListN.{length, drop}
 use lib.Dec.{eqb, ltb}
@@ -10,7 +10,6 @@ use borrow.Author.Tests.{eqb-true, eqb-false, ltb-true, ltb-false, lt-ltb, le-lt
 use Rattle.analysis.specs.Register.{ifElse}
 use Rattle.analysis.specs.declared.Checked.{Checked}
 use Rattle.analysis.specs.declared.Checked.the-variants as checked
-use Rattle.analysis.specs.Check as check
 use Rattle.analysis.specs.Check.{refusalOf, answerOf, Checking}
 use Rattle.sheet.specs.declared.Split.{Split}
 use Rattle.sheet.specs.declared.Written.{Written}
@@ -18,7 +17,7 @@ use Rattle.sheet.specs.declared.Written.the-variants.{Length, Refused}
 use Rattle.sheet.specs.Split.{allowedCount}
 use Rattle.sheet.specs.Components.{countOf}
 use Rattle.sheet.specs.Sheet.{sheetOf}
-use Rattle.sheet.specs.Write.{writeRefusal, writtenOf, leftOf, codeOf, WrittenAs}
+use Rattle.sheet.specs.Write.{writeRefusal, writtenOf, WrittenAs}
 use Rattle.sheet.specs.Cases.{never, length-sheet, number-count, number-check, number-short, number-none, number-back, written-length, written-refused, written-back, left-sheet, left-same}
 use Rattle.writer.specs.Answered.{Answered, roomFor}
 

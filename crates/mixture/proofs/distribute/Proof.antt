@@ -1,3 +1,4 @@
+-- `mixture::distribute` meets its contract. Assumes nothing.
 use native.Mathlib.Omega.{arith}
 use mathlib.Core.Path.{refl, _∙_}
 use Rattle.mixture.specs.Scaling.{WHOLE}

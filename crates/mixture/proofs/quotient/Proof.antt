@@ -1,3 +1,4 @@
+-- `mixture::quotient` meets its contract. Assumes nothing.
 use Rattle.mixture.proofs.Loops.{quotient-small}
 use native.Mathlib.Omega.{arith}
 use borrow.Author.Needs.{needs}

@@ -1,7 +1,6 @@
 -- `reader::sections` meets its contract. Assumes nothing.
-use mathlib.Core.Path.{_≡_, sym, ap, _∙_, refl}
-use Prim.Native.Nat.{ℕ, suc, _+_, _-_, _*_, _≤_, _<_}
-use native.Mathlib.Omega.{arith}
+use mathlib.Core.Path.{sym, _∙_}
+use Prim.Native.Nat.{_-_}
 use borrow.Author.Tests.{not-true, not-false}
 use Rattle.reader.proofs.Answers.{first-torn, too-many, second-torn, not-allowed, left-over, two-sections}
 use borrow.Author.Needs.{needs}

@@ -1,10 +1,7 @@
 -- `sheet::allowed_count` meets its contract. Assumes nothing.
-use mathlib.Core.Path.{_≡_, sym, ap, _∙_, refl}
-use Prim.Native.Nat.{ℕ, suc, _+_, _-_, _*_, _≤_, _<_}
-use native.Mathlib.Omega.{arith}
+use Prim.Native.Nat.{_-_}
 use Rattle.sheet.specs.Split.{allowedCount}
 use borrow.Author.Tests.{eq-eqb, ne-eqb}
-use borrow.Author.Needs.{needs}
 use Rattle.sheet.proofs.allowed_count.Statement.{statement}
 use Rattle.sheet.proofs.allowed_count.Tie as tie
 

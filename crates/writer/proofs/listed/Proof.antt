@@ -1,10 +1,10 @@
 -- `writer::listed` meets its contract. The loop's invariant: the count so far and that from this code on make the whole. Assumes nothing.
-use mathlib.Core.Path.{_≡_, sym, ap, _∙_, refl}
-use Prim.Native.Nat.{ℕ, suc, _+_, _-_, _*_, _≤_, _<_}
+use mathlib.Core.Path.{_≡_}
+use Prim.Native.Nat.{_+_, _-_, _≤_, _<_}
 use native.Mathlib.Omega.{arith}
 use Rattle.analysis.specs.Register.{CODES}
 use mathlib.Core.Logic.{⊎-elim}
-use lib.ListN.{length, getD, drop}
+use lib.ListN.{length, drop}
 use Rattle.sheet.specs.Components.{countOf}
 use Rattle.writer.proofs.Turns.{count-none, count-one, count-end}
 use borrow.Author.Needs.{needs}

@@ -2,7 +2,7 @@
 use mathlib.Core.Path.{refl, _∙_}
 use Prim.Native.Nat.{_+_}
 use native.Mathlib.Omega.{arith}
-use lib.ListN.{set, length-set}
+use lib.ListN.{set}
 use Rattle.sheet.specs.Components.{componentBytes}
 use Rattle.sheet.specs.Split.{splitBytes}
 use Rattle.sheet.specs.Cases.{length-sheet}

@@ -1,8 +1,7 @@
 -- `writer::put_split` meets its contract. The loop's invariant: the stores so far and those of the records from place i on make the whole run. Assumes nothing.
-use mathlib.Core.Path.{_≡_, sym, ap, _∙_, refl}
-use Prim.Native.Nat.{ℕ, suc, _+_, _-_, _*_, _≤_, _<_}
-use native.Mathlib.Omega.{arith}
-use mathlib.Core.List.{List, [], _∷_, _++_}
+use mathlib.Core.Path.{_≡_, sym, ap, _∙_}
+use Prim.Native.Nat.{ℕ, _+_, _-_, _*_, _≤_}
+use mathlib.Core.List.{List, _∷_}
 use native.Mathlib.Nat.{sub-zero}
 use lib.ListN.{length, getD}
 use lib.Seq.{sets, length-sets}

@@ -1,7 +1,5 @@
 -- `writer::write` meets its contract. Assumes nothing.
-use mathlib.Core.Path.{_≡_, sym, ap, _∙_, refl}
-use Prim.Native.Nat.{ℕ, suc, _+_, _-_, _*_, _≤_, _<_}
-use native.Mathlib.Omega.{arith}
+use Prim.Native.Nat.{_-_}
 use Rattle.sheet.specs.Cases.{allowed-most}
 use Rattle.writer.proofs.Answers.{room, wrote, left-alone}
 use borrow.Author.Needs.{needs}
