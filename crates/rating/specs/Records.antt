@@ -8,10 +8,6 @@ use Rattle.systems.specs.Systems.{COMPONENTS, hasOf}
 use Rattle.split.specs.Fold.{allTo, table}
 use Rattle.split.specs.Split.{RECORDS, both, cellOf, systemOf, heldOf, rankOf, componentAt}
 
--- component c is the system's jth
-abbrev pub placedAt : ℕ → ℕ → ℕ → Bool
-placedAt system j c = both (hasOf system c) (eqb (rankOf system c) j)
-
 -- the code of a component in a split: methane, ethane, propane, butanes
 abbrev pub codes : List ℕ
 codes = 1 ∷ 2 ∷ 3 ∷ 14 ∷ []

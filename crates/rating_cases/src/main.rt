@@ -111,12 +111,8 @@ fn put_mixture(amounts: [u32; CODES]) {
     put(b"\n");
 }
 
-fn main() {
-    // the gas of Table A.1: no rounds, the most rounds, what was found put back
-    put_search(GAS, 0);
-    put_search(GAS, 4000);
-    put_back(GAS);
-    // totals 999899 and 999900
+// Totals 999899 and 999900.
+fn put_totals() {
     put_search(
         [
             0,
@@ -155,7 +151,10 @@ fn main() {
         ],
         4000,
     );
-    // ethane 99 and 100
+}
+
+// Ethane 99 and 100.
+fn put_limits() {
     put_search(
         [0, 969901, 99, 20000, 5000, 5000, 0, 0, 0, 0, 0, 0, 0, 0],
         4000,
@@ -164,7 +163,10 @@ fn main() {
         [0, 969900, 100, 20000, 5000, 5000, 0, 0, 0, 0, 0, 0, 0, 0],
         4000,
     );
-    // equal remainders: ethane and propane, one part; after butane; after methane
+}
+
+// Equal remainders of ethane and propane, one part; after butane; after methane.
+fn put_remainders() {
     put_mixture([
         0,
         856641,
@@ -213,6 +215,16 @@ fn main() {
         0,
         0,
     ]);
+}
+
+fn main() {
+    // the gas of Table A.1: no rounds, the most rounds, what was found put back
+    put_search(GAS, 0);
+    put_search(GAS, 4000);
+    put_back(GAS);
+    put_totals();
+    put_limits();
+    put_remainders();
     // systems 2, 7 and 8
     put_mixture(BUTANE);
     put_search(BUTANE, 4000);

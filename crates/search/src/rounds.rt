@@ -3,7 +3,7 @@ ghost use mathlib.Core.Path.{_≡_};
 ghost use Prim.Native.Nat.{_<_, _≤_, _^_};
 ghost use Rattle.split.specs.Move.{movedOf};
 ghost use Rattle.split.specs.Tests.{Fit};
-ghost use Rattle.split.specs.Search.{LEVEL, turnOf, searchOf};
+ghost use Rattle.split.specs.Search.{LEVEL, turnOf, found, searchOf};
 ghost use Rattle.rows.specs.Carried.{Held};
 ghost use Rattle.search.specs.Tried.{Tried};
 use super::moves::first_move;
@@ -81,6 +81,13 @@ fn make_move(
     moved(a, m, d);
 }
 
+// The cells at the end of a search, and what it came to.
+fn ended(cells: [u32; CELLS], search: Search) -> Found
+    ensures { λ r. ⌜ r ≡ found cells search ⌝ }
+{
+    Found { cells, search }
+}
+
 // The search from a split with its partial numbers: a move counts a round, halving the stride does not.
 pub(crate) fn search(
     ch: &[u8; SYSTEMS],
@@ -103,16 +110,10 @@ pub(crate) fn search(
         let t = next_turn(ch, k, limit, allowance, &a, &v, &mut tried, level, rounds);
         match t {
             Turn::Rate(s) => {
-                return Found {
-                    cells: a,
-                    search: Search::Balanced { spread: s, rounds },
-                };
+                return ended(a, Search::Balanced { spread: s, rounds });
             }
             Turn::Refuse => {
-                return Found {
-                    cells: a,
-                    search: Search::Unbalanced,
-                };
+                return ended(a, Search::Unbalanced);
             }
             Turn::Move(m) => {
                 let d = stride(level);

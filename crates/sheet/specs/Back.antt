@@ -56,9 +56,6 @@ unrefused k x p r n h = code-fine k p (live-status x (statusOf k) (range-greates
 
 -- the head of a run of amounts, by whether it is listed
 module _ (k x : ℕ) (xs : List ℕ) where
-  pub none-count : eqb x 0 ≡ true → countOf (x ∷ xs) ≡ countOf xs
-  none-count e = rw e
-
   pub some-count : eqb x 0 ≡ false → countOf (x ∷ xs) ≡ suc (countOf xs)
   some-count e = rw e
 

@@ -23,6 +23,3 @@ parts-few ch k a s st h =
       st .few,
       sum-three (columnOf k a) COMPONENTS (memberOf (systemOf ch s) 0) (memberOf (systemOf ch s) 1) (memberOf (systemOf ch s) 2) (t .low0) (t .low1) (t .low2) (t .ne10) (t .ne20) (t .ne21),
     )
-
-pub cell-few : (ch : List ℕ) (k : ℕ) (a : List ℕ) (s c : ℕ) → Stock ch k a → s < k → c < COMPONENTS → cellOf a s c ≤ 1000000
-cell-few ch k a s c st h l = omega (arith, cell-in k a s c h, sum-has (columnOf k a) COMPONENTS c l, st .few)

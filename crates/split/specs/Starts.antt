@@ -133,13 +133,6 @@ module _ (mix ch : List ℕ) (k s c : ℕ) where
         let one : oneIf (hasOf (systemOf ch s) c) ≡ 1 = ap oneIf (sym has-is ∙ u) in
         omega (arith, q, one, sum-has (λ r. oneIf (hasOf (systemOf ch r) c)) k s h)
 
-pub mix-few : (mix : List ℕ) (c : ℕ) → sumTo (λ e. getD mix e 0) COMPONENTS ≤ 1000000 → c < COMPONENTS → getD mix c 0 ≤ 1000000
-mix-few mix c mi l = omega (arith, mi, sum-has (λ e. getD mix e 0) COMPONENTS c l)
-
-pub sharers-more : (ch : List ℕ) (c n x y system : ℕ) (b : Bool) → x ≡ sharersOf ch c n → system ≡ systemOf ch n → b ≡ hasOf system c → y ≡ cond b 1 0 → x + y ≡ sharersOf ch c (n + 1)
-unfolding sharersOf
-sharers-more ch c n x y system b p e f q = sum-more (λ s. oneIf (hasOf (systemOf ch s) c)) n x y p (q ∙ ap oneIf (f ∙ ap (λ z. hasOf z c) e))
-
 -- ---- no row of a start is empty
 
 sharers-le : (ch : List ℕ) (c n : ℕ) → sharersOf ch c n ≤ n

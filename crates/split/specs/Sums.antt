@@ -111,9 +111,6 @@ module _ (ch : List ℕ) (k : ℕ) (a : List ℕ) (chosen : Chosen ch k) where
   pub parts-le : sumTo (partsOf ch a) k ≤ sumTo (columnOf k a) COMPONENTS
   parts-le = rw (columns-rows k a) (sum-le (partsOf ch a) (λ s. sumTo (cellOf a s) COMPONENTS) k row-le)
 
-  pub row-few : (s : ℕ) → s < k → partsOf ch a s ≤ sumTo (columnOf k a) COMPONENTS
-  row-few s l = N.le-trans (sum-has (partsOf ch a) k s l) parts-le
-
   -- and of clean cells as many
   pub parts-columns : Clean ch k a → sumTo (partsOf ch a) k ≡ sumTo (columnOf k a) COMPONENTS
   parts-columns clean = sum-same (partsOf ch a) (λ s. sumTo (cellOf a s) COMPONENTS) k (row-is clean) ∙ sym (columns-rows k a)

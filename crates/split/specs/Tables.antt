@@ -36,11 +36,3 @@ fill-next n f a i v h z e = (
       (λ j l. getD-set-other a i j v 0 (λ q. omega arith) ∙ z .2 j l)
       (getD-set-same a i v 0 (omega (arith, z .0)) ∙ e),
 )
-
-pub fill-all : (n : ℕ) (f : ℕ → ℕ) (a : List ℕ) (i : ℕ) → n ≤ i → Filled n f a i → a ≡ table f n 0
-fill-all n f a i h z =
-    ext-getD 0 a (table f n 0) (z .0 ∙ sym (length-table f n 0))
-    (λ j l.
-    let b : j < n = omega (arith, z .0) in
-    let q : 0 + j ≡ j = omega arith in
-    z .2 j (omega arith) ∙ sym (getD-table f n 0 j b ∙ ap f q))

@@ -74,14 +74,6 @@ module _ (system c : ℕ) where
   unfolding hasOf
   has-first e = rw (eq-eqb c (memberOf system 0) e, hasOf)
 
-  pub has-second : (c ≡ memberOf system 0 → ⊥) → c ≡ memberOf system 1 → hasOf system c ≡ true
-  unfolding hasOf
-  has-second n e = rw (ne-eqb c (memberOf system 0) n, eq-eqb c (memberOf system 1) e, hasOf)
-
-  pub has-third : (c ≡ memberOf system 0 → ⊥) → (c ≡ memberOf system 1 → ⊥) → hasOf system c ≡ eqb c (memberOf system 2)
-  unfolding hasOf
-  has-third n m = rw (ne-eqb c (memberOf system 0) n, ne-eqb c (memberOf system 1) m, hasOf)
-
   by-tests : (P : Type 0) (a b : Bool) → eqb c (memberOf system 0) ≡ a → eqb c (memberOf system 1) ≡ b → hasOf system c ≡ true
       → ((j : ℕ) → j < 3 → c ≡ memberOf system j → P) → P
   unfolding hasOf

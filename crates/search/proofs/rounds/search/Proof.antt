@@ -30,14 +30,20 @@ next-turn-requires c κs = (c .before .before .before .loop .inv .0, c .before .
 enum-known-t : tie.Need-enum-known-t Inv-loop μ-loop
 enum-known-t c = search needs
 
+ended-requires : tie.Need-ended-requires Inv-loop μ-loop
+ended-requires c κs = search needs
+
 returns : tie.Need-returns Inv-loop μ-loop
-returns c = sym (c .before .before .before .before .before .before .before .loop .inv .3 ∙ run-rate _ _ _ _ _ _ _ _ _ (sym (c .before .before .before .next-turn .ensures .0) ∙ c .before .t .given .1))
+returns c = c .ended .ensures ∙ sym (c .before .before .before .before .before .before .before .before .loop .inv .3 ∙ run-rate _ _ _ _ _ _ _ _ _ (sym (c .before .before .before .before .next-turn .ensures .0) ∙ c .before .before .t .given .1))
 
 enum-told : tie.Need-enum-told Inv-loop μ-loop
 enum-told c = search needs
 
+ended-requires-2 : tie.Need-ended-requires-2 Inv-loop μ-loop
+ended-requires-2 c κs = search needs
+
 returns-2 : tie.Need-returns-2 Inv-loop μ-loop
-returns-2 c = sym (c .before .before .before .before .before .before .loop .inv .3 ∙ run-refuse _ _ _ _ _ _ _ _ (sym (c .before .before .next-turn .ensures .0) ∙ c .enum-told .given .1))
+returns-2 c = c .ended2 .ensures ∙ sym (c .before .before .before .before .before .before .before .loop .inv .3 ∙ run-refuse _ _ _ _ _ _ _ _ (sym (c .before .before .before .next-turn .ensures .0) ∙ c .before .enum-told .given .1))
 
 enum-known-t-2 : tie.Need-enum-known-t-2 Inv-loop μ-loop
 enum-known-t-2 c = search needs
@@ -97,8 +103,10 @@ search-spec =
     loop-holds
     next-turn-requires
     enum-known-t
+    ended-requires
     returns
     enum-told
+    ended-requires-2
     returns-2
     enum-known-t-2
     stride-requires
