@@ -41,6 +41,97 @@ const BUTANE: [u32; CODES] = [
     0,
 ];
 
+// The gases of the limits.
+const TOTAL_999899: [u32; CODES] = [
+    0,
+    970697,
+    16658,
+    2417,
+    346,
+    245,
+    11,
+    73,
+    125,
+    0,
+    84,
+    528,
+    8715,
+    0,
+];
+
+const TOTAL_999900: [u32; CODES] = [
+    0,
+    970698,
+    16658,
+    2417,
+    346,
+    245,
+    11,
+    73,
+    125,
+    0,
+    84,
+    528,
+    8715,
+    0,
+];
+
+const ETHANE_99: [u32; CODES] = [0, 969901, 99, 20000, 5000, 5000, 0, 0, 0, 0, 0, 0, 0, 0];
+
+const ETHANE_100: [u32; CODES] = [0, 969900, 100, 20000, 5000, 5000, 0, 0, 0, 0, 0, 0, 0, 0];
+
+// Gases whose ethane and propane have equal remainders: one part is given out; after butane; after methane.
+const REMAINDERS_ONE_PART: [u32; CODES] = [
+    0,
+    856641,
+    19981,
+    19981,
+    18632,
+    19263,
+    0,
+    0,
+    0,
+    0,
+    0,
+    65502,
+    0,
+    0,
+];
+
+const REMAINDERS_AFTER_BUTANE: [u32; CODES] = [
+    0,
+    833065,
+    30857,
+    30857,
+    2859,
+    10119,
+    0,
+    0,
+    0,
+    0,
+    0,
+    92243,
+    0,
+    0,
+];
+
+const REMAINDERS_AFTER_METHANE: [u32; CODES] = [
+    0,
+    826050,
+    26606,
+    26606,
+    33680,
+    11276,
+    0,
+    0,
+    0,
+    0,
+    0,
+    75782,
+    0,
+    0,
+];
+
 fn put(text: &[u8]) {
     io::write_all(STDOUT_FILENO, text);
 }
@@ -111,120 +202,18 @@ fn put_mixture(amounts: [u32; CODES]) {
     put(b"\n");
 }
 
-// Totals 999899 and 999900.
-fn put_totals() {
-    put_search(
-        [
-            0,
-            970697,
-            16658,
-            2417,
-            346,
-            245,
-            11,
-            73,
-            125,
-            0,
-            84,
-            528,
-            8715,
-            0,
-        ],
-        4000,
-    );
-    put_search(
-        [
-            0,
-            970698,
-            16658,
-            2417,
-            346,
-            245,
-            11,
-            73,
-            125,
-            0,
-            84,
-            528,
-            8715,
-            0,
-        ],
-        4000,
-    );
-}
-
-// Ethane 99 and 100.
-fn put_limits() {
-    put_search(
-        [0, 969901, 99, 20000, 5000, 5000, 0, 0, 0, 0, 0, 0, 0, 0],
-        4000,
-    );
-    put_search(
-        [0, 969900, 100, 20000, 5000, 5000, 0, 0, 0, 0, 0, 0, 0, 0],
-        4000,
-    );
-}
-
-// Equal remainders of ethane and propane, one part; after butane; after methane.
-fn put_remainders() {
-    put_mixture([
-        0,
-        856641,
-        19981,
-        19981,
-        18632,
-        19263,
-        0,
-        0,
-        0,
-        0,
-        0,
-        65502,
-        0,
-        0,
-    ]);
-    put_mixture([
-        0,
-        833065,
-        30857,
-        30857,
-        2859,
-        10119,
-        0,
-        0,
-        0,
-        0,
-        0,
-        92243,
-        0,
-        0,
-    ]);
-    put_mixture([
-        0,
-        826050,
-        26606,
-        26606,
-        33680,
-        11276,
-        0,
-        0,
-        0,
-        0,
-        0,
-        75782,
-        0,
-        0,
-    ]);
-}
-
 fn main() {
     // the gas of Table A.1: no rounds, the most rounds, what was found put back
     put_search(GAS, 0);
     put_search(GAS, 4000);
     put_back(GAS);
-    put_totals();
-    put_limits();
-    put_remainders();
+    put_search(TOTAL_999899, 4000);
+    put_search(TOTAL_999900, 4000);
+    put_search(ETHANE_99, 4000);
+    put_search(ETHANE_100, 4000);
+    put_mixture(REMAINDERS_ONE_PART);
+    put_mixture(REMAINDERS_AFTER_BUTANE);
+    put_mixture(REMAINDERS_AFTER_METHANE);
     // systems 2, 7 and 8
     put_mixture(BUTANE);
     put_search(BUTANE, 4000);
