@@ -1,4 +1,4 @@
--- What the keys of the candidates tell: which are chosen, which scores most, and what a component takes.
+-- What the keys of the candidates tell: which are chosen, which scores most, and what a component takes. Assumes nothing.
 use Prim.Native.Nat.{ℕ, zero, suc, _+_, _/_, _%_, _≤_, _<_}
 use mathlib.Core.Path.{_≡_, refl, sym, ap, _∙_}
 use mathlib.Core.Bool.{Bool, true, false, not, cond, _&&_}

@@ -1,4 +1,4 @@
--- The list of chosen systems as it grows in an array of 8 places.
+-- The list of chosen systems as it grows in an array of 8 places. Assumes nothing.
 use Prim.Native.Nat.{ℕ, suc, _+_, _-_, _/_, _%_, _≤_, _<_}
 use mathlib.Core.Path.{_≡_, refl, sym, ap, _∙_}
 use mathlib.Core.Bool.{Bool, true, false}

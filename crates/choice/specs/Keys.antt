@@ -1,4 +1,4 @@
--- The keys of the candidates, which tell the fittest and the chosen systems without marks. Assumes nothing.
+-- The keys of the candidates (document 01, "Choice of systems"), which tell the fittest and the chosen systems without marks. Assumes nothing.
 use Prim.Native.Nat.{ℕ, zero, suc, _+_, _<_}
 use mathlib.Core.Path.{_≡_}
 use mathlib.Core.List.{List}

@@ -10,6 +10,7 @@ use mir.Val.{SFits, toZ, ofZ}
 use mir.ValLaws.{toZ-ofZ}
 use Rattle.integer.specs.Ring.{mag-le}
 
+-- by a bound below 2^63
 pub sfits-small : (z : ℤ) → natAbs z ≤ 9000000000000000000 → SFits w64 z
 sfits-small z h = record { sfits = N.lt-of-le-of-lt (N.le-trans (mag-le z) h) (lit< tt) }
 

@@ -4,7 +4,7 @@ use mathlib.Core.List.{List, [], _∷_}
 use mathlib.Core.Bool.{Bool, cond}
 use lib.Dec.{ltb, eqb}
 use lib.ListN.{getD}
-use Rattle.systems.specs.Systems.{COMPONENTS, hasOf}
+use Rattle.systems.specs.Systems.{COMPONENTS}
 use Rattle.split.specs.Fold.{allTo, table}
 use Rattle.split.specs.Split.{RECORDS, both, cellOf, systemOf, heldOf, rankOf, componentAt}
 

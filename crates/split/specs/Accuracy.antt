@@ -27,6 +27,10 @@ module _ (ch : List ℕ) (k : ℕ) (mix a : List ℕ) (chosen : Chosen ch k) whe
   pub fit-few : totalOf mix ≤ 1000000 → Resums mix k a → sumTo (partsOf ch a) k ≤ 1000000
   fit-few few sums = omega (arith, parts-le ch k a chosen, resummed mix k a sums)
 
+  -- a split that re-sums has exactly a million parts, so the mean is a weighted mean
+  pub fit-million : Clean ch k a → totalOf mix ≡ 1000000 → Resums mix k a → sumTo (partsOf ch a) k ≡ 1000000
+  fit-million clean million sums = parts-columns ch k a chosen clean ∙ resummed mix k a sums ∙ million
+
   module _ (limit n1 : ℕ) (w : ℤ) (s n : ℕ) (is : proposedOf limit ch k mix a n1 ≡ Rated w s n) where
     fit : Fit limit ch k mix a
     fit = rated-fit limit ch k mix a n1 (subst IsRated (sym is) tt)

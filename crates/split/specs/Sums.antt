@@ -12,7 +12,7 @@ use borrow.Author.Tests.{eq-eqb, ne-eqb, lt-ltb}
 use Rattle.systems.specs.Systems.{COMPONENTS, memberOf, hasOf, Candidate}
 use Rattle.systems.specs.Members.{member-lt, members-apart}
 use Rattle.split.specs.Fold.{sumTo}
-use Rattle.split.specs.Folds.{sum-same, sum-but, sum-has}
+use Rattle.split.specs.Folds.{sum-same, sum-but}
 use Rattle.split.specs.Split.{cellOf, systemOf, partsOf, columnOf, heldOf, Chosen}
 use Rattle.split.specs.Clean.{Clean}
 use Rattle.split.specs.Fits.{Resums}

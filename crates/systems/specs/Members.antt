@@ -6,7 +6,7 @@ use mathlib.Core.List.{[], _∷_}
 use native.Mathlib.Omega.{arith}
 use lib.Dec.{T, eqb, ltb, leb, eqb→eq, ltb→lt, leb→le}
 use lib.ListN.{getD, length, List·getD-eq-default}
-use borrow.Author.Tests.{eqb-true, eq-eqb, ne-eqb}
+use borrow.Author.Tests.{eqb-true, eq-eqb}
 use Rattle.systems.specs.Systems.{COMPONENTS, members, memberOf, hasOf, elem, Candidate}
 use Rattle.systems.specs.Table.{each-candidate, everyTo, eachTo, to-true, of-true}
 

@@ -14,9 +14,10 @@ pub(crate) const ONE: u64 = 9223372036854775808;
 // Of n / d so counted, 20 digits are dropped: 2^43ths are left.
 const DROPPED: u64 = 1048576;
 
-// The low 22 digits of these, and the other 21.
+// 2^22: the low 22 digits of these are kept apart from the others.
 const LOW: u64 = 4194304;
 
+// 2^21, the rest of 2^43.
 const HIGH: u64 = 2097152;
 
 // A ratio n / d, at most 1, and its binary digits: nearly 2^43 * n / d, as `high` times 2^22 and `low`.
