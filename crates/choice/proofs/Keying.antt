@@ -1,7 +1,7 @@
 -- What the keys of the candidates tell: which are chosen, which scores most, and what a component takes. Assumes nothing.
 use Prim.Native.Nat.{ℕ, zero, suc, _+_, _/_, _%_, _≤_, _<_}
 use mathlib.Core.Path.{_≡_, refl, sym, ap, _∙_}
-use mathlib.Core.Bool.{Bool, true, false, not, cond, _&&_}
+use mathlib.Core.Bool.{Bool, true, false, cond, _&&_}
 use mathlib.Core.List.{List, [], _∷_}
 use native.Mathlib.Omega.{arith}
 use native.Mathlib.Nat.{add-zero}
@@ -9,10 +9,10 @@ use native.Mathlib.Numerals.{add-one}
 use lib.Dec.{eqb}
 use lib.ListN.{getD, set, length, drop, replicate, length-set, getD-replicate}
 use lib.Seq.{getD-set-same, getD-set-other}
-use borrow.Author.Tests.{lt-ltb, le-ltb, eqb-true, eqb-false, not-true}
+use borrow.Author.Tests.{lt-ltb, le-ltb, eqb-true, eqb-false}
 use Rattle.systems.specs.Systems.{COMPONENTS, memberOf, hasOf, candidates}
 use Rattle.systems.specs.Choice.{NUMBERS, order, fold, weightedOf, fitnessOf, isChosen, oneIf, countOf, containingOf, scoreOf, betterOf, fittestOf, takeOf, passOf, marksOf}
-use Rattle.systems.specs.Table.{to-true, eachTo}
+use Rattle.systems.specs.Table.{none-has}
 use Rattle.systems.specs.Scores.{better-next, better-before}
 use Rattle.choice.specs.Keys.{KEYS, weighedTo, keyOf, Keyed}
 use Rattle.choice.proofs.Loops.{next, done}
@@ -106,14 +106,6 @@ fresh-all mix keys i k h =
 
 -- ---- how many chosen systems contain c, and the fittest that is not chosen
 
--- number 0 contains no component
-missing : ℕ → Bool
-missing c = not (hasOf 0 c)
-
-lacks : (c : ℕ) → c < COMPONENTS → hasOf 0 c ≡ false
-unfolding missing hasOf memberOf
-lacks c h = not-true (hasOf 0 c) (to-true (missing c) (eachTo missing COMPONENTS tt c h))
-
 -- the count and the best of the candidates from place i on come to those of all, from the count and the best so far
 pub record Told (fit : ℕ → ℕ) (marks : List Bool) (c i count best system : ℕ) : Type 0 where
   pub counted : fold (countOf marks c) (drop i candidates) count ≡ containingOf candidates marks c
@@ -133,7 +125,7 @@ tally-none keys c h =
       most = omega arith;
       few = omega arith;
       place = omega arith;
-      told = λ fit marks k. record { counted = refl; scored = sym (score-lacks fit marks 0 c (lacks c h)); rest = refl };
+      told = λ fit marks k. record { counted = refl; scored = sym (score-lacks fit marks 0 c (none-has c h)); rest = refl };
     }
 
 module _ (keys : List ℕ) (c i count best at : ℕ) (k : Tally keys c i count best at) (h : i < length candidates) where

@@ -1,12 +1,13 @@
 -- Equations of the integers' ring by computing normal forms: terms are collected, and those that cancel go. Assumes nothing.
 use mathlib.Core.Path.{_≡_, refl, sym, _∙_, ap, ap₂}
-use mathlib.Core.Bool.{Bool, true, false, cond}
+use mathlib.Core.Bool.{Bool, true, false, cond, _&&_}
 use mathlib.Core.List.{List, [], _∷_}
 use Prim.Native.Nat.{ℕ, zero, suc}
+use lib.Ieee.Fits.{and-l, and-r}
 use lib.Dec.{T, ltb, leb, eqb, eqb→eq}
 use lib.ListN.{getD}
 use lib.IntN.{ℤ, pos, negsuc, negℤ, _+ℤ_, _-ℤ_, _*ℤ_, +ℤ-idl, +ℤ-idr, +ℤ-assoc, zero-*ℤ, *ℤ-one, *ℤ-comm, one}
-use Rattle.integer.specs.Tests.{both, both-left, both-right, at-cond}
+use Rattle.integer.specs.Tests.{at-cond}
 use Rattle.integer.specs.Ring.{ring, distr, neg-*, *ℤ-assoc}
 
 -- an expression over numbered variables
@@ -28,7 +29,7 @@ abbrev same : List ℕ → List ℕ → Bool
 same [] [] = true
 same [] (y ∷ m) = false
 same (x ∷ l) [] = false
-same (x ∷ l) (y ∷ m) = both (eqb x y) (same l m)
+same (x ∷ l) (y ∷ m) = eqb x y && same l m
 
 abbrev before : List ℕ → List ℕ → Bool
 before [] m = true
@@ -80,7 +81,7 @@ same-eq : (l m : List ℕ) → T (same l m) → l ≡ m
 same-eq [] [] t = refl
 same-eq [] (y ∷ m) t = absurd t
 same-eq (x ∷ l) [] t = absurd t
-same-eq (x ∷ l) (y ∷ m) t = ap₂ _∷_ (eqb→eq x y (both-left (eqb x y) (same l m) t)) (same-eq l m (both-right (eqb x y) (same l m) t))
+same-eq (x ∷ l) (y ∷ m) t = ap₂ _∷_ (eqb→eq x y (and-l (eqb x y) (same l m) t)) (same-eq l m (and-r (eqb x y) (same l m) t))
 
 zero-eq : (c : ℤ) → T (isZero c) → c ≡ pos 0
 zero-eq (pos zero) t = refl

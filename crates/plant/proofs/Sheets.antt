@@ -2,22 +2,20 @@
 use mathlib.Core.Path.{_≡_, refl, sym, ap, _∙_, subst, subst⁻¹}
 use mathlib.Core.Bool.{Bool, true, false}
 use mathlib.Core.List.{List}
-use Prim.Native.Nat.{ℕ, zero, suc, _+_}
+use Prim.Native.Nat.{ℕ}
 use native.Mathlib.Omega.{arith}
 use lib.Dec.{eqb}
 use lib.ListN.{getD, length}
 use borrow.Author.Tests.{eq-eqb, ne-eqb}
 use Rattle.analysis.specs.Register.{ifElse}
 use Rattle.analysis.specs.Check.{AtFault}
-use Rattle.sheet.specs.Components.{codeRefusal, codesReading}
-use Rattle.sheet.specs.Sheet.{sheetOf, sectionsOf}
+use Rattle.sheet.specs.Sheet.{sheetOf}
 use Rattle.sheet.specs.Read as read
-use Rattle.sheet.specs.Read.{readOf, ReadAs, FaultIn, amountsRefusal, byAmounts, contentOf, withAnswer, afterCodes}
+use Rattle.sheet.specs.Read.{readOf, ReadAs, FaultIn}
+use Rattle.sheet.specs.Coded.{carriedOf, refused-answer, carried-code, read-whole, read-good}
 use Rattle.sheet.specs.Write as write
 use Rattle.sheet.specs.Write.{writeRefusal, writtenOf, leftOf, WrittenAs}
 use Rattle.sheet.specs.declared.Split.{Split}
-use Rattle.sheet.specs.declared.Sections.{Sections}
-use Rattle.sheet.specs.declared.Sections.the-variants as sections
 use Rattle.sheet.specs.declared.Reading.{Reading}
 use Rattle.sheet.specs.declared.Reading.the-variants as reading
 use Rattle.sheet.specs.declared.Sheet.{Sheet}
@@ -70,62 +68,14 @@ module _ (a : List ℕ) (p : Split) (b : List ℕ) (r : Written) (left : List �
       ),
     )
 
--- ---- reading: only 5 carries a code
-
-abbrev Coded : Reading → Type 0
-Coded reading.Read = Unit {0}
-Coded (reading.Refused number place code) = eqb number 5 ≡ false → code ≡ 0
-
-codes-coded : (n : ℕ) (s : List ℕ) (at i p : ℕ) → Coded (codesReading n s at i p)
-codes-coded zero s at i p = tt
-codes-coded (suc n) s at i p = go (codes-coded n s (at + 5) (i + 1) (getD s at 0)) (eqb (codeRefusal (getD s at 0) p) 0)
-  where
-    go : Coded (codesReading n s (at + 5) (i + 1) (getD s at 0)) → (t : Bool)
-        → Coded (ifElse t (codesReading n s (at + 5) (i + 1) (getD s at 0)) (reading.Refused (codeRefusal (getD s at 0) p) i 0))
-    go rest true = rest
-    go rest false = λ e. refl
-
-by-coded : (number code : ℕ) → Coded (byAmounts number code)
-by-coded number code = go (eqb number 0)
-  where
-    go : (t : Bool) → Coded (ifElse t reading.Read (reading.Refused number 0 (ifElse (eqb number 5) code 0)))
-    go true = tt
-    go false = λ e. rw e
-
-after-coded : (x : Reading) (n : ℕ) (s : List ℕ) (code : ℕ) → Coded x → Coded (afterCodes x n s code)
-after-coded reading.Read n s code h = by-coded (amountsRefusal n s) code
-after-coded (reading.Refused number place code′) n s code h = h
-
-with-coded : (x : Reading) (y : Sheet) → y .answer ≡ reading.Read → Coded x → Coded (withAnswer x y .answer)
-with-coded reading.Read y e h = rw e tt
-with-coded (reading.Refused number place code) y e h = h
-
-read-coded : (s : List ℕ) (code : ℕ) → Coded (readOf s code .answer)
-unfolding readOf read.readBy
-read-coded s code = go (sectionsOf s)
-  where
-    go : (x : Sections) → Coded (read.readBy x s code .answer)
-    go sections.Torn = λ e. refl
-    go (sections.Both n m first) =
-        with-coded (afterCodes (codesReading n s 1 0 0) n s code) (contentOf n m first s) refl (after-coded (codesReading n s 1 0 0) n s code (codes-coded n s 1 0 0))
-
--- what a refused sheet carries, as the place of the answer
-abbrev pub placeOf : ℕ → ℕ → ℕ → ℕ
-placeOf number place code = ifElse (eqb number 5) code place
+-- ---- reading
 
 module _ (s : List ℕ) (r : Sheet) (h : ReadAs s r) (number place code : ℕ) (e : r .answer ≡ reading.Refused number place code) where
-  read-answer : readOf s code .answer ≡ reading.Refused number place code
-  read-answer = ap (λ (x : Sheet). x .answer) (sym (h .sheet ∙ ap (readOf s) (ap read.codeOf e))) ∙ e
+  same-code : codeIn (reply number (carriedOf number place code)) ≡ code
+  same-code = carried-code s r h number place code e
 
-  same-code : codeIn (reply number (placeOf number place code)) ≡ code
-  same-code = go (eqb number 5) refl (subst Coded read-answer (read-coded s code))
-    where
-      go : (t : Bool) → eqb number 5 ≡ t → Coded (reading.Refused number place code) → ifElse t (ifElse t code place) 0 ≡ code
-      go true q z = refl
-      go false q z = sym (z q)
-
-  read-back : readOf s (codeIn (reply number (placeOf number place code))) .answer ≡ reading.Refused number place code
-  read-back = ap (λ (c : ℕ). readOf s c .answer) same-code ∙ read-answer
+  read-back : readOf s (codeIn (reply number (carriedOf number place code))) .answer ≡ reading.Refused number place code
+  read-back = ap (λ (c : ℕ). readOf s c .answer) same-code ∙ refused-answer s r h number place code e
 
   -- of the reply to a refused sheet
   module _ (o : Reply) (q : o ≡ readReply (reading.Refused number place code)) where
@@ -148,10 +98,10 @@ module _ (s : List ℕ) (r : Sheet) (h : ReadAs s r) (number place code : ℕ) (
 
 module _ (s : List ℕ) (r : Sheet) (h : ReadAs s r) (e : r .answer ≡ reading.Read) where
   pub whole : r ≡ readOf s 0
-  whole = h .sheet ∙ ap (readOf s) (ap read.codeOf e)
+  whole = read-whole s r h e
 
   good : readOf s 0 .answer ≡ reading.Read
-  good = ap (λ (x : Sheet). x .answer) (sym whole) ∙ e
+  good = read-good s r h e
 
   pub read-done : reply 0 0 ≡ readReply (readOf s 0 .answer)
   read-done = sym (ap readReply good)
@@ -163,8 +113,8 @@ module _ (s : List ℕ) (r : Sheet) (h : ReadAs s r) (e : r .answer ≡ reading.
   count-read count now old q = q ∙ sym (ap (λ (x : Reading). readCount x count old) good)
 
 -- the place is the code with 5, else the record's
-pub place-five : (number place code : ℕ) → number ≡ 5 → code ≡ placeOf number place code
+pub place-five : (number place code : ℕ) → number ≡ 5 → code ≡ carriedOf number place code
 place-five number place code e = sym (rw (eq-eqb number 5 e))
 
-pub place-other : (number place code : ℕ) → (number ≡ 5 → ⊥) → place ≡ placeOf number place code
+pub place-other : (number place code : ℕ) → (number ≡ 5 → ⊥) → place ≡ carriedOf number place code
 place-other number place code e = sym (rw (ne-eqb number 5 e))

@@ -13,6 +13,7 @@ use Rattle.systems.specs.Table.{every, everyTo, eachTo, each-candidate}
 use Rattle.split.specs.Fold.{allTo, table}
 use Rattle.split.specs.Split.{CELLS, RECORDS, both, cellOf, systemOf, heldOf, rankOf, componentAt, cellsOf, amountsOf, Chosen}
 use Rattle.split.specs.Tables.{length-table, getD-table}
+use Rattle.split.specs.Clean.{held-row, row-held}
 use Rattle.split.specs.Places.{rank-lt, component-rank, component-lt, component-has, rank-component}
 use Rattle.sheet.specs.declared.Split.{Split}
 use Rattle.rating.specs.Records.{codeOf, systemAt, codeAt, systemsOf, codesOf, amountAt, cellAt, matchesAt, fitsOf}
@@ -149,18 +150,6 @@ pub record Celled (ch : List ℕ) (k : ℕ) (xs out : List ℕ) (r : ℕ) : Type
   long : length out ≡ CELLS
   put : (i : ℕ) → i < CELLS → heldOf ch k (i / COMPONENTS) (i % COMPONENTS) ≡ true → recordOf ch i < r → getD out i 0 ≡ getD xs (recordOf ch i) 0
   rest : (i : ℕ) → i < CELLS → heldOf ch k (i / COMPONENTS) (i % COMPONENTS) ≡ false → getD out i 0 ≡ 0
-
-held-row : (ch : List ℕ) (k s c : ℕ) → heldOf ch k s c ≡ true → (s < k) × (hasOf (systemOf ch s) c ≡ true)
-unfolding heldOf
-held-row ch k s c h = go (ltb s k) refl h
-  where
-    go : (b : Bool) → ltb s k ≡ b → both b (hasOf (systemOf ch s) c) ≡ true → (s < k) × (hasOf (systemOf ch s) c ≡ true)
-    go true e h = (ltb-true s k e, h)
-    go false e h = absurd (let z : _≡_ {A = ℕ} 0 1 = cc in omega arith)
-
-row-held : (ch : List ℕ) (k s c : ℕ) → s < k → hasOf (systemOf ch s) c ≡ true → heldOf ch k s c ≡ true
-unfolding heldOf
-row-held ch k s c l h = rw (lt-ltb s k l) h
 
 module _ (ch : List ℕ) (k : ℕ) (xs : List ℕ) (chosen : Chosen ch k) where
   pub celled-none : Celled ch k xs (replicate CELLS 0) 0

@@ -8,5 +8,6 @@ pub mod Cases
 pub mod Back
 pub mod Forth
 pub mod RoundTrip
+pub mod Coded
 pub mod Calls
 pub mod Examples

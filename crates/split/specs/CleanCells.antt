@@ -6,15 +6,15 @@ use mathlib.Core.List.{List}
 use native.Mathlib.Omega.{arith}
 use lib.Dec.{ltb}
 use lib.ListN.{length, List·getD-eq-default}
-use borrow.Author.Tests.{lt-ltb, ltb-true, ltb-false}
-use Rattle.systems.specs.Systems.{COMPONENTS, hasOf}
-use Rattle.split.specs.Split.{SYSTEMS, CELLS, cellOf, systemOf, heldOf, Sound}
+use borrow.Author.Tests.{ltb-true, ltb-false}
+use Rattle.systems.specs.Systems.{COMPONENTS}
+use Rattle.split.specs.Split.{SYSTEMS, CELLS, cellOf, heldOf, Sound}
 use Rattle.split.specs.Start.{givenOf, startCell, startOf}
 use Rattle.split.specs.Move.{componentOf, giverOf, takerOf, movedOf}
 use Rattle.split.specs.Search.{turnOf, stepOf, runOf}
 use Rattle.split.specs.declared.Turn.the-variants.{Move}
 use Rattle.split.specs.Tables.{length-table, getD-table}
-use Rattle.split.specs.Clean.{Clean}
+use Rattle.split.specs.Clean.{Clean, row-held}
 use Rattle.split.specs.Tests.{Fit, Between}
 use Rattle.split.specs.Moves.{cell-same}
 use Rattle.split.specs.Steps.{bt, component-low}
@@ -36,10 +36,6 @@ start-clean mix ch k = record { none = λ s c l e. at s c l e (ltb s SYSTEMS) re
         let long : length (startOf mix ch k) ≤ s * COMPONENTS + c = rw (length-table (startCell mix ch k) CELLS 0) (omega arith) in
         List·getD-eq-default (startOf mix ch k) 0 {n = s * COMPONENTS + c} long
 
-held-is : (ch : List ℕ) (k s c : ℕ) → s < k → hasOf (systemOf ch s) c ≡ true → heldOf ch k s c ≡ true
-unfolding heldOf
-held-is ch k s c h e = rw (lt-ltb s k h, e)
-
 module _ (ch : List ℕ) (k : ℕ) (a : List ℕ) (d m : ℕ) (so : Sound ch k a) (fit : Fit ch k a d m) where
   -- a cell that is not held is not one of the move's two
   other : (s c f : ℕ) → c < COMPONENTS → heldOf ch k s c ≡ false → heldOf ch k f (componentOf m) ≡ true → s * COMPONENTS + c ≡ f * COMPONENTS + componentOf m → ⊥
@@ -58,8 +54,8 @@ module _ (ch : List ℕ) (k : ℕ) (a : List ℕ) (d m : ℕ) (so : Sound ch k a
       record {
         none = λ s c l e.
             cell-same a (giverOf m) (takerOf m) (componentOf m) d (so .stock .long) (omega arith) (omega arith) (component-low ch k a d m so fit) (b .apart) s c
-            (other s c (giverOf m) l e (held-is ch k (giverOf m) (componentOf m) (b .from) (b .gives)))
-            (other s c (takerOf m) l e (held-is ch k (takerOf m) (componentOf m) (b .to) (b .takes)))
+            (other s c (giverOf m) l e (row-held ch k (giverOf m) (componentOf m) (b .from) (b .gives)))
+            (other s c (takerOf m) l e (row-held ch k (takerOf m) (componentOf m) (b .to) (b .takes)))
             ∙ cl .none s c l e;
       }
 

@@ -163,3 +163,8 @@ pub some-of : (p : ℕ → Bool) (n : ℕ) → ((i : ℕ) → i < n → p i ≡ 
 unfolding someTo
 some-of p zero h = refl
 some-of p (suc n) h = rw (h n (omega arith)) (some-of p n (λ i l. h i (omega arith)))
+
+pub sum-le : (f g : ℕ → ℕ) (n : ℕ) → ((i : ℕ) → i < n → f i ≤ g i) → sumTo f n ≤ sumTo g n
+unfolding sumTo
+sum-le f g zero h = omega arith
+sum-le f g (suc n) h = omega (arith, sum-le f g n (λ i l. h i (omega arith)), h n (omega arith))

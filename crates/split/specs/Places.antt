@@ -3,9 +3,10 @@
 use mathlib.Core.Path.{_≡_}
 use mathlib.Core.Bool.{Bool, true, false, _&&_}
 use Prim.Native.Nat.{ℕ, _<_}
+use lib.Ieee.Fits.{and-l, and-r}
 use lib.Dec.{T, ltb, eqb, ltb→lt, eqb→eq}
 use Rattle.systems.specs.Systems.{COMPONENTS, memberOf, hasOf, Candidate}
-use Rattle.systems.specs.Table.{everyTo, eachTo, each-candidate, and-left, and-right, of-true, to-true}
+use Rattle.systems.specs.Table.{everyTo, eachTo, each-candidate, of-true, to-true}
 use Rattle.split.specs.Fold.{sumTo, first}
 use Rattle.split.specs.Split.{rankOf, componentAt}
 
@@ -29,10 +30,10 @@ module _ (system : ℕ) (cand : Candidate system) (c : ℕ) (low : c < COMPONENT
   rank-test = of-implies (hasOf system c) _ has (eachTo (placed system) COMPONENTS (each-candidate all-placed tt system cand) c low)
 
   pub rank-lt : rankOf system c < 3
-  rank-lt = ltb→lt (rankOf system c) 3 (and-left (ltb (rankOf system c) 3) _ rank-test)
+  rank-lt = ltb→lt (rankOf system c) 3 (and-l (ltb (rankOf system c) 3) _ rank-test)
 
   pub component-rank : componentAt system (rankOf system c) ≡ c
-  component-rank = eqb→eq (componentAt system (rankOf system c)) c (and-right (ltb (rankOf system c) 3) _ rank-test)
+  component-rank = eqb→eq (componentAt system (rankOf system c)) c (and-r (ltb (rankOf system c) 3) _ rank-test)
 
 filled : ℕ → ℕ → Bool
 filled system j = ltb (componentAt system j) COMPONENTS && (hasOf system (componentAt system j) && eqb (rankOf system (componentAt system j)) j)
@@ -47,12 +48,12 @@ module _ (system : ℕ) (cand : Candidate system) (j : ℕ) (low : j < 3) where
 
   pub component-lt : componentAt system j < COMPONENTS
   unfolding filled
-  component-lt = ltb→lt (componentAt system j) COMPONENTS (and-left (ltb (componentAt system j) COMPONENTS) _ at-test)
+  component-lt = ltb→lt (componentAt system j) COMPONENTS (and-l (ltb (componentAt system j) COMPONENTS) _ at-test)
 
   pub component-has : hasOf system (componentAt system j) ≡ true
   unfolding filled
-  component-has = to-true (hasOf system (componentAt system j)) (and-left (hasOf system (componentAt system j)) _ (and-right (ltb (componentAt system j) COMPONENTS) _ at-test))
+  component-has = to-true (hasOf system (componentAt system j)) (and-l (hasOf system (componentAt system j)) _ (and-r (ltb (componentAt system j) COMPONENTS) _ at-test))
 
   pub rank-component : rankOf system (componentAt system j) ≡ j
   unfolding filled
-  rank-component = eqb→eq (rankOf system (componentAt system j)) j (and-right (hasOf system (componentAt system j)) _ (and-right (ltb (componentAt system j) COMPONENTS) _ at-test))
+  rank-component = eqb→eq (rankOf system (componentAt system j)) j (and-r (hasOf system (componentAt system j)) _ (and-r (ltb (componentAt system j) COMPONENTS) _ at-test))

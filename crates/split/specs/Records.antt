@@ -9,24 +9,11 @@ use lib.Dec.{ltb}
 use lib.ListN.{getD, length, List·getD-eq-default}
 use lib.Seq.{ext-getD}
 use borrow.Author.Tests.{lt-ltb, le-ltb, ltb-true, ltb-false}
-use Rattle.systems.specs.Systems.{COMPONENTS, hasOf}
-use Rattle.split.specs.Split.{SYSTEMS, CELLS, RECORDS, cellOf, systemOf, heldOf, both, rankOf, componentAt, cellsOf, amountsOf, Chosen}
+use Rattle.systems.specs.Systems.{COMPONENTS}
+use Rattle.split.specs.Split.{SYSTEMS, CELLS, RECORDS, cellOf, systemOf, heldOf, rankOf, componentAt, cellsOf, amountsOf, Chosen}
 use Rattle.split.specs.Tables.{length-table, getD-table}
-use Rattle.split.specs.Clean.{Clean}
+use Rattle.split.specs.Clean.{Clean, held-row, row-held}
 use Rattle.split.specs.Places.{rank-lt, component-rank, component-lt, component-has, rank-component}
-
--- a row that holds a component is one of the k, and its system contains it
-held-row : (ch : List ℕ) (k s c : ℕ) → heldOf ch k s c ≡ true → (s < k) × (hasOf (systemOf ch s) c ≡ true)
-unfolding heldOf
-held-row ch k s c h = go (ltb s k) refl h
-  where
-    go : (b : Bool) → ltb s k ≡ b → both b (hasOf (systemOf ch s) c) ≡ true → (s < k) × (hasOf (systemOf ch s) c ≡ true)
-    go true e h = (ltb-true s k e, h)
-    go false e h = absurd (let z : _≡_ {A = ℕ} 0 1 = cc in omega arith)
-
-row-held : (ch : List ℕ) (k s c : ℕ) → s < k → hasOf (systemOf ch s) c ≡ true → heldOf ch k s c ≡ true
-unfolding heldOf
-row-held ch k s c l h = rw (lt-ltb s k l) h
 
 module _ (ch : List ℕ) (k : ℕ) where
   -- ---- one cell, one amount

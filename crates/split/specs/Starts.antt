@@ -15,7 +15,7 @@ use Rattle.split.specs.Fold.{sumTo}
 use Rattle.split.specs.Split.{SYSTEMS, CELLS, cellOf, systemOf, partsOf, columnOf, heldOf, Chosen, Stock, Sound}
 use Rattle.split.specs.Start.{sharersOf, shareOf, givenOf, startCell, startOf}
 use Rattle.split.specs.Tables.{length-table, getD-table}
-use Rattle.split.specs.Folds.{sum-more, sum-none, sum-same, sum-has}
+use Rattle.split.specs.Folds.{sum-le, sum-more, sum-none, sum-same, sum-has}
 
 abbrev oneIf : Bool → ℕ
 oneIf b = cond b 1 0
@@ -53,11 +53,6 @@ ranked p f (suc j) = go (p j) refl (ranked p f j)
         → sumTo (λ s. elim (p s) as (λ u. ℕ) [ true ↦ f (sumTo (λ r. cond (p r) 1 0) s) | false ↦ 0 ]) (suc j) ≡ sumTo f (sumTo (λ r. cond (p r) 1 0) (suc j))
     go true e ih = rw e (sum-more f (sumTo (λ r. cond (p r) 1 0) j) _ _ ih refl)
     go false e ih = rw (e, N.add-zero, N.add-zero) ih
-
-sum-le : (f g : ℕ → ℕ) (n : ℕ) → ((i : ℕ) → i < n → f i ≤ g i) → sumTo f n ≤ sumTo g n
-unfolding sumTo
-sum-le f g zero h = omega arith
-sum-le f g (suc n) h = omega (arith, sum-le f g n (λ i l. h i (omega arith)), h n (omega arith))
 
 -- the mixture has none of component c, or a chosen system contains it
 abbrev pub Shared : List ℕ → List ℕ → ℕ → ℕ → Type 0

@@ -11,13 +11,13 @@ use lib.ListN.{getD, length, replicate, length-set, length-replicate, getD-repli
 use lib.Seq.{getD-set-same, getD-set-other, ext-getD}
 use borrow.Author.Tests.{ltb-true, ltb-false, eqb-true, eqb-false}
 use Rattle.systems.specs.Systems.{COMPONENTS, hasOf}
+use Rattle.systems.specs.Table.{none-has}
 use Rattle.split.specs.Fold.{sumTo, table}
 use Rattle.split.specs.Tables.{length-table, getD-table}
 use Rattle.split.specs.Split.{SYSTEMS, CELLS, systemOf}
 use Rattle.split.specs.Start.{sharersOf, shareOf, givenOf, startCell, startOf}
 use Rattle.split.specs.Starts.{cell-past, cell-off, cell-on, some-sharer}
 use Rattle.start.specs.Column.{partOf, rowOf, columnTo, sharedOf, sharedTo}
-use Rattle.start.proofs.Contained.{zero-none}
 
 -- ---- one column
 
@@ -92,7 +92,7 @@ module _ (mix ch : List ℕ) (k : ℕ) (a : List ℕ) where
 module _ (ch : List ℕ) (long : length ch ≤ SYSTEMS) (c : ℕ) (low : c < COMPONENTS) where
   past-none : (n : ℕ) → SYSTEMS ≤ n → sharersOf ch c n ≡ sharersOf ch c (suc n)
   unfolding sharersOf sumTo
-  past-none n h = rw (List·getD-eq-default ch 0 {n = n} (omega arith), zero-none c low, add-zero)
+  past-none n h = rw (List·getD-eq-default ch 0 {n = n} (omega arith), none-has c low, add-zero)
 
   sharers-room : (k : ℕ) → sharersOf ch c (min SYSTEMS k) ≡ sharersOf ch c k
   sharers-room zero =

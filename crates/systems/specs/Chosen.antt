@@ -8,11 +8,12 @@ use mathlib.Core.Path.{_≡_, refl}
 use mathlib.Core.List.{List, [], _∷_}
 use mathlib.Core.Bool.{Bool, true, false, not, _&&_, _||_}
 use native.Mathlib.Omega.{arith}
+use lib.Ieee.Fits.{and-l, and-r}
 use lib.Dec.{T, eqb, ltb, leb, eqb→eq, ltb→lt, leb→le}
 use lib.ListN.{getD, set, length, replicate}
 use borrow.Author.Tests.{lt-ltb}
 use Rattle.systems.specs.Systems.{COMPONENTS, memberOf, hasOf, elem, candidates, Candidate}
-use Rattle.systems.specs.Table.{of-true, to-true, and-left, and-right, every, everyTo, eachTo}
+use Rattle.systems.specs.Table.{of-true, to-true, every, everyTo, eachTo}
 use Rattle.systems.specs.Members.{countTo}
 use Rattle.systems.specs.Scores.{score-open, score-closed, open-of-score, better-next, better-before, better-cases}
 use Rattle.systems.specs.Choice.{NUMBERS, order, fold, containingOf, openOf, scoreOf, betterOf, fittestOf, takeOf, passOf, marksOf, listOf, chosenOf, chooseOf, paddedOf, choiceOf, fitnessOf}
@@ -46,9 +47,9 @@ module _ (key : ℕ → ℕ) (marks : List Bool) (c : ℕ) where
     unfolding fold
     from-best [] t b q = q
     from-best (s ∷ systems) t b q =
-        from-best systems (and-right (not (openOf marks c s) || test s) (passes systems) t) (betterOf key marks c b s)
+        from-best systems (and-r (not (openOf marks c s) || test s) (passes systems) t) (betterOf key marks c b s)
         (better-cases key marks c (λ x. T (test x)) b s
-        (λ h. passed (openOf marks c s) (test s) (and-left (not (openOf marks c s) || test s) (passes systems) t) (open-of-score key marks c s (omega arith)))
+        (λ h. passed (openOf marks c s) (test s) (and-l (not (openOf marks c s) || test s) (passes systems) t) (open-of-score key marks c s (omega arith)))
         (λ h. q))
 
     from-none : (systems : List ℕ) → T (passes systems) → T (some (openOf marks c) systems) → (b : ℕ) → scoreOf key marks c b ≡ 0
@@ -57,9 +58,9 @@ module _ (key : ℕ → ℕ) (marks : List Bool) (c : ℕ) where
     from-none [] t u b z = absurd u
     from-none (s ∷ systems) t u b z =
         go (openOf marks c s) refl
-        (λ e. from-best systems (and-right (not (openOf marks c s) || test s) (passes systems) t) (betterOf key marks c b s)
-        (rw (better-next key marks c b s (omega (arith, score-open key marks c s e))) (passed (openOf marks c s) (test s) (and-left (not (openOf marks c s) || test s) (passes systems) t) e)))
-        (λ e v. from-none systems (and-right (not (openOf marks c s) || test s) (passes systems) t) v (betterOf key marks c b s) (rw (better-before key marks c b s (omega (arith, score-closed key marks c s e))) z)) u
+        (λ e. from-best systems (and-r (not (openOf marks c s) || test s) (passes systems) t) (betterOf key marks c b s)
+        (rw (better-next key marks c b s (omega (arith, score-open key marks c s e))) (passed (openOf marks c s) (test s) (and-l (not (openOf marks c s) || test s) (passes systems) t) e)))
+        (λ e v. from-none systems (and-r (not (openOf marks c s) || test s) (passes systems) t) v (betterOf key marks c b s) (rw (better-before key marks c b s (omega (arith, score-closed key marks c s e))) z)) u
       where
         go : (o : Bool) → openOf marks c s ≡ o → (openOf marks c s ≡ true → T (test (fold (betterOf key marks c) systems (betterOf key marks c b s))))
             → (openOf marks c s ≡ false → T (some (openOf marks c) systems) → T (test (fold (betterOf key marks c) systems (betterOf key marks c b s))))
@@ -85,12 +86,12 @@ module _ (key : ℕ → ℕ) (good : List Bool → Bool) (systems : List ℕ) (w
       go : (b : Bool) → ltb (containingOf systems marks c) wanted ≡ b → T (always good systems wanted components (takeOf key systems wanted marks c))
       go true e =
           let u : T (not (openOf marks c 0) && (some (openOf marks c) systems && passes key marks c (λ s. always good systems wanted components (set marks s true)) systems)) = rw (e, always) at t in
-          let v = and-right (not (openOf marks c 0)) (some (openOf marks c) systems && passes key marks c (λ s. always good systems wanted components (set marks s true)) systems) u in
+          let v = and-r (not (openOf marks c 0)) (some (openOf marks c) systems && passes key marks c (λ s. always good systems wanted components (set marks s true)) systems) u in
           rw (e, takeOf)
           (fittest-passes key marks c (λ s. always good systems wanted components (set marks s true)) systems
-          (and-left (not (openOf marks c 0)) (some (openOf marks c) systems && passes key marks c (λ s. always good systems wanted components (set marks s true)) systems) u)
-          (and-left (some (openOf marks c) systems) (passes key marks c (λ s. always good systems wanted components (set marks s true)) systems) v)
-          (and-right (some (openOf marks c) systems) (passes key marks c (λ s. always good systems wanted components (set marks s true)) systems) v))
+          (and-l (not (openOf marks c 0)) (some (openOf marks c) systems && passes key marks c (λ s. always good systems wanted components (set marks s true)) systems) u)
+          (and-l (some (openOf marks c) systems) (passes key marks c (λ s. always good systems wanted components (set marks s true)) systems) v)
+          (and-r (some (openOf marks c) systems) (passes key marks c (λ s. always good systems wanted components (set marks s true)) systems) v))
       go false e = rw (e, takeOf) (rw (e, always) at t)
 
   pub pass-good : (components : List ℕ) (marks : List Bool) → T (always good systems wanted components marks)
@@ -123,10 +124,10 @@ choosable ch k = eqb k 3 && (everyTo (knownAt ch) k && (everyTo (λ i. everyTo (
 
 four : (a b c d : Bool) → T (a && (b && (c && d))) → T a × T b × T c × T d
 four a b c d t = (
-  and-left a (b && (c && d)) t,
-  and-left b (c && d) (and-right a (b && (c && d)) t),
-  and-left c d (and-right b (c && d) (and-right a (b && (c && d)) t)),
-  and-right c d (and-right b (c && d) (and-right a (b && (c && d)) t)),
+  and-l a (b && (c && d)) t,
+  and-l b (c && d) (and-r a (b && (c && d)) t),
+  and-l c d (and-r b (c && d) (and-r a (b && (c && d)) t)),
+  and-r c d (and-r b (c && d) (and-r a (b && (c && d)) t)),
 )
 
 rises : (ch : List ℕ) (i j : ℕ) → i < j → T (risesAt ch i j) → getD ch i 0 < getD ch j 0
@@ -171,11 +172,11 @@ pub choose-choosable : (mix : List ℕ) → Choosable (chooseOf mix) (length (ch
 unfolding chooseOf good
 choose-choosable mix =
     of-test (chooseOf mix) (length (chooseOf mix))
-    (and-left (choosable (chooseOf mix) (length (chooseOf mix))) (choosable (paddedOf (chooseOf mix)) (length (chooseOf mix))) (passes-always (fitnessOf mix)))
+    (and-l (choosable (chooseOf mix) (length (chooseOf mix))) (choosable (paddedOf (chooseOf mix)) (length (chooseOf mix))) (passes-always (fitnessOf mix)))
 
 -- and so of the choice as it is answered
 pub choice-choosable : (mix : List ℕ) → Choosable (choiceOf mix .systems) (choiceOf mix .count)
 unfolding chooseOf good
 choice-choosable mix =
     of-test (paddedOf (chooseOf mix)) (length (chooseOf mix))
-    (and-right (choosable (chooseOf mix) (length (chooseOf mix))) (choosable (paddedOf (chooseOf mix)) (length (chooseOf mix))) (passes-always (fitnessOf mix)))
+    (and-r (choosable (chooseOf mix) (length (chooseOf mix))) (choosable (paddedOf (chooseOf mix)) (length (chooseOf mix))) (passes-always (fitnessOf mix)))

@@ -5,10 +5,11 @@ use mathlib.Core.Path.{_≡_, refl, sym, ap, _∙_}
 use mathlib.Core.List.{List, [], _∷_}
 use mathlib.Core.Bool.{Bool, true, false, not, _&&_}
 use native.Mathlib.Omega.{arith}
+use lib.Ieee.Fits.{and-i, and-l, and-r}
 use lib.Dec.{T, eqb, leb, leb→le, le→leb}
 use borrow.Author.Tests.{eqb-true, eq-eqb}
 use Rattle.systems.specs.Systems.{COMPONENTS, memberOf, hasOf, elem, candidates}
-use Rattle.systems.specs.Table.{of-true, and-left, and-right, eachTo}
+use Rattle.systems.specs.Table.{of-true, eachTo}
 use Rattle.systems.specs.Scores.{score-open, score-closed, open-of-score, better-before, better-cases}
 use Rattle.systems.specs.Choice.{fold, isChosen, openOf, scoreOf, betterOf, fittestOf}
 
@@ -20,11 +21,7 @@ rises b (s ∷ systems) = leb b s && rises s systems
 rises-lower : (b s : ℕ) (systems : List ℕ) → b ≤ s → T (rises s systems) → T (rises b systems)
 rises-lower b s [] h t = tt
 rises-lower b s (x ∷ systems) h t =
-    and-both (leb b x) (rises x systems) (le→leb b x (omega (arith, leb→le s x (and-left (leb s x) (rises x systems) t)))) (and-right (leb s x) (rises x systems) t)
-  where
-    and-both : (p q : Bool) → T p → T q → T (p && q)
-    and-both true q t u = u
-    and-both false q t u = t
+    and-i (leb b x) (rises x systems) (le→leb b x (omega (arith, leb→le s x (and-l (leb s x) (rises x systems) t)))) (and-r (leb s x) (rises x systems) t)
 
 elem-cases : (P : Type 0) (n x : ℕ) (xs : List ℕ) → elem n (x ∷ xs) ≡ true → (n ≡ x → P) → (elem n xs ≡ true → P) → P
 unfolding elem
@@ -95,8 +92,8 @@ module _ (key : ℕ → ℕ) (marks : List Bool) (c : ℕ) where
   unfolding fold elem
   lowest-best [] b s t e q = absurd (of-true false e)
   lowest-best (x ∷ systems) b s t e q =
-      let l : b ≤ x = leb→le b x (and-left (leb b x) (rises x systems) t) in
-      let u : T (rises x systems) = and-right (leb b x) (rises x systems) t in
+      let l : b ≤ x = leb→le b x (and-l (leb b x) (rises x systems) t) in
+      let u : T (rises x systems) = and-r (leb b x) (rises x systems) t in
       elem-cases (best (x ∷ systems) b ≤ s) s x systems e
       (λ p.
       let z : best systems (betterOf key marks c b x) ≡ betterOf key marks c b x = stays systems (betterOf key marks c b x) (omega (arith, better-tops b x, ap score p)) in

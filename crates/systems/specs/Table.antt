@@ -1,12 +1,13 @@
 -- A rule of every number of a list, or of every number below a bound, proved by one test that antt computes. Assumes nothing.
 use Prim.Native.Nat.{ℕ, zero, suc, _<_}
 use mathlib.Core.Path.{_≡_, refl}
-use mathlib.Core.Bool.{Bool, true, false, _&&_}
+use mathlib.Core.Bool.{Bool, true, false, not, _&&_}
 use mathlib.Core.List.{List, [], _∷_}
 use native.Mathlib.Omega.{arith}
+use lib.Ieee.Fits.{and-l, and-r}
 use lib.Dec.{T, eqb, eqb→eq}
-use borrow.Author.Tests.{eqb-true, eqb-false}
-use Rattle.systems.specs.Systems.{elem, candidates, Candidate}
+use borrow.Author.Tests.{eqb-true, eqb-false, not-true}
+use Rattle.systems.specs.Systems.{COMPONENTS, elem, candidates, memberOf, hasOf, Candidate}
 
 pub of-true : (b : Bool) → b ≡ true → T b
 of-true true e = tt
@@ -15,14 +16,6 @@ of-true false e = absurd (let z : _≡_ {A = ℕ} 0 1 = cc in omega arith)
 pub to-true : (b : Bool) → T b → b ≡ true
 to-true true t = refl
 to-true false t = absurd t
-
-pub and-left : (a b : Bool) → T (a && b) → T a
-and-left true b t = tt
-and-left false b t = t
-
-pub and-right : (a b : Bool) → T (a && b) → T b
-and-right true b t = t
-and-right false b t = absurd t
 
 -- the test passes at each number of the list
 abbrev pub every : (ℕ → Bool) → List ℕ → Bool
@@ -33,8 +26,8 @@ pub each : (f : ℕ → Bool) (xs : List ℕ) → T (every f xs) → (n : ℕ) �
 unfolding elem
 each f [] t n h = absurd (of-true false h)
 each f (x ∷ xs) t n h =
-    go (eqb n x) refl (λ e. rw (eqb-true n x e) (and-left (f x) (every f xs) t))
-    (λ e. each f xs (and-right (f x) (every f xs) t) n (rw (e, elem) at h))
+    go (eqb n x) refl (λ e. rw (eqb-true n x e) (and-l (f x) (every f xs) t))
+    (λ e. each f xs (and-r (f x) (every f xs) t) n (rw (e, elem) at h))
   where
     go : (b : Bool) → eqb n x ≡ b → (eqb n x ≡ true → T (f n)) → (eqb n x ≡ false → T (f n)) → T (f n)
     go true e p q = p e
@@ -52,8 +45,8 @@ everyTo f (suc n) = f n && everyTo f n
 pub eachTo : (f : ℕ → Bool) (n : ℕ) → T (everyTo f n) → (i : ℕ) → i < n → T (f i)
 eachTo f zero t i h = absurd (omega arith)
 eachTo f (suc n) t i h =
-    go (eqb i n) refl (λ e. rw (eqb-true i n e) (and-left (f n) (everyTo f n) t))
-    (λ e. let d : i ≡ n → ⊥ = eqb-false i n e in eachTo f n (and-right (f n) (everyTo f n) t) i (omega arith))
+    go (eqb i n) refl (λ e. rw (eqb-true i n e) (and-l (f n) (everyTo f n) t))
+    (λ e. let d : i ≡ n → ⊥ = eqb-false i n e in eachTo f n (and-r (f n) (everyTo f n) t) i (omega arith))
   where
     go : (b : Bool) → eqb i n ≡ b → (eqb i n ≡ true → T (f i)) → (eqb i n ≡ false → T (f i)) → T (f i)
     go true e p q = p e
@@ -65,3 +58,11 @@ agree f g n = everyTo (λ i. eqb (f i) (g i)) n
 
 pub agree-at : (f g : ℕ → ℕ) (n : ℕ) → T (agree f g n) → (i : ℕ) → i < n → f i ≡ g i
 agree-at f g n t i h = eqb→eq (f i) (g i) (eachTo (λ i. eqb (f i) (g i)) n t i h)
+
+-- number 0, which stands for no system, contains no component
+noneLacks : ℕ → Bool
+noneLacks c = not (hasOf 0 c)
+
+pub none-has : (c : ℕ) → c < COMPONENTS → hasOf 0 c ≡ false
+unfolding noneLacks hasOf memberOf
+none-has c h = not-true (hasOf 0 c) (to-true (noneLacks c) (eachTo noneLacks COMPONENTS tt c h))

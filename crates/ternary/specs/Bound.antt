@@ -1,13 +1,13 @@
 -- The rule of the coefficients: each list's magnitudes add up to at most 2000000000000 units, by one computed test of all lists; so no
 -- partial number is larger. Assumes nothing.
-use mathlib.Core.Bool.{Bool, true}
+use mathlib.Core.Bool.{Bool, true, _&&_}
 use mathlib.Core.List.{List, [], _∷_}
 use Prim.Native.Nat.{ℕ, zero, suc, _≤_, zero-le}
 use native.Mathlib.Nat as N
+use lib.Ieee.Fits.{and-l, and-r}
 use lib.Dec.{T, leb, leb→le}
 use lib.ListN.{getD}
 use lib.IntN.{ℤ, pos, natAbs}
-use Rattle.integer.specs.Tests.{both, both-left, both-right}
 use Rattle.ternary.specs.Size.{horner-le, worked-is, inner-le}
 use Rattle.ternary.specs.WorkingRule.{coefs, sumAbs, worked, rowsOf, innerOf, LARGEST}
 use Rattle.ternary.specs.Coefficients.{tables, coeff}
@@ -17,13 +17,13 @@ size t = sumAbs (coefs (λ (i : ℕ). getD t i (pos 0)) 0 20)
 
 every : List (List ℤ) → Bool
 every [] = true
-every (t ∷ ts) = both (leb (size t) LARGEST) (every ts)
+every (t ∷ ts) = leb (size t) LARGEST && every ts
 
 at-each : (ts : List (List ℤ)) → T (every ts) → (s : ℕ) → size (getD ts s []) ≤ LARGEST
 unfolding every size sumAbs coefs
 at-each [] t s = zero-le
-at-each (x ∷ ts) t zero = leb→le (size x) LARGEST (both-left (leb (size x) LARGEST) (every ts) t)
-at-each (x ∷ ts) t (suc s) = at-each ts (both-right (leb (size x) LARGEST) (every ts) t) s
+at-each (x ∷ ts) t zero = leb→le (size x) LARGEST (and-l (leb (size x) LARGEST) (every ts) t)
+at-each (x ∷ ts) t (suc s) = at-each ts (and-r (leb (size x) LARGEST) (every ts) t) s
 
 pub small : (s : ℕ) → sumAbs (coefs (coeff s) 0 20) ≤ LARGEST
 unfolding size every sumAbs coefs
