@@ -7,9 +7,9 @@ ghost use lib.ListN.{getD, length, replicate};
 ghost use Rattle.systems.specs.Systems.{COMPONENTS, hasOf, candidates};
 ghost use Rattle.systems.specs.Choice.{NUMBERS, weights, order, fitnessOf, takeOf, marksOf, answerOf, chosenOf, choiceOf};
 ghost use Rattle.choice.specs.Keys.{Keyed, weighedTo};
+use systems::COMPONENTS;
 use systems::Choice;
-
-const COMPONENTS: usize = 4;
+use systems::SYSTEMS;
 
 // The weights of the components in the fitness, times 480: two hexadecimal digits each, from the right.
 const WEIGHTS: u64 = 0x64504B30;
@@ -24,9 +24,6 @@ const CANDIDATES: usize = 4;
 
 // Room for a key of each candidate, and for that of none.
 const KEYS: usize = 5;
-
-// Room for chosen systems.
-const SYSTEMS: usize = 8;
 
 // The number of the candidate in place i.
 fn number(i: usize) -> u8

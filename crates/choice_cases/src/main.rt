@@ -1,8 +1,7 @@
 // Prints the systems chosen for each of a few mixtures, a line each. tests/choice_cases.py works the same lines out anew.
 use libc::STDOUT_FILENO;
 use systems::Choice;
-
-const SYSTEMS: usize = 8;
+use systems::SYSTEMS;
 
 fn put(text: &[u8]) {
     io::write_all(STDOUT_FILENO, text);

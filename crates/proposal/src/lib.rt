@@ -11,14 +11,10 @@ ghost use Rattle.split.specs.Proposed.{answerOf};
 ghost use Rattle.rows.specs.Rows.{listed, Small};
 ghost use Rattle.proposal.specs.Weighing.{Weighable, weighedTo, ratedBy, weighedOf};
 use split::Answer;
+use split::CELLS;
+use systems::COMPONENTS;
 use systems::Choice;
-
-const COMPONENTS: usize = 4;
-
-const SYSTEMS: usize = 8;
-
-// A row of COMPONENTS cells for each of the SYSTEMS rows.
-const CELLS: usize = 32;
+use systems::SYSTEMS;
 
 // All parts of a mixture.
 const MILLION: u32 = 1000000;

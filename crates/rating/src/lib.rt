@@ -20,14 +20,14 @@ ghost use Rattle.rating.specs.Rate.{LIMIT, ROUNDS, splitBy, splitAnswer,
 ghost use Rattle.rating.specs.Given.{FoundFit};
 use analysis::Analysis;
 use analysis::Checked;
-use records::CELLS;
-use records::COMPONENTS;
-use records::RECORDS;
+use sheet::RECORDS;
 use sheet::Reading;
 use sheet::Split;
 use split::Answer;
+use split::CELLS;
 use split::Found;
 use split::Search;
+use systems::COMPONENTS;
 use systems::Choice;
 
 // The spread limit in units, 0.05 of a methane number.

@@ -7,16 +7,11 @@ ghost use Rattle.systems.specs.Systems.{COMPONENTS, Candidate};
 ghost use Rattle.split.specs.Split.{SYSTEMS, RECORDS, both, componentAt, cellsOf, Chosen};
 ghost use Rattle.rating.specs.Records.{codeOf, fitsOf};
 ghost use Rattle.rating.specs.Rate.{recordsOf};
+use sheet::RECORDS;
 use sheet::Split;
-
-pub const SYSTEMS: usize = 8;
-
-pub const COMPONENTS: usize = 4;
-
-// A cell for each component of each system.
-pub const CELLS: usize = 32;
-
-pub const RECORDS: usize = 9;
+use split::CELLS;
+use systems::COMPONENTS;
+use systems::SYSTEMS;
 
 // The components of the systems, rising: two bits each and six for a system number, from the right. Only candidates' are read.
 const RISING: u64 = 0b110100_111000_000000_000000_100100_000000_111001_000000_000000;

@@ -4,15 +4,11 @@ ghost use Prim.Native.Nat.{_+_, _<_, _≤_};
 ghost use Rattle.systems.specs.Systems.{memberOf, candidates, elem, Candidate};
 ghost use Rattle.split.specs.Split.{SYSTEMS, cellOf};
 ghost use Rattle.rows.specs.Rows.{partsIn, answerIn, none, rowsOf};
+use split::CELLS;
+use systems::COMPONENTS;
 use systems::Choice;
+use systems::SYSTEMS;
 use ternary::Partial;
-
-const COMPONENTS: usize = 4;
-
-const SYSTEMS: usize = 8;
-
-// A row of COMPONENTS cells for each of the SYSTEMS rows.
-const CELLS: usize = 32;
 
 // Whether each row has a partial number; then these and the rows' parts, 0 beyond the last row.
 pub struct Rows {

@@ -9,16 +9,11 @@ ghost use lib.ListN.{replicate};
 ghost use Rattle.split.specs.Split.{CELLS};
 ghost use Rattle.split.specs.Search.{found};
 ghost use Rattle.split.specs.Find.{findOf};
+use split::CELLS;
 use split::Found;
 use split::Search;
+use systems::COMPONENTS;
 use systems::Choice;
-
-const COMPONENTS: usize = 4;
-
-const SYSTEMS: usize = 8;
-
-// A row of COMPONENTS cells for each of the SYSTEMS rows.
-const CELLS: usize = 32;
 
 // The level of the largest first stride, 65536.
 const LEVEL: usize = 16;

@@ -13,22 +13,15 @@ ghost use Rattle.rows.specs.Carried.{Carried, Held};
 ghost use Rattle.search.specs.Tried.{Tried};
 use super::state::parts;
 use super::state::size;
+use super::tried::TRIES;
 use super::tried::number_tried;
+use split::CELLS;
+use systems::COMPONENTS;
+use systems::SYSTEMS;
+use turn::MOVES;
 
-const COMPONENTS: usize = 4;
-
-const SYSTEMS: usize = 8;
-
-// A row of COMPONENTS cells for each of the SYSTEMS rows.
-const CELLS: usize = 32;
-
-// The pairs of a giver and a taker, and a move of each component for each pair.
-const PAIRS: usize = 64;
-
-const MOVES: usize = 256;
-
-// Room for a number for each cell less a stride, and for each cell and a stride more.
-const TRIES: usize = 64;
+// The pairs of a giver and a taker.
+const PAIRS: usize = SYSTEMS * SYSTEMS;
 
 // A thousandth of a methane number, in units.
 const THOUSANDTH: i64 = 10000;

@@ -10,22 +10,15 @@ use super::moves::first_move;
 use super::moves::moved;
 use super::moves::renumbered;
 use super::state::spread;
+use super::tried::TRIES;
 use super::tried::forget;
 use super::tried::none_known;
+use split::CELLS;
 use split::Found;
 use split::Search;
 use split::Turn;
+use systems::SYSTEMS;
 use turn::Before;
-
-const COMPONENTS: usize = 4;
-
-const SYSTEMS: usize = 8;
-
-// A row of COMPONENTS cells for each of the SYSTEMS rows.
-const CELLS: usize = 32;
-
-// Room for a number for each cell less a stride, and for each cell and a stride more.
-const TRIES: usize = 64;
 
 // The stride of a level.
 fn stride(level: usize) -> u32

@@ -8,13 +8,9 @@ ghost use Rattle.systems.specs.Systems.{memberOf, Candidate};
 ghost use Rattle.split.specs.Split.{SYSTEMS, cellOf, partsOf, Stock};
 ghost use Rattle.split.specs.Rating.{spreadOf};
 ghost use Rattle.rows.specs.Rows.{listed, Small};
-
-const COMPONENTS: usize = 4;
-
-const SYSTEMS: usize = 8;
-
-// A row of COMPONENTS cells for each of the SYSTEMS rows.
-const CELLS: usize = 32;
+use split::CELLS;
+use systems::COMPONENTS;
+use systems::SYSTEMS;
 
 // The magnitude of a number.
 pub(crate) fn size(d: i64) -> u64

@@ -10,16 +10,12 @@ ghost use Rattle.split.specs.Steps.{insteadOf, numberWith};
 ghost use Rattle.rows.specs.Carried.{Workable};
 ghost use Rattle.search.specs.Tried.{TRIES, UNKNOWN, triedOf, wantedOf, Triable, Tried, Forgot};
 use super::state::number;
-
-const COMPONENTS: usize = 4;
-
-const SYSTEMS: usize = 8;
-
-// A row of COMPONENTS cells for each of the SYSTEMS rows.
-const CELLS: usize = 32;
+use split::CELLS;
+use systems::COMPONENTS;
+use systems::SYSTEMS;
 
 // Room for a number for each cell less a stride, and for each cell and a stride more.
-const TRIES: usize = 64;
+pub(crate) const TRIES: usize = 2 * CELLS;
 
 // In the place of a number that is not worked out; no partial number is as large.
 const UNKNOWN: i64 = 4000000000000;

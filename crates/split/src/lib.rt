@@ -1,6 +1,10 @@
 // The answers of a rating and of the search. The definitions and the theorems are in specs/.
 
-const CELLS: usize = 32;
+use systems::COMPONENTS;
+use systems::SYSTEMS;
+
+// Room for a row of cells, one for each component, for each chosen system.
+pub const CELLS: usize = SYSTEMS * COMPONENTS;
 
 // A rating in units with its spread in units and the search's rounds (0 for a proposed split),
 // or a refusal with its number and, for 2 to 4, the record's place, for 5, a code at fault; else 0.

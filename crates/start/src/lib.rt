@@ -7,14 +7,10 @@ ghost use Rattle.split.specs.Split.{SYSTEMS, CELLS, both};
 ghost use Rattle.split.specs.Start.{sharersOf, startOf};
 ghost use Rattle.split.specs.Find.{chosenFit, mixtureFit};
 ghost use Rattle.start.specs.Column.{Cells, containedAt, partOf, columnTo, sharedOf, sharedTo};
+use split::CELLS;
+use systems::COMPONENTS;
 use systems::Choice;
-
-const COMPONENTS: usize = 4;
-
-const SYSTEMS: usize = 8;
-
-// A row of COMPONENTS cells for each of the SYSTEMS rows.
-const CELLS: usize = 32;
+use systems::SYSTEMS;
 
 // The most parts that a mixture has.
 const MILLION: u64 = 1000000;

@@ -5,7 +5,7 @@ ghost use Rattle.systems.specs.Systems.{memberOf, hasOf};
 ghost use Rattle.systems.specs.Choice.{NUMBERS};
 
 // How many components there are: methane 0, ethane 1, propane 2, butane 3.
-const COMPONENTS: usize = 4;
+pub const COMPONENTS: usize = 4;
 
 // System numbers are below this one.
 const NUMBERS: usize = 9;
@@ -64,7 +64,7 @@ pub fn has(system: u8, c: usize) -> bool
 }
 
 // Room for chosen systems.
-const SYSTEMS: usize = 8;
+pub const SYSTEMS: usize = 8;
 
 // The chosen systems' numbers, rising: so many, then 0 in the places left over.
 pub struct Choice {

@@ -3,9 +3,11 @@ ghost use mathlib.Core.Path.{_≡_};
 ghost use Rattle.split.specs.Search.{goOn};
 ghost use Rattle.turn.specs.Before.{beforeOf};
 use split::Turn;
+use systems::COMPONENTS;
+use systems::SYSTEMS;
 
-// The numbers of the moves are below this one.
-const MOVES: usize = 256;
+// The numbers of the moves are below this one: there is one of each component for each giver and taker.
+pub const MOVES: usize = COMPONENTS * SYSTEMS * SYSTEMS;
 
 // Before a round: the spread is within the limit, the allowance is spent, or the search goes on.
 pub enum Before {

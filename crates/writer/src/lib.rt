@@ -18,7 +18,6 @@ use analysis::CODES;
 use analysis::Checked;
 use sheet::COMPONENT_BYTES;
 use sheet::RECORD_BYTES;
-use sheet::RECORDS;
 use sheet::Split;
 use sheet::Written;
 
