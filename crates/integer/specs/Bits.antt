@@ -10,13 +10,13 @@ use mir.Val.{SFits, toZ, ofZ}
 use mir.ValLaws.{toZ-ofZ}
 use Rattle.integer.specs.Ring.{mag-le}
 
+-- a call's result
+pub read-back : (z : ℤ) → mag z < 2 ^ 63 → toZ w64 (ofZ w64 z) ≡ z
+read-back z h = toZ-ofZ w64 z (record { sfits = h })
+
 -- by a bound below 2^63
 pub sfits-small : (z : ℤ) → natAbs z ≤ 9000000000000000000 → SFits w64 z
 sfits-small z h = record { sfits = N.lt-of-le-of-lt (N.le-trans (mag-le z) h) (lit< tt) }
 
 pub back : (z : ℤ) → natAbs z ≤ 9000000000000000000 → toZ w64 (ofZ w64 z) ≡ z
-back z h = toZ-ofZ w64 z (sfits-small z h)
-
--- a call's result
-pub read-back : (z : ℤ) → mag z < 2 ^ 63 → toZ w64 (ofZ w64 z) ≡ z
-read-back z h = toZ-ofZ w64 z (record { sfits = h })
+back z h = read-back z (sfits-small z h .sfits)

@@ -12,7 +12,7 @@ use Rattle.analysis.specs.Check.{AtFault}
 use Rattle.sheet.specs.Sheet.{sheetOf}
 use Rattle.sheet.specs.Read as read
 use Rattle.sheet.specs.Read.{readOf, ReadAs, FaultIn}
-use Rattle.sheet.specs.Coded.{carriedOf, refused-answer, carried-code, read-whole, read-good}
+use Rattle.sheet.specs.Coded.{carriedOf, refused-answer, carried-code, read-as-is, read-as-read}
 use Rattle.sheet.specs.Write as write
 use Rattle.sheet.specs.Write.{writeRefusal, writtenOf, leftOf, WrittenAs}
 use Rattle.sheet.specs.declared.Split.{Split}
@@ -98,10 +98,10 @@ module _ (s : List ℕ) (r : Sheet) (h : ReadAs s r) (number place code : ℕ) (
 
 module _ (s : List ℕ) (r : Sheet) (h : ReadAs s r) (e : r .answer ≡ reading.Read) where
   pub whole : r ≡ readOf s 0
-  whole = read-whole s r h e
+  whole = read-as-is s r h e
 
   good : readOf s 0 .answer ≡ reading.Read
-  good = read-good s r h e
+  good = read-as-read s r h e
 
   pub read-done : reply 0 0 ≡ readReply (readOf s 0 .answer)
   read-done = sym (ap readReply good)

@@ -1,7 +1,6 @@
 -- What the public calls meet: the check's answer, the values of an analysis in range, what the search found. Assumes nothing.
 use mathlib.Core.Path.{_≡_, refl, sym, ap, ap₂, _∙_, subst}
 use mathlib.Core.Bool.{Bool, true, false}
-use mathlib.Core.Logic.{_⊎_, inl, inr}
 use mathlib.Core.List.{List}
 use Prim.Native.Nat.{ℕ, _*_, _^_, _≤_, _<_, min}
 use native.Mathlib.Omega.{arith}
@@ -26,6 +25,7 @@ use Rattle.mixture.specs.Inert.{inertFirst}
 use Rattle.mixture.specs.Answers.{mixtureOf, inertN1}
 use Rattle.systems.specs.Choice.{choiceOf}
 use Rattle.systems.specs.declared.Choice.{Choice}
+use Rattle.split.specs.Refused.{differ}
 use Rattle.split.specs.Split.{RECORDS, cellsOf, numberAt}
 use Rattle.split.specs.Rating.{spreadOf, ratingOf}
 use Rattle.split.specs.Fits.{Fit}
@@ -45,12 +45,9 @@ use Rattle.split.specs.PutBack.{balance-fit}
 use Rattle.split.specs.Size.{rating-small}
 use Rattle.rating.specs.Given.{FoundFit}
 use Rattle.rating.specs.Ready.{chosen, room, million, inert-million, shared, input}
-use Rattle.rating.specs.Sheets.{RatedOr, split-ends, search-ends}
+use Rattle.rating.specs.Sheets.{split-ends, search-ends, split-wider, search-wider, not-five}
 use Rattle.rating.specs.declared.Outcome.{Outcome}
 use Rattle.integer.specs.Bits.{read-back}
-
-differ : (b : Bool) → b ≡ true → b ≡ false → ⊥
-differ b p q = let z : _≡_ {A = ℕ} 0 1 = cc in omega arith
 
 -- ---- the check's answer
 
@@ -154,24 +151,11 @@ module _ (a : List ℕ) (long : length a ≡ 14) (passed : refusalOf a ≡ 0) wh
       search-in r e = e ∙ rw (choice-is, inert-is, found-is, passed)
 
   -- neither is refused 5
-  not-five : (x : Answer) → RatedOr 7 11 x → numberOf x ≡ 5 → ⊥
-  not-five (Rated w s n) h e = omega arith
-  not-five (Refused n p) (inl r) e = r
-  not-five (Refused n p) (inr b) e = omega (arith, b .0)
-
   pub split-not-five : (p : Split) (code : ℕ) (x : Answer) → x ≡ splitAnswer a p code → numberOf x ≡ 5 → ⊥
-  split-not-five p code x e h = not-five x (rw e (widen (split-ends a p code passed))) h
-    where
-      widen : RatedOr 7 10 (splitAnswer a p code) → RatedOr 7 11 (splitAnswer a p code)
-      widen (inl r) = inl r
-      widen (inr b) = inr (b .0, omega (arith, b .1))
+  split-not-five p code x e h = not-five x (rw e (split-wider (splitAnswer a p code) (split-ends a p code passed))) h
 
   pub search-not-five : (allowance code : ℕ) (x : Outcome) → x ≡ searchOutcome a allowance code → numberOf (x .answer) ≡ 5 → ⊥
-  search-not-five allowance code x e h = not-five (x .answer) (rw e (widen (search-ends a allowance code passed))) h
-    where
-      widen : IsRated (searchOutcome a allowance code .answer) ⊎ (searchOutcome a allowance code .answer ≡ Refused 11 0) → RatedOr 7 11 (searchOutcome a allowance code .answer)
-      widen (inl r) = inl r
-      widen (inr q) = inr (rw q (omega arith), rw q (omega arith))
+  search-not-five allowance code x e h = not-five (x .answer) (rw e (search-wider (searchOutcome a allowance code .answer) (search-ends a allowance code passed))) h
 
 -- ---- inner functions
 

@@ -1,7 +1,7 @@
 -- What the rating of a sheet meets. Assumes nothing.
 use mathlib.Core.Path.{_≡_, refl, sym, ap, _∙_, subst}
 use mathlib.Core.Bool.{Bool, true, false}
-use mathlib.Core.Logic.{_⊎_, inl, inr}
+use mathlib.Core.Logic.{inl, inr}
 use mathlib.Core.List.{List}
 use Prim.Native.Nat.{ℕ}
 use native.Mathlib.Omega.{arith}
@@ -13,15 +13,14 @@ use Rattle.analysis.specs.Check.{refusalOf}
 use Rattle.sheet.specs.Split.{noSplit}
 use Rattle.sheet.specs.Read as read
 use Rattle.sheet.specs.Read.{readOf, ReadAs, FaultIn}
-use Rattle.sheet.specs.Coded.{carriedOf, refused-answer, carried-code, read-whole, read-good}
+use Rattle.sheet.specs.Coded.{carriedOf, refused-answer, carried-code, read-as-is, read-as-read}
 use Rattle.sheet.specs.declared.Reading.{Reading}
 use Rattle.sheet.specs.declared.Reading.the-variants as reading
 use Rattle.sheet.specs.declared.Sheet.{Sheet}
-use Rattle.split.specs.Rated.{IsRated}
 use Rattle.split.specs.declared.Answer.{Answer}
 use Rattle.split.specs.declared.Answer.the-variants.{Rated, Refused}
 use Rattle.rating.specs.Rate.{splitAnswer, outcome, searchOutcome, readBy, sheetOutcome, numberOf, codeOf}
-use Rattle.rating.specs.Sheets.{RatedOr, split-ends, search-ends, read-passed}
+use Rattle.rating.specs.Sheets.{RatedOr, split-ends, search-ends, read-passed, split-wider, search-wider, not-five}
 use Rattle.rating.specs.declared.Outcome.{Outcome}
 
 -- ---- a refused sheet
@@ -47,10 +46,10 @@ module _ (s : List ℕ) (r : Sheet) (h : ReadAs s r) (number place code : ℕ) (
 
 module _ (s : List ℕ) (r : Sheet) (h : ReadAs s r) (e : r .answer ≡ reading.Read) where
   whole : r ≡ readOf s 0
-  whole = read-whole s r h e
+  whole = read-as-is s r h e
 
   good : readOf s 0 .answer ≡ reading.Read
-  good = read-good s r h e
+  good = read-as-read s r h e
 
   pub passed : refusalOf (r .analysis .amounts) ≡ 0
   passed = ap (λ (x : Sheet). refusalOf (x .analysis .amounts)) whole ∙ read-passed s 0 good
@@ -63,17 +62,9 @@ module _ (s : List ℕ) (r : Sheet) (h : ReadAs s r) (e : r .answer ≡ reading.
   ends : RatedOr 7 11 (ifElse (eqb (r .split .count) 0) (searchOutcome (r .analysis .amounts) 4000 0) (outcome (splitAnswer (r .analysis .amounts) (r .split) 0) noSplit) .answer)
   ends = go (eqb (r .split .count) 0)
     where
-      either : (x : Answer) → IsRated x ⊎ (x ≡ Refused 11 0) → RatedOr 7 11 x
-      either x (inl b) = inl b
-      either x (inr q) = inr (rw q (omega arith), rw q (omega arith))
-
-      wider : (x : Answer) → RatedOr 7 10 x → RatedOr 7 11 x
-      wider x (inl b) = inl b
-      wider x (inr b) = inr (b .0, omega (arith, b .1))
-
       go : (t : Bool) → RatedOr 7 11 (ifElse t (searchOutcome (r .analysis .amounts) 4000 0) (outcome (splitAnswer (r .analysis .amounts) (r .split) 0) noSplit) .answer)
-      go true = either (searchOutcome (r .analysis .amounts) 4000 0 .answer) (search-ends (r .analysis .amounts) 4000 0 passed)
-      go false = wider (splitAnswer (r .analysis .amounts) (r .split) 0) (split-ends (r .analysis .amounts) (r .split) 0 passed)
+      go true = search-wider (searchOutcome (r .analysis .amounts) 4000 0 .answer) (search-ends (r .analysis .amounts) 4000 0 passed)
+      go false = split-wider (splitAnswer (r .analysis .amounts) (r .split) 0) (split-ends (r .analysis .amounts) (r .split) 0 passed)
 
   module _ (o : Outcome) (q : o ≡ ifElse (eqb (r .split .count) 0) (searchOutcome (r .analysis .amounts) 4000 0) (outcome (splitAnswer (r .analysis .amounts) (r .split) 0) noSplit)) where
     answer-ends : RatedOr 7 11 (o .answer)
@@ -88,12 +79,7 @@ module _ (s : List ℕ) (r : Sheet) (h : ReadAs s r) (e : r .answer ≡ reading.
         ∙ ap (sheetOutcome s) (sym (free (o .answer) answer-ends))
 
     pub sheet-not-five : numberOf (o .answer) ≡ 5 → ⊥
-    sheet-not-five z = go (o .answer) answer-ends z
-      where
-        go : (x : Answer) → RatedOr 7 11 x → numberOf x ≡ 5 → ⊥
-        go (Rated w s′ n) b z = omega arith
-        go (Refused n p) (inl b) z = b
-        go (Refused n p) (inr b) z = omega (arith, b .0)
+    sheet-not-five z = not-five (o .answer) answer-ends z
 
 -- ---- the same of a call's result
 

@@ -39,6 +39,20 @@ use Rattle.rating.specs.Rate.{LIMIT, ROUNDS, mixOf, systemsFor, countFor
 abbrev pub RatedOr : ℕ → ℕ → Answer → Type 0
 RatedOr low high x = IsRated x ⊎ ((low ≤ numberOf x) × (numberOf x ≤ high))
 
+-- what a proposed split and a search end in, and that neither is refused 5
+pub split-wider : (x : Answer) → RatedOr 7 10 x → RatedOr 7 11 x
+split-wider x (inl r) = inl r
+split-wider x (inr b) = inr (b .0, omega (arith, b .1))
+
+pub search-wider : (x : Answer) → IsRated x ⊎ (x ≡ Refused 11 0) → RatedOr 7 11 x
+search-wider x (inl r) = inl r
+search-wider x (inr q) = inr (rw q (omega arith), rw q (omega arith))
+
+pub not-five : (x : Answer) → RatedOr 7 11 x → numberOf x ≡ 5 → ⊥
+not-five (Rated w s n) h e = omega arith
+not-five (Refused n p) (inl r) e = r
+not-five (Refused n p) (inr b) e = omega (arith, b .0)
+
 -- ---- by the search, of an analysis in range: a rating or 11
 
 found-ends : (ch : List ℕ) (k n1 : ℕ) (a : List ℕ) (x : Search) → IsRated (foundBy ch k n1 a x .answer) ⊎ (foundBy ch k n1 a x .answer ≡ Refused 11 0)

@@ -72,8 +72,8 @@ module _ (s : List ℕ) (r : Sheet) (h : ReadAs s r) (number place code : ℕ) (
 -- ---- a sheet that is read carries no code
 
 module _ (s : List ℕ) (r : Sheet) (h : ReadAs s r) (e : r .answer ≡ Read) where
-  pub read-whole : r ≡ readOf s 0
-  read-whole = h .sheet ∙ ap (readOf s) (ap codeOf e)
+  pub read-as-is : r ≡ readOf s 0
+  read-as-is = h .sheet ∙ ap (readOf s) (ap codeOf e)
 
-  pub read-good : readOf s 0 .answer ≡ Read
-  read-good = ap (λ (x : Sheet). x .answer) (sym read-whole) ∙ e
+  pub read-as-read : readOf s 0 .answer ≡ Read
+  read-as-read = ap (λ (x : Sheet). x .answer) (sym read-as-is) ∙ e

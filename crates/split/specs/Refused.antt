@@ -26,7 +26,7 @@ holds : (b : Bool) {P : Type 0} → (b ≡ false → P) → (P → ⊥) → b �
 holds true f n = refl
 holds false f n = absurd (n (f refl))
 
-differ : (b : Bool) → b ≡ true → b ≡ false → ⊥
+pub differ : (b : Bool) → b ≡ true → b ≡ false → ⊥
 differ b p q = let z : _≡_ {A = ℕ} 0 1 = cc in omega arith
 
 -- what each number says of the tests

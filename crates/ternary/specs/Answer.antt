@@ -1,6 +1,6 @@
 -- The answer to a partial number by cases (document 01, "What is turned away"): 13 before 12, else the number as worked out. Assumes nothing.
 use mathlib.Core.Path.{_≡_, refl, subst, subst⁻¹}
-use mathlib.Core.Bool.{Bool, true, false}
+use mathlib.Core.Bool.{Bool, true, false, cond}
 use mathlib.Core.List.{List, [], _∷_}
 use Prim.Native.Nat.{ℕ, _+_, _≤_, _<_}
 use native.Mathlib.Nat as N
@@ -29,27 +29,23 @@ tableOf system = getD tables (placeIn systems system) []
 abbrev pub isMixture : ℕ → Bool
 isMixture d = elim (ltb 0 d) [ true ↦ leb d 1000000 | false ↦ false ]
 
-abbrev pick : Bool → Partial → Partial → Partial
-pick true a b = a
-pick false a b = b
-
 -- 13: no such system; 12: no mixture; else the number
 unfoldable pub partialOf : ℕ → ℕ → ℕ → ℕ → Partial
-partialOf system n1 n2 n3 = pick (isSystem system) (pick (isMixture (n1 + n2 + n3)) (Number (partialNumber system n1 n2 n3)) (Refused 12)) (Refused 13)
+partialOf system n1 n2 n3 = cond (isSystem system) (cond (isMixture (n1 + n2 + n3)) (Number (partialNumber system n1 n2 n3)) (Refused 12)) (Refused 13)
 
 -- ---- each case
 
-answered : (b m : Bool) (p : Partial) → b ≡ true → m ≡ true → pick b (pick m p (Refused 12)) (Refused 13) ≡ p
+answered : (b m : Bool) (p : Partial) → b ≡ true → m ≡ true → cond b (cond m p (Refused 12)) (Refused 13) ≡ p
 answered true true p h k = refl
 answered true false p h k = absurd (subst⁻¹ T k tt)
 answered false m p h k = absurd (subst⁻¹ T h tt)
 
-refused-12 : (b m : Bool) (p : Partial) → b ≡ true → m ≡ false → pick b (pick m p (Refused 12)) (Refused 13) ≡ Refused 12
+refused-12 : (b m : Bool) (p : Partial) → b ≡ true → m ≡ false → cond b (cond m p (Refused 12)) (Refused 13) ≡ Refused 12
 refused-12 true true p h k = absurd (subst T k tt)
 refused-12 true false p h k = refl
 refused-12 false m p h k = absurd (subst⁻¹ T h tt)
 
-refused-13 : (b m : Bool) (p : Partial) → b ≡ false → pick b (pick m p (Refused 12)) (Refused 13) ≡ Refused 13
+refused-13 : (b m : Bool) (p : Partial) → b ≡ false → cond b (cond m p (Refused 12)) (Refused 13) ≡ Refused 13
 refused-13 true m p h = absurd (subst T h tt)
 refused-13 false m p h = refl
 

@@ -8,8 +8,8 @@ use lib.Ieee.Fits.{and-l, and-r}
 use lib.Dec.{T, leb, leb→le}
 use lib.ListN.{getD}
 use lib.IntN.{ℤ, pos, natAbs}
-use Rattle.ternary.specs.Size.{horner-le, worked-is, inner-le}
-use Rattle.ternary.specs.WorkingRule.{coefs, sumAbs, worked, rowsOf, innerOf, LARGEST}
+use Rattle.ternary.specs.Size.{innerOf, horner-le, worked-is, inner-le}
+use Rattle.ternary.specs.WorkingRule.{coefs, sumAbs, worked, rowsOf, LARGEST}
 use Rattle.ternary.specs.Coefficients.{tables, coeff}
 
 size : List ℤ → ℕ

@@ -6,8 +6,9 @@ use native.Mathlib.Nat as N
 use native.Mathlib.Omega.{arith}
 use lib.IntN.{ℤ, pos, natAbs, _*ℤ_}
 use lib.Signed.{quotZ}
+use lib.ListN.{getD}
 use Rattle.integer.specs.Ring.{natAbs-+, share-le}
-use Rattle.ternary.specs.WorkingRule.{stepZ, horner, coefs, sumAbs, worked, rowsOf, innerOf}
+use Rattle.ternary.specs.WorkingRule.{stepZ, horner, coefs, sumAbs, worked, rowsOf}
 
 pub step-le : (w : ℤ) {n d : ℕ} (c : ℤ) → n ≤ d → natAbs (stepZ w n d c) ≤ natAbs w + natAbs c
 step-le w {n} {d} c h = omega (arith, natAbs-+ (quotZ (w *ℤ pos n) (pos d)) c, share-le w h)
@@ -32,6 +33,16 @@ suffix-le a at (suc i) j = rw (N.suc-add i j, N.add-suc at i, ← N.suc-add at i
 
 pub part-le : (a : ℕ → ℤ) (at j k : ℕ) → at + j ≤ k → sumAbs (coefs a at j) ≤ sumAbs (coefs a 0 k)
 part-le a at j k h = N.le-trans (rw (N.zero-add at) at (suffix-le a 0 at j)) (prefix-le a 0 (at + j) k h)
+
+-- the same rows by number: where row k starts, and how many coefficients it has
+abbrev atOf : ℕ → ℕ
+atOf k = getD (0 ∷ 7 ∷ 11 ∷ 14 ∷ 16 ∷ 17 ∷ 18 ∷ 19 ∷ []) k 0
+
+abbrev countOf : ℕ → ℕ
+countOf k = getD (7 ∷ 4 ∷ 3 ∷ 2 ∷ 1 ∷ 1 ∷ 1 ∷ 1 ∷ []) k 0
+
+unfoldable pub innerOf : (ℕ → ℤ) → ℕ → ℕ → ℕ → ℤ
+innerOf a n d k = horner n d (coefs a (atOf k) (countOf k))
 
 -- the working rule goes by the rows' numbers
 pub worked-is : (a : ℕ → ℤ) (n1 n2 d : ℕ) → horner n1 d (coefs (innerOf a n2 d) 0 8) ≡ worked n1 n2 d (rowsOf a)
