@@ -116,6 +116,8 @@ pub record WithinRanges (a : List ℕ) : Type 0 where
   pub carbon-dioxide-greatest : getD a 11 0 ≤ 100000
   pub nitrogen-greatest : getD a 12 0 ≤ 150000
   pub retired-thirteen : getD a 13 0 ≡ 0
+  pub splits-fourteen : getD a 14 0 ≡ 0
+  pub unknown-fifteen : getD a 15 0 ≡ 0
   pub total-least : 999900 ≤ totalOf a
   pub total-greatest : totalOf a ≤ 1000100
 
@@ -123,9 +125,9 @@ module _ (a : List ℕ) (l : length a ≡ CODES) where
   -- the total is the sum over the codes
   pub total-sum : totalOf a
       ≡ getD a 0 0 + getD a 1 0 + getD a 2 0 + getD a 3 0 + getD a 4 0 + getD a 5 0 + getD a 6 0 + getD a 7 0 + getD a 8 0
-      + getD a 9 0 + getD a 10 0 + getD a 11 0 + getD a 12 0 + getD a 13 0
+      + getD a 9 0 + getD a 10 0 + getD a 11 0 + getD a 12 0 + getD a 13 0 + getD a 14 0 + getD a 15 0
   total-sum =
-      omega (arith, total-go 0 a (omega arith), total-go 1 a (omega arith), total-go 2 a (omega arith), total-go 3 a (omega arith), total-go 4 a (omega arith), total-go 5 a (omega arith), total-go 6 a (omega arith), total-go 7 a (omega arith), total-go 8 a (omega arith), total-go 9 a (omega arith), total-go 10 a (omega arith), total-go 11 a (omega arith), total-go 12 a (omega arith), total-go 13 a (omega arith), total-end 14 a (omega arith))
+      omega (arith, total-go 0 a (omega arith), total-go 1 a (omega arith), total-go 2 a (omega arith), total-go 3 a (omega arith), total-go 4 a (omega arith), total-go 5 a (omega arith), total-go 6 a (omega arith), total-go 7 a (omega arith), total-go 8 a (omega arith), total-go 9 a (omega arith), total-go 10 a (omega arith), total-go 11 a (omega arith), total-go 12 a (omega arith), total-go 13 a (omega arith), total-go 14 a (omega arith), total-go 15 a (omega arith), total-end CODES a (omega arith))
 
   module _ (h : refusalOf a ≡ 0) where
     at-most : (k : ℕ) → k < CODES → getD a k 0 ≤ greatestOf k
@@ -158,6 +160,8 @@ module _ (a : List ℕ) (l : length a ≡ CODES) where
           carbon-dioxide-greatest = at-most 11 (omega arith);
           nitrogen-greatest = at-most 12 (omega arith);
           retired-thirteen = let z = at-most 13 (omega arith) in omega arith;
+          splits-fourteen = let z = at-most 14 (omega arith) in omega arith;
+          unknown-fifteen = let z = at-most 15 (omega arith) in omega arith;
           total-least = passed-least a h;
           total-greatest = passed-greatest a h;
         }

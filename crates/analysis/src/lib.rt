@@ -7,8 +7,8 @@ ghost use Rattle.analysis.specs.Register.{CODES, ifElse};
 ghost use Rattle.analysis.specs.Packed.{rangeOf};
 ghost use Rattle.analysis.specs.Check.{inRange, totalFits, refusalBy, refusalOf, answerOf, codeOf, AtFault};
 
-// Indices of an analysis: the codes 1 to 13, and 0, which is no code.
-pub const CODES: usize = 14;
+// Indices of an analysis: room for every code below 16. At 0, 9 and 13 to 15 no amount is legal.
+pub const CODES: usize = 16;
 
 // The amount in parts of code k stands at index k, 0 where it is absent.
 pub struct Analysis {
@@ -40,6 +40,8 @@ const RANGES: [u64; CODES] = [
     100000 * ABOVE + 50,
     150000 * ABOVE + 50,
     1,
+    1,
+    1,
 ];
 
 // The code where its amount is out of its range, else the code at fault so far. 0 is in range where the code may be absent:
@@ -54,7 +56,7 @@ fn fault_at(code: usize, amount: u32, range: u64, fault: usize) -> usize
     if fits { fault } else { code }
 }
 
-// One amount more: 14 of them stay far below the greatest u64.
+// One amount more: CODES of them stay far below the greatest u64.
 fn plus(sum: u64, amount: u32) -> u64
     requires { ⌜ sum < 1000000000000 ⌝ }
     ensures { λ r. ⌜ (r ≡ sum + amount) × (r ≤ sum + 4294967295) ⌝ }

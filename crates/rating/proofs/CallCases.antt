@@ -13,7 +13,7 @@ use mir.Val.{toZ, ofZ}
 use lib.ListN.{length, replicate}
 use borrow.Author.Tests.{eq-eqb, eqb-true}
 use Rattle.integer.specs.Ring.{mag-le}
-use Rattle.analysis.specs.Register.{ifElse}
+use Rattle.analysis.specs.Register.{CODES, ifElse}
 use Rattle.analysis.specs.Check as check
 use Rattle.analysis.specs.Check.{refusalOf, AtFault, Checking}
 use Rattle.analysis.specs.declared.Checked.{Checked}
@@ -108,7 +108,7 @@ search-away a allowance number code t =
 
 -- ---- an analysis in range
 
-module _ (a : List ℕ) (long : length a ≡ 14) (passed : refusalOf a ≡ 0) where
+module _ (a : List ℕ) (long : length a ≡ CODES) (passed : refusalOf a ≡ 0) where
   mixture-in : mixtureOf a ≡ simplifiedOf a
   mixture-in = ap (λ (n : ℕ). ifElse (eqb n 0) (simplifiedOf a) (replicate 4 0)) passed
 

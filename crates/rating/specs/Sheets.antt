@@ -8,7 +8,7 @@ use native.Mathlib.Omega.{arith}
 use lib.Dec.{eqb, leb, ltb}
 use lib.ListN.{getD, length, length-set}
 use borrow.Author.Tests.{eqb-false}
-use Rattle.analysis.specs.Register.{Status, live, retired, splitsOnly, unknown, statusOf, ifElse}
+use Rattle.analysis.specs.Register.{CODES, Status, live, retired, splitsOnly, unknown, statusOf, ifElse}
 use Rattle.analysis.specs.Check.{refusalBy, refusalOf, allInRange, totalFits, totalOf}
 use Rattle.sheet.specs.Bytes.{numberAt}
 use Rattle.sheet.specs.Components as components
@@ -174,7 +174,7 @@ module _ (s : List ℕ) (code : ℕ) (h : readOf s code .answer ≡ reading.Read
   pub read-passed : refusalOf (readOf s code .analysis .amounts) ≡ 0
   read-passed = ap (λ (x : Sheet). refusalOf (x .analysis .amounts)) content ∙ amounts-back (whole .n) s (whole .amounts) .1
 
-  pub read-long : length (readOf s code .analysis .amounts) ≡ 14
+  pub read-long : length (readOf s code .analysis .amounts) ≡ CODES
   read-long = ap (λ (x : Sheet). length (x .analysis .amounts)) content ∙ amounts-long (whole .n) s 1 _
 
 -- ---- a sheet

@@ -1,6 +1,7 @@
 -- `plant::proposed` meets its contract. Assumes nothing.
 use mathlib.Core.Path.{_≡_, sym, subst}
 use lib.ListN.{length}
+use Rattle.analysis.specs.Register.{CODES}
 use Rattle.plant.specs.Interface.{SmallFigures}
 use Rattle.plant.specs.Small.{split-small}
 use borrow.Author.Needs.{needs}
@@ -11,7 +12,7 @@ rate-split-requires : tie.Need-rate-split-requires
 rate-split-requires c κs = search needs
 
 returns : tie.Need-returns
-returns c = let l : length (c .before .args .amounts) ≡ 14 = search needs in
+returns c = let l : length (c .before .args .amounts) ≡ CODES = search needs in
     let e = c .rate-split .ensures in (e .0, (e .1, subst SmallFigures (sym (e .0)) (split-small _ l _ _)))
 
 pub proposed-spec : {M : Type 1} → statement M

@@ -1,6 +1,7 @@
 -- `plant::searched` meets its contract. Assumes nothing.
 use mathlib.Core.Path.{_≡_, sym, ap, subst}
 use lib.ListN.{length}
+use Rattle.analysis.specs.Register.{CODES}
 use Rattle.rating.specs.declared.Outcome.{Outcome}
 use Rattle.plant.specs.Interface.{SmallFigures}
 use Rattle.plant.specs.Small.{search-small}
@@ -12,7 +13,7 @@ rate-by-search-requires : tie.Need-rate-by-search-requires
 rate-by-search-requires c κs = search needs
 
 returns : tie.Need-returns
-returns c = let l : length (c .before .args .amounts) ≡ 14 = search needs in
+returns c = let l : length (c .before .args .amounts) ≡ CODES = search needs in
     let e = c .rate-by-search .ensures in
     (e .0, (e .1, subst SmallFigures (sym (ap (λ (x : Outcome). x .answer) (e .0))) (search-small _ l _ _)))
 
