@@ -5,7 +5,8 @@ ghost use Prim.Native.Nat.{_+_, _<_, _≤_};
 ghost use lib.Dec.{eqb};
 ghost use Rattle.analysis.specs.Register.{CODES, ifElse};
 ghost use Rattle.analysis.specs.Packed.{rangeOf};
-ghost use Rattle.analysis.specs.Check.{inRange, totalFits, refusalBy, refusalOf, answerOf, codeOf, AtFault};
+ghost use Rattle.analysis.specs.CheckedCases.{numberOf, codeOf};
+ghost use Rattle.analysis.specs.Check.{inRange, totalFits, refusalBy, refusalOf, answerOf, AtFault};
 
 // Indices of an analysis: the codes 1 to 13, and 0, which is no code.
 pub const CODES: usize = 14;
@@ -100,7 +101,7 @@ fn answer(fault: usize, sum: u64) -> Checked
 // lowest code at fault, CODES where there is none, and the total.
 pub fn check(a: Analysis) -> Checked
     ensures { λ r. ⌜ r ≡ answerOf (refusalOf (a .amounts)) (codeOf r) ⌝ }
-    ensures { λ r. ⌜ (refusalOf (a .amounts) ≡ 5 → AtFault (a .amounts) (codeOf r)) ⌝ }
+    ensures { λ r. ⌜ (numberOf r ≡ 5 → AtFault (a .amounts) (codeOf r)) ⌝ }
 {
     let amounts = a.amounts;
     let ranges = RANGES;
