@@ -1,5 +1,6 @@
--- What holds of an analysis that is not refused, for those who compute with one. Assumes nothing.
-use mathlib.Core.Path.{_≡_, refl}
+-- What the check's answer says of an analysis, and what holds of one that is not refused, for those who compute with it.
+-- Assumes nothing.
+use mathlib.Core.Path.{_≡_, refl, sym, ap, _∙_}
 use mathlib.Core.List.{List, [], _∷_}
 use mathlib.Core.Bool.{Bool, true, false, not}
 use Prim.Native.Nat.{ℕ, zero, suc, _+_, _≤_, _<_}
@@ -10,7 +11,21 @@ use lib.ListN.{length, getD, drop, drop-of-length-le}
 use lib.Seq.{drop-cons}
 use borrow.Author.Tests.{eqb-true, eqb-false, leb-true}
 use Rattle.analysis.specs.Register.{CODES, ifElse, statusOf}
-use Rattle.analysis.specs.Check.{leastOf, greatestOf, requiredOf, inRange, allInRange, totalOf, totalFits, refusalBy, refusalOf}
+use Rattle.analysis.specs.declared.Checked.{Checked}
+use Rattle.analysis.specs.declared.Checked.the-variants.{InRange, Refused}
+use Rattle.analysis.specs.CheckedCases.{numberOf, codeOf}
+use Rattle.analysis.specs.Check.{leastOf, greatestOf, requiredOf, inRange, allInRange, totalOf, totalFits, refusalBy, refusalOf, answerOf, Checking}
+
+-- the number of the check's answer is the analysis's
+pub answer-number : (n code : ℕ) → numberOf (answerOf n code) ≡ n
+answer-number n code = go (eqb n 0) refl
+  where
+    go : (t : Bool) → eqb n 0 ≡ t → numberOf (ifElse t InRange (Refused n (ifElse (eqb n 5) code 0))) ≡ n
+    go true e = sym (eqb-true n 0 e)
+    go false e = refl
+
+pub checked-number : (a : List ℕ) (r : Checked) → Checking a r → numberOf r ≡ refusalOf a
+checked-number a r h = ap numberOf (h .answer) ∙ answer-number (refusalOf a) (codeOf r)
 
 -- the sum of the amounts from code k on
 pub total-go : (k : ℕ) (a : List ℕ) → k < length a → totalOf (drop k a) ≡ getD a k 0 + totalOf (drop (k + 1) a)

@@ -5,7 +5,8 @@ ghost use Prim.Native.Nat.{_+_, _<_, _≤_};
 ghost use lib.Dec.{eqb};
 ghost use Rattle.analysis.specs.Register.{CODES, ifElse};
 ghost use Rattle.analysis.specs.Packed.{rangeOf};
-ghost use Rattle.analysis.specs.Check.{inRange, totalFits, refusalBy, refusalOf, answerOf, codeOf, AtFault};
+ghost use Rattle.analysis.specs.CheckedCases.{numberOf, codeOf};
+ghost use Rattle.analysis.specs.Check.{inRange, totalFits, refusalBy, refusalOf, answerOf, AtFault};
 
 // Indices of an analysis: room for every code below 16. At 0, 9 and 13 to 15 no amount is legal.
 pub const CODES: usize = 16;
@@ -102,7 +103,7 @@ fn answer(fault: usize, sum: u64) -> Checked
 // lowest code at fault, CODES where there is none, and the total.
 pub fn check(a: Analysis) -> Checked
     ensures { λ r. ⌜ r ≡ answerOf (refusalOf (a .amounts)) (codeOf r) ⌝ }
-    ensures { λ r. ⌜ (refusalOf (a .amounts) ≡ 5 → AtFault (a .amounts) (codeOf r)) ⌝ }
+    ensures { λ r. ⌜ (numberOf r ≡ 5 → AtFault (a .amounts) (codeOf r)) ⌝ }
 {
     let amounts = a.amounts;
     let ranges = RANGES;

@@ -27,13 +27,14 @@ use Rattle.sheet.specs.declared.Sheet.{Sheet}
 use Rattle.split.specs.Rating.{verdict, proposedOf, ratingOf, resums, someEmpty, spreadOf}
 use Rattle.mixture.specs.Inert.{inertFirst}
 use Rattle.split.specs.Split.{cellsOf, numberAt as partialAt}
+use Rattle.split.specs.AnswerCases.{numberOf}
 use Rattle.split.specs.Rated.{IsRated}
 use Rattle.split.specs.declared.Answer.{Answer}
 use Rattle.split.specs.declared.Answer.the-variants.{Rated, Refused}
 use Rattle.split.specs.declared.Search.{Search}
 use Rattle.split.specs.declared.Search.the-variants.{Balanced, Unbalanced}
 use Rattle.rating.specs.Records.{fitsOf}
-use Rattle.rating.specs.Rate.{LIMIT, ROUNDS, mixOf, systemsFor, countFor, splitBy, splitAnswer, foundBy, foundOutcome, searched, searchOutcome, outcome, readBy, sheetOutcome, numberOf}
+use Rattle.rating.specs.Rate.{LIMIT, ROUNDS, mixOf, systemsFor, countFor, splitBy, splitAnswer, foundBy, foundOutcome, searched, searchOutcome, outcome, readBy, sheetOutcome}
 
 -- a rating, or a refusal with a number from `low` to `high`
 abbrev pub RatedOr : ℕ → ℕ → Answer → Type 0

@@ -1,20 +1,23 @@
 -- What the functions for C meet: an answer as number and place, and what stands in each buffer. Assumes nothing.
 use mathlib.Core.Path.{_≡_, refl, sym, ap, _∙_, subst}
+use mathlib.Core.Bool.{Bool, true, false, cond}
 use mathlib.Core.List.{List, [], _∷_}
 use Prim.Native.Nat.{ℕ, _<_}
 use native.Mathlib.Omega.{arith}
+use lib.Dec.{eqb}
 use lib.IntN.{ℤ, pos, natAbs}
 use mir.Syntax.{w64}
 use mir.Val.{SFits, toZ, ofZ}
 use mir.ValLaws.{toZ-ofZ}
 use Rattle.integer.specs.Ring.{mag-le}
+use Rattle.analysis.specs.Register.{ifElse}
 use Rattle.ternary.specs.declared.Partial.{Partial}
 use Rattle.ternary.specs.declared.Partial.the-variants as partial
 use Rattle.split.specs.declared.Answer.{Answer}
 use Rattle.split.specs.declared.Answer.the-variants.{Rated, Refused}
-use Rattle.rating.specs.Rate.{numberOf, codeOf}
+use Rattle.split.specs.AnswerCases.{numberOf, codeOf, figuresOf}
 use Rattle.rating.specs.declared.Outcome.{Outcome}
-use Rattle.saugrinte.specs.Interface.{reply, codeIn, replyOf, figuresOf, columnOf, SmallFigures, partialReply, partialIn}
+use Rattle.saugrinte.specs.Interface.{reply, codeIn, replyOf, columnOf, SmallFigures, partialReply, partialIn}
 use Rattle.saugrinte.specs.declared.Reply.{Reply}
 
 -- ---- the figures of a rating
@@ -51,19 +54,19 @@ column-put x w s r e column l = sym (ap (λ (y : Answer). columnOf y column l) e
 
 -- ---- number and place tell the code that 5 carries
 
+choice : (b : Bool) (x : ℕ) → ifElse b x 0 ≡ cond b x 0
+choice true x = refl
+choice false x = refl
+
 code-kept : (x : Answer) → codeIn (replyOf x) ≡ codeOf x
 code-kept (Rated w s r) = refl
-code-kept (Refused number place) = refl
-
-number-kept : (x : Answer) → replyOf x .number ≡ numberOf x
-number-kept (Rated w s r) = refl
-number-kept (Refused number place) = refl
+code-kept (Refused number place) = choice (eqb number 5) place
 
 same-code : (x : Answer) (r : Reply) → r ≡ replyOf x → codeIn r ≡ codeOf x
 same-code x r e = ap codeIn e ∙ code-kept x
 
 pub fault-at : (x : Answer) (r : Reply) → r ≡ replyOf x → (P : ℕ → Type 0) → (numberOf x ≡ 5 → P (codeOf x)) → r .number ≡ 5 → P (codeIn r)
-fault-at x r e P p z = subst P (sym (same-code x r e)) (p (sym (ap (λ (y : Reply). y .number) e ∙ number-kept x) ∙ z))
+fault-at x r e P p z = subst P (sym (same-code x r e)) (p (sym (ap (λ (y : Reply). y .number) e) ∙ z))
 
 -- `f` gives the answer for a code with 5
 module _ (f : ℕ → Answer) (x : Answer) (h : x ≡ f (codeOf x)) (r : Reply) (e : r ≡ replyOf x) where

@@ -10,10 +10,10 @@ use borrow.Author.Tests.{eq-eqb, ne-eqb}
 use Rattle.analysis.specs.Register.{ifElse}
 use Rattle.analysis.specs.Check.{AtFault}
 use Rattle.sheet.specs.Sheet.{sheetOf}
-use Rattle.sheet.specs.Read as read
+use Rattle.sheet.specs.ReadingCases as read
 use Rattle.sheet.specs.Read.{readOf, ReadAs, FaultIn}
-use Rattle.sheet.specs.Coded.{carriedOf, refused-answer, carried-code, read-as-is, read-as-read}
-use Rattle.sheet.specs.Write as write
+use Rattle.sheet.specs.Coded.{refused-answer, carried-code, read-as-is, read-as-read}
+use Rattle.sheet.specs.WrittenCases as write
 use Rattle.sheet.specs.Write.{writeRefusal, writtenOf, leftOf, WrittenAs}
 use Rattle.sheet.specs.declared.Split.{Split}
 use Rattle.sheet.specs.declared.Reading.{Reading}
@@ -71,10 +71,10 @@ module _ (a : List ℕ) (p : Split) (b : List ℕ) (r : Written) (left : List �
 -- ---- reading
 
 module _ (s : List ℕ) (r : Sheet) (h : ReadAs s r) (number place code : ℕ) (e : r .answer ≡ reading.Refused number place code) where
-  same-code : codeIn (reply number (carriedOf number place code)) ≡ code
+  same-code : codeIn (reply number (read.placeOf (reading.Refused number place code))) ≡ code
   same-code = carried-code s r h number place code e
 
-  read-back : readOf s (codeIn (reply number (carriedOf number place code))) .answer ≡ reading.Refused number place code
+  read-back : readOf s (codeIn (reply number (read.placeOf (reading.Refused number place code)))) .answer ≡ reading.Refused number place code
   read-back = ap (λ (c : ℕ). readOf s c .answer) same-code ∙ refused-answer s r h number place code e
 
   -- of the reply to a refused sheet
@@ -113,8 +113,8 @@ module _ (s : List ℕ) (r : Sheet) (h : ReadAs s r) (e : r .answer ≡ reading.
   count-read count now old q = q ∙ sym (ap (λ (x : Reading). readCount x count old) good)
 
 -- the place is the code with 5, else the record's
-pub place-five : (number place code : ℕ) → number ≡ 5 → code ≡ carriedOf number place code
+pub place-five : (number place code : ℕ) → number ≡ 5 → code ≡ read.placeOf (reading.Refused number place code)
 place-five number place code e = sym (rw (eq-eqb number 5 e))
 
-pub place-other : (number place code : ℕ) → (number ≡ 5 → ⊥) → place ≡ carriedOf number place code
+pub place-other : (number place code : ℕ) → (number ≡ 5 → ⊥) → place ≡ read.placeOf (reading.Refused number place code)
 place-other number place code e = sym (rw (ne-eqb number 5 e))

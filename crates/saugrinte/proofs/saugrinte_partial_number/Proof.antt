@@ -17,11 +17,11 @@ enum-known-partial-2 : tie.Need-enum-known-partial-2
 enum-known-partial-2 c = search needs
 
 returns : tie.Need-returns
-returns c = partial-done _ _ (sym (c .before .before .before .partial-number .ensures) ∙ c .before .partial .given .1) _ _
+returns c = partial-done _ _ (sym (c .before .before .before .partial-number .ensures .0) ∙ c .before .partial .given .1) _ _
     (toZ-ofZ w64 _ (search needs))
 
 returns-2 : tie.Need-returns-2
-returns-2 c = partial-refused _ _ (sym (c .before .before .before .partial-number .ensures) ∙ c .before .partial2 .given .1) _
+returns-2 c = partial-refused _ _ (sym (c .before .before .before .partial-number .ensures .0) ∙ c .before .partial2 .given .1) _
 
 pub saugrinte-partial-number-spec : {M : Type 1} → statement M
 saugrinte-partial-number-spec =
