@@ -1,6 +1,6 @@
 #!/usr/bin/env bash
 # The C interface: builds the library's archive, compiles the driver and the example against it with the header, and
-# compares what the example prints. SAUGRINTE_LIB names another archive or a C file to take in the archive's place.
+# compares the header's constants with the sources, its version with the library's, and what the example prints. SAUGRINTE_LIB names another archive or a C file to take in the archive's place.
 # The driver gets its name once it is whole: the other tests wait for it, or for a file `failed`.
 set -euo pipefail
 cd "$(dirname "$0")/../.."
@@ -22,6 +22,9 @@ echo '#include "saugrinte.h"' | gcc -x c++ -fsyntax-only -Wall -Wextra -Werror -
   || { grep -q 'cc1plus' "$out/header.log" || { cat "$out/header.log"; exit 1; }
        echo 'interface: no C++ compiler here, so the header was not tried with one'; }
 
+python3 tests/header.py
+said=$(echo version | "$out/driver")
+[ "${said% *}" = "${said#* }" ] || { echo "interface: versions of the header and of the library: $said"; exit 1; }
 "$out/rate-example" >"$out/rate.out"
 diff examples/rate.out "$out/rate.out" || { echo "interface: examples/rate.c prints something else than rate.out"; exit 1; }
 echo "interface: $lib, header, driver and example stand; the example prints examples/rate.out"
