@@ -13,9 +13,9 @@ use Rattle.whole.specs.Whole.{wholeNumber}
 use Rattle.split.specs.declared.Answer.{Answer}
 use Rattle.split.specs.declared.Answer.the-variants.{Rated, Refused}
 use Rattle.display.specs.Decimal.{digitsOf, figureOf}
-use Rattle.display.specs.Line.{RATED, REFUSED, SPACE, NEWLINE, fieldsOf, joined, lineOf, lineIn}
-use Rattle.display.specs.Longest.{LINE, RATING_BYTES, WHOLE_BYTES, rating-length, whole-length, no-longer}
-use Rattle.display.specs.Put.{Counts, Put}
+use Rattle.display.specs.Line.{RATED, REFUSED, SPACE, NEWLINE, RATING_BYTES, WHOLE_BYTES, LINE, fieldsOf, joined, lineOf, lineIn}
+use Rattle.display.specs.Longest.{rating-length, whole-length, no-longer}
+use Rattle.display.specs.Put.{Counts, Put, countsBytes, ratingBytes}
 use Rattle.display.proofs.Runs.{then, put-as}
 
 pub length-two : (u v : List ℕ) → length (SPACE ∷ u ++ SPACE ∷ v) ≡ 1 + length u + (1 + length v)
@@ -34,20 +34,16 @@ module _ (x : Answer) (z : ℤ) (spread rounds : ℕ) (e : x ≡ Rated z spread 
   rated-room g h = subst (λ (y : Answer). length (lineOf y) ≤ LINE) (sym e) (no-longer (Rated z spread rounds) (f, g, h))
 
   pub rated-put : {b c d g : List ℕ} {m n k : ℕ} → Put b 0 RATED c m
-      → Put c m (SPACE ∷ figureOf (toZ w64 (ofZ w64 z)) ++ SPACE ∷ figureOf (wholeNumber (toZ w64 (ofZ w64 z)))) d n
-      → Put d n (SPACE ∷ digitsOf spread ++ SPACE ∷ digitsOf rounds) g k → Put b 0 (joined (fieldsOf x)) g k
+      → Put c m (ratingBytes (toZ w64 (ofZ w64 z))) d n → Put d n (countsBytes spread rounds) g k → Put b 0 (joined (fieldsOf x)) g k
   rated-put p q r = put-as (joint ∙ sym (ap (λ (y : Answer). joined (fieldsOf y)) e)) (then p (then (put-as back q) r))
     where
-      whole : List ℕ
-      whole = SPACE ∷ figureOf (wholeNumber z)
+      back : ratingBytes (toZ w64 (ofZ w64 z)) ≡ ratingBytes z
+      back = ap ratingBytes (toZ-ofZ w64 z f)
 
-      back : SPACE ∷ figureOf (toZ w64 (ofZ w64 z)) ++ SPACE ∷ figureOf (wholeNumber (toZ w64 (ofZ w64 z))) ≡ SPACE ∷ figureOf z ++ whole
-      back = ap (λ (y : ℤ). SPACE ∷ figureOf y ++ SPACE ∷ figureOf (wholeNumber y)) (toZ-ofZ w64 z f)
-
-      joint : RATED ++ ((SPACE ∷ figureOf z ++ whole) ++ (SPACE ∷ digitsOf spread ++ SPACE ∷ digitsOf rounds)) ≡ joined (fieldsOf (Rated z spread rounds))
+      joint : RATED ++ (ratingBytes z ++ countsBytes spread rounds) ≡ joined (fieldsOf (Rated z spread rounds))
       joint =
           ap (λ (u : List ℕ). RATED ++ SPACE ∷ u)
-          (append-assoc (figureOf z) whole (SPACE ∷ digitsOf spread ++ SPACE ∷ digitsOf rounds))
+          (append-assoc (figureOf z) (SPACE ∷ figureOf (wholeNumber z)) (countsBytes spread rounds))
 
 module _ (x : Answer) (number place : ℕ) (e : x ≡ Refused number place) where
   pub refused-room : Fits w32 number → Fits w32 place → length (lineOf x) ≤ LINE

@@ -1,5 +1,5 @@
--- A figure in decimal digits (document 01, "Writer, display, controller"): ASCII bytes, the most significant digit first,
--- "a minus sign before a negative figure". Assumes nothing.
+-- A figure in decimal digits (document 01, "Writer, display, controller"): ASCII bytes, the most significant digit
+-- first, "a minus sign before a negative figure". Assumes nothing.
 use Prim.Native.Nat.{ℕ, zero, suc, _+_, _/_, _%_}
 use mathlib.Core.Bool.{true, false}
 use mathlib.Core.List.{List, [], _∷_, _++_}
@@ -13,7 +13,8 @@ digit d = 48 + d
 -- the digits of n, the last one split off so many times at most
 unfoldable pub digitsIn : ℕ → ℕ → List ℕ
 digitsIn zero n = digit n ∷ []
-digitsIn (suc times) n = elim (ltb n 10) [ true ↦ digit n ∷ [] | false ↦ digitsIn times (n / 10) ++ digit (n % 10) ∷ [] ]
+digitsIn (suc times) n =
+    elim (ltb n 10) [ true ↦ digit n ∷ [] | false ↦ digitsIn times (n / 10) ++ digit (n % 10) ∷ [] ]
 
 -- the digits of n; n times are more than enough
 unfoldable pub digitsOf : ℕ → List ℕ

@@ -1,5 +1,5 @@
 -- The line that the display program prints (document 01, "Writer, display, controller"). Assumes nothing.
-use Prim.Native.Nat.{ℕ}
+use Prim.Native.Nat.{ℕ, _+_}
 use mathlib.Core.List.{List, [], _∷_, _++_}
 use lib.ListN.{length, drop}
 use Rattle.whole.specs.Whole.{wholeNumber}
@@ -42,3 +42,21 @@ lineOf answer = joined (fieldsOf answer) ++ NEWLINE ∷ []
 -- a lent buffer after it: the line's bytes at its start, and the rest as it was
 abbrev pub lineIn : Answer → List ℕ → List ℕ
 lineIn answer buffer = lineOf answer ++ drop (length (lineOf answer)) buffer
+
+-- the most bytes of a rating (a minus sign and 19 digits), of its whole number (a minus sign and 12), of a spread, and
+-- of rounds or a refusal's number
+abbrev pub RATING_BYTES : ℕ
+RATING_BYTES = 20
+
+abbrev pub WHOLE_BYTES : ℕ
+WHOLE_BYTES = 13
+
+abbrev pub SPREAD_BYTES : ℕ
+SPREAD_BYTES = 20
+
+abbrev pub COUNT_BYTES : ℕ
+COUNT_BYTES = 10
+
+-- the bytes of the longest line: `RATED` and its figures, a space before each, and byte 0A
+abbrev pub LINE : ℕ
+LINE = length RATED + (1 + RATING_BYTES) + (1 + WHOLE_BYTES) + (1 + SPREAD_BYTES) + (1 + COUNT_BYTES) + 1

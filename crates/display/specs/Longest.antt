@@ -1,7 +1,7 @@
--- The longest line, for every answer that its types hold: a rating of 64 bits with a sign, a spread of 64 bits, rounds and
--- a number of 32 bits (document 01, "Writer, display, controller"). Assumes nothing.
+-- The longest line, for every answer that its types hold: a rating of 64 bits with a sign, a spread of 64 bits, rounds
+-- and a number of 32 bits (document 01, "Writer, display, controller"). Assumes nothing.
 use mathlib.Core.Path.{_≡_, refl}
-use Prim.Native.Nat.{ℕ, suc, _+_, _*_, _/_, _≤_, _<_}
+use Prim.Native.Nat.{ℕ, suc, _≤_, _<_}
 use mathlib.Core.List.{List, [], _∷_, _++_}
 use native.Mathlib.Omega.{arith}
 use lib.ListN.{length, length-append}
@@ -14,26 +14,8 @@ use Rattle.whole.specs.Whole.{wholeNumber}
 use Rattle.split.specs.declared.Answer.{Answer}
 use Rattle.split.specs.declared.Answer.the-variants.{Rated, Refused}
 use Rattle.display.specs.Decimal.{digitsIn, digitsOf, figureOf}
-use Rattle.display.specs.Line.{RATED, REFUSED, lineOf}
-use Rattle.display.specs.Decimals.{digits-length}
-
--- the most bytes of a rating (a minus sign and 19 digits), of its whole number (a minus sign and 12), of a spread, and of
--- rounds or a refusal's number
-abbrev pub RATING_BYTES : ℕ
-RATING_BYTES = 20
-
-abbrev pub WHOLE_BYTES : ℕ
-WHOLE_BYTES = 13
-
-abbrev pub SPREAD_BYTES : ℕ
-SPREAD_BYTES = 20
-
-abbrev pub COUNT_BYTES : ℕ
-COUNT_BYTES = 10
-
--- the bytes of the longest line: `RATED` and its figures, a space before each, and byte 0A
-abbrev pub LINE : ℕ
-LINE = length RATED + (1 + RATING_BYTES) + (1 + WHOLE_BYTES) + (1 + SPREAD_BYTES) + (1 + COUNT_BYTES) + 1
+use Rattle.display.specs.Line.{RATING_BYTES, WHOLE_BYTES, SPREAD_BYTES, COUNT_BYTES, LINE, lineOf}
+use Rattle.display.specs.Laws.Digits.{digits-length}
 
 -- an answer whose figures its types hold
 abbrev pub Held : Answer → Type 0
@@ -75,7 +57,13 @@ whole-length z f =
 pub no-longer : (answer : Answer) → Held answer → length (lineOf answer) ≤ LINE
 no-longer (Rated rating spread rounds) h =
     simp length-append
-    (omega (arith, rating-length rating (h .0), whole-length rating (h .0), spread-length spread (h .1), count-length rounds (h .2)))
+    (omega (
+      arith,
+      rating-length rating (h .0),
+      whole-length rating (h .0),
+      spread-length spread (h .1),
+      count-length rounds (h .2),
+    ))
 no-longer (Refused number place) h = simp length-append (omega (arith, count-length number (h .0)))
 
 -- and there is one as long: the least rating with the greatest spread and rounds

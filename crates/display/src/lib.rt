@@ -2,21 +2,20 @@
 // No public function has a `requires`.
 ghost use mathlib.Core.Path.{_≡_};
 ghost use Prim.Native.Nat.{_+_, _≤_};
-ghost use mathlib.Core.List.{[], _∷_, _++_};
+ghost use mathlib.Core.List.{[], _∷_};
 ghost use lib.ListN.{length};
 ghost use lib.IntN.{natAbs};
 ghost use Rattle.whole.specs.Whole.{wholeNumber};
 ghost use Rattle.display.specs.Decimal.{digitsOf, figureOf};
-ghost use Rattle.display.specs.Line.{RATED, REFUSED, SPACE, fieldsOf, joined, lineOf, lineIn};
-ghost use Rattle.display.specs.Longest.{LINE};
-ghost use Rattle.display.specs.Put.{Counts, Put};
+ghost use Rattle.display.specs.Line.{LINE, SPACE, fieldsOf, joined, lineOf, lineIn};
+ghost use Rattle.display.specs.Put.{Counts, Put, countsBytes, ratingBytes};
 use split::Answer;
 
 // The bytes of the word of a rating.
 const RATED_BYTES: usize = 5;
 
-// The most bytes of a rating (a minus sign and 19 digits), of its whole number (a minus sign and 12), of a spread, and of
-// rounds or a refusal's number.
+// The most bytes of a rating (a minus sign and 19 digits), of its whole number (a minus sign and 12), of a spread, and
+// of rounds or a refusal's number.
 const RATING_BYTES: usize = 20;
 
 const WHOLE_BYTES: usize = 13;
@@ -87,23 +86,23 @@ fn put_count(buffer: &mut [u8; LINE], at: usize, n: u64) -> usize
     put_digits(buffer, first, n)
 }
 
-// A space and n, with a minus sign before it where it is negative.
-fn put_figure(buffer: &mut [u8; LINE], at: usize, n: i64) -> usize
-    requires { ⌜ at + (1 + length (figureOf n)) ≤ LINE ⌝ }
-    ensures { λ r. ⌜ Put (now (buffer .entry)) at (SPACE ∷ figureOf n) (now (buffer .exit)) r ⌝ }
+// A space and the figure, with a minus sign before it where it is negative.
+fn put_figure(buffer: &mut [u8; LINE], at: usize, figure: i64) -> usize
+    requires { ⌜ at + (1 + length (figureOf figure)) ≤ LINE ⌝ }
+    ensures { λ r. ⌜ Put (now (buffer .entry)) at (SPACE ∷ figureOf figure) (now (buffer .exit)) r ⌝ }
 {
     let first = put_byte(buffer, at, b' ');
-    if n < 0 {
+    if figure < 0 {
         let next = put_byte(buffer, first, b'-');
-        return put_digits(buffer, next, size(n));
+        return put_digits(buffer, next, size(figure));
     }
-    put_digits(buffer, first, size(n))
+    put_digits(buffer, first, size(figure))
 }
 
 // Spread and rounds.
 fn put_counts(buffer: &mut [u8; LINE], at: usize, spread: u64, rounds: u64) -> usize
     requires { ⌜ at + (1 + length (digitsOf spread) + (1 + length (digitsOf rounds))) ≤ LINE ⌝ }
-    ensures { λ r. ⌜ Put (now (buffer .entry)) at (SPACE ∷ digitsOf spread ++ SPACE ∷ digitsOf rounds) (now (buffer .exit)) r ⌝ }
+    ensures { λ r. ⌜ Put (now (buffer .entry)) at (countsBytes spread rounds) (now (buffer .exit)) r ⌝ }
 {
     let next = put_count(buffer, at, spread);
     put_count(buffer, next, rounds)
@@ -112,7 +111,7 @@ fn put_counts(buffer: &mut [u8; LINE], at: usize, spread: u64, rounds: u64) -> u
 // A rating and its whole number.
 fn put_rating(buffer: &mut [u8; LINE], at: usize, rating: i64) -> usize
     requires { ⌜ at + (1 + length (figureOf rating) + (1 + length (figureOf (wholeNumber rating)))) ≤ LINE ⌝ }
-    ensures { λ r. ⌜ Put (now (buffer .entry)) at (SPACE ∷ figureOf rating ++ SPACE ∷ figureOf (wholeNumber rating)) (now (buffer .exit)) r ⌝ }
+    ensures { λ r. ⌜ Put (now (buffer .entry)) at (ratingBytes rating) (now (buffer .exit)) r ⌝ }
 {
     let next = put_figure(buffer, at, rating);
     put_figure(buffer, next, whole::whole_number(rating))

@@ -3,7 +3,7 @@ use mathlib.Core.Path.{ap, subst}
 use native.Mathlib.Omega.{arith}
 use lib.ListN.{length}
 use borrow.Author.Needs.{needs}
-use Rattle.display.specs.Decimals.{digits-one, digits-more, length-more}
+use Rattle.display.specs.Laws.Digits.{digits-one, digits-more, length-more}
 use Rattle.display.proofs.Runs.{then}
 use Prim.Native.Nat.{ℕ, _<_, _/_}
 use borrow.Fn.Kinds.{In}
@@ -50,7 +50,7 @@ put-digits-put-byte-requires : (t : ℕ) → put-digits-lts.Need-put-byte-requir
 ) (put-digits-at t) put-digits.Post
 put-digits-put-byte-requires t c κs =
     let s = c .before .before in
-    omega (arith, ap length (digits-one (s .args .n) (c .before .if1 .taken)), s .pre .1)
+    omega (arith, ap length (digits-one (s .args .n) (omega arith)), s .pre .1)
 
 put-digits-returns : (t : ℕ) → put-digits-lts.Need-returns (
   put-byte-reads.Asked,
@@ -60,7 +60,7 @@ put-digits-returns : (t : ℕ) → put-digits-lts.Need-returns (
 ) (put-digits-at t) put-digits.Post
 put-digits-returns t c =
     let s = c .before .before .before in
-    rw (digits-one (s .args .n) (c .before .before .if1 .taken)) (c .put-byte .ensures)
+    rw (digits-one (s .args .n) (omega arith)) (c .put-byte .ensures)
 
 put-digits-put-digits-requires : (t : ℕ) → put-digits-lts.Need-put-digits-requires (
   put-byte-reads.Asked,
@@ -71,7 +71,7 @@ put-digits-put-digits-requires : (t : ℕ) → put-digits-lts.Need-put-digits-re
 put-digits-put-digits-requires t c κs =
     let s = c .before .before in (
       subst (λ (most : ℕ). s .args .n / 10 < most) (s .pre .0) (omega arith),
-      omega (arith, length-more (s .args .n) (c .before .if1 .left), s .pre .1),
+      omega (arith, length-more (s .args .n) (omega arith), s .pre .1),
     )
 
 put-digits-cast-put-byte-2 : (t : ℕ) → put-digits-lts.Need-cast-put-byte-2 (
@@ -98,7 +98,7 @@ put-digits-put-byte-requires-2 : (t : ℕ) → put-digits-lts.Need-put-byte-requ
 ) (put-digits-at t) put-digits.Post
 put-digits-put-byte-requires-2 t c κs =
     let s = c .before .before .before .before in
-    omega (arith, length-more (s .args .n) (c .before .before .before .if1 .left), c .before .put-digits .ensures .ended, s .pre .1)
+    omega (arith, length-more (s .args .n) (omega arith), c .before .put-digits .ensures .ended, s .pre .1)
 
 put-digits-returns-2 : (t : ℕ) → put-digits-lts.Need-returns-2 (
   put-byte-reads.Asked,
@@ -108,7 +108,7 @@ put-digits-returns-2 : (t : ℕ) → put-digits-lts.Need-returns-2 (
 ) (put-digits-at t) put-digits.Post
 put-digits-returns-2 t c =
     let s = c .before .before .before .before .before in
-    rw (digits-more (s .args .n) (c .before .before .before .before .if1 .left)) (then (c .before .before .put-digits .ensures) (c .put-byte2 .ensures))
+    rw (digits-more (s .args .n) (omega arith)) (then (c .before .before .put-digits .ensures) (c .put-byte2 .ensures))
 
 pub +put-digits-spec : {M : Type 1} → statement M
 +put-digits-spec = close μ-put-digits λ t. put-digits-lts.spec (
