@@ -2,6 +2,7 @@
 // program of tests/reference.
 use analysis::Analysis;
 use analysis::CODES;
+use display::LINE;
 use libc::STDOUT_FILENO;
 use split::Answer;
 
@@ -189,33 +190,11 @@ fn put_number(n: u64) {
     io::print_decimal(STDOUT_FILENO, n);
 }
 
-fn put_signed(n: i64) {
-    put(b" ");
-    if n < 0 {
-        put(b"-");
-    }
-    io::print_decimal(STDOUT_FILENO, decimal::size(n));
-}
-
+// The display program's line.
 fn put_answer(answer: Answer) {
-    match answer {
-        Answer::Rated {
-            rating,
-            spread,
-            rounds,
-        } => {
-            put(b"RATED");
-            put_signed(rating);
-            put_signed(whole::whole_number(rating));
-            put_number(spread);
-            put_number(rounds as u64);
-        }
-        Answer::Refused { number, place: _ } => {
-            put(b"REFUSED");
-            put_number(number as u64);
-        }
-    }
-    put(b"\n");
+    let mut buffer = [0u8; LINE];
+    let n = display::line(answer, &mut buffer);
+    put(&buffer[..n]);
 }
 
 // By the search.

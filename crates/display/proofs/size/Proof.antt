@@ -1,4 +1,4 @@
--- `decimal::size` meets its contract. Below zero, -1 - n is `mag n`. Assumes nothing.
+-- `display::size` meets its contract. Below zero, -1 - n is `mag n`. Assumes nothing.
 use mathlib.Core.Path.{_≡_, ap, sym, _∙_, subst}
 use mathlib.Core.Bool.{Bool, true, false, cond}
 use Prim.Native.Nat.{suc, _+_, _-_}
@@ -11,8 +11,8 @@ use mir.Syntax.{w64}
 use mir.Val.{Fits, SFits, toZ, ofZ}
 use mir.ValLaws.{toZ-ofZ}
 use borrow.Author.Tests.{le-ltb}
-use Rattle.decimal.proofs.size.Statement.{statement}
-use Rattle.decimal.proofs.size.Tie as tie
+use Rattle.display.proofs.size.Statement.{statement}
+use Rattle.display.proofs.size.Tie as tie
 
 flipped : (z : ℤ) → ltZ z (pos 0) ≡ true → negsuc 0 -ℤ z ≡ pos (mag z)
 flipped (pos n) h = absurd (subst (λ (b : Bool). T b → ⊥) (sym (le-ltb n 0 (omega arith)) ∙ h) (λ x. x) tt)

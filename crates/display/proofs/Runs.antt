@@ -1,0 +1,39 @@
+-- Runs of bytes, put one after the other. Assumes nothing.
+use mathlib.Core.Path.{_≡_, refl, sym, ap, _∙_}
+use mathlib.Core.List.{List, [], _∷_, _++_}
+use Prim.Native.Nat.{ℕ, zero, suc, _+_, _≤_, _<_}
+use native.Mathlib.Omega.{arith}
+use native.Mathlib.Numerals.{add-one}
+use lib.ListN.{length, getD, set, drop, length-append, drop-of-length-le}
+use lib.Seq.{sets, drop-cons}
+use Rattle.display.specs.Put.{Put}
+
+-- two runs, the second where the first ends, are one run
+sets-append : (u v l : List ℕ) (i : ℕ) → sets (sets l i u) (i + length u) v ≡ sets l i (u ++ v)
+sets-append [] v l i =
+    let e : i + zero ≡ i = omega arith in
+    rw e
+sets-append (a ∷ u) v l i =
+    let e : i + suc (length u) ≡ suc i + length u = omega arith in
+    rw e (sets-append u v (set l i a) (suc i))
+
+pub then : {b c d u v : List ℕ} {at m n : ℕ} → Put b at u c m → Put c m v d n → Put b at (u ++ v) d n
+then {b} {c} {d} {u} {v} {at} {m} {n} p q =
+    record {
+      stored = q .stored ∙ rw (p .stored, p .ended) (sets-append u v b at);
+      ended = rw length-append (omega (arith, p .ended, q .ended));
+    }
+
+-- the same bytes, said in another way
+pub put-as : {b c u v : List ℕ} {at m : ℕ} → u ≡ v → Put b at u c m → Put b at v c m
+put-as {b} {c} {u} {v} {at} {m} e p = rw (← e) p
+
+-- a run from its i-th byte on: the byte, and the run from the next one on
+pub run-next : (b word : List ℕ) (at i : ℕ) → i < length word
+    → sets (set b (at + i) (getD word i 0)) (at + (i + 1)) (drop (i + 1) word) ≡ sets b (at + i) (drop i word)
+run-next b word at i h =
+    let e : at + (i + 1) ≡ suc (at + i) = omega arith in
+    rw (e, add-one i, drop-cons word i 0 h)
+
+pub run-end : (b word : List ℕ) (at i : ℕ) → length word ≤ i → sets b (at + i) (drop i word) ≡ b
+run-end b word at i h = rw (drop-of-length-le word h)
