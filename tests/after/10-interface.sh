@@ -21,9 +21,7 @@ mv "$out/driver.new" "$out/driver"
 gcc -O3 $warnings -Iinclude tests/driver.c tests/plain/saugrinte.c -o "$out/plain.new"
 mv "$out/plain.new" "$out/plain"
 gcc -O3 $warnings -Iinclude examples/rate.c "$lib" -o "$out/rate-example"
-echo '#include "saugrinte.h"' | gcc -x c++ -fsyntax-only -Wall -Wextra -Werror -Iinclude - 2>"$out/header.log" \
-  || { grep -q 'cc1plus' "$out/header.log" || { cat "$out/header.log"; exit 1; }
-       echo 'interface: no C++ compiler here, so the header was not tried with one'; }
+echo '#include "saugrinte.h"' | g++ -x c++ -fsyntax-only -Wall -Wextra -Werror -Iinclude -
 
 "$out/rate-example" >"$out/rate.out"
 diff examples/rate.out "$out/rate.out" || { echo "interface: examples/rate.c prints something else than rate.out"; exit 1; }
