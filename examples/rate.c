@@ -1,7 +1,7 @@
 /* Rates the gas of 001 Table A.1 as a plant controller would: writes its sheet, rates the sheet, and prints the
    display line and the controller's record.
 
-     gcc -O2 -Iinclude examples/rate.c target/staticlib/libplant.a -o target/rate-example */
+     gcc -O2 -Iinclude examples/rate.c target/staticlib/libsaugrinte.a -o target/rate-example */
 #include <inttypes.h>
 #include <stdio.h>
 

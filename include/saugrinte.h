@@ -22,7 +22,7 @@
    The place tells more: for 2 to 4 the record's place from 0, for 5 a code at fault, for all else 0.
    A refusal changes no buffer.
 
-   amounts[k] is the amount in parts of code k, 0 where it is absent. Codes 0, 9 and 13 have no legal amount:
+   amounts[k] is the amount in parts of code k, 0 where it is absent. At 0, 9 and 13 to 15 no amount is legal:
    anything but 0 there is refused 5.
 
    A split is a count of records, 0 or 9, and three arrays: record i gives amount parts[i] of component codes[i]
@@ -41,8 +41,8 @@
 extern "C" {
 #endif
 
-#define SAUGRINTE_CODES 14          /* entries of an analysis, one for each code from 0 to 13 */
-#define SAUGRINTE_RECORDS 9         /* records of a split */
+#define SAUGRINTE_CODES 16          /* entries of an analysis, one for each code from 0 to 15 */
+#define SAUGRINTE_RECORDS 21        /* room for the records of a split; it has 9 */
 #define SAUGRINTE_SHEET 111         /* bytes of the longest sheet */
 #define SAUGRINTE_ROUNDS 4000       /* the greatest allowance of rounds */
 
@@ -64,16 +64,16 @@ typedef struct {
 saugrinte_answer saugrinte_rate(const uint8_t *sheet, size_t length, int64_t figures[3]);
 
 /* Rates an analysis by the search, with at most `allowance` rounds; above 4000 counts as 4000.
-   Done: figures holds rating, spread and rounds; the three arrays hold the nine records of the split found.
+   Done: figures holds rating, spread and rounds; the three arrays hold the nine records of the split found, and zeros after them.
    Refused 5, 6, 11: no buffer is changed. */
-saugrinte_answer saugrinte_search(const uint32_t amounts[14], uint32_t allowance, int64_t figures[3],
-                                  uint8_t systems[9], uint8_t codes[9], uint32_t parts[9]);
+saugrinte_answer saugrinte_search(const uint32_t amounts[SAUGRINTE_CODES], uint32_t allowance, int64_t figures[3],
+                                  uint8_t systems[SAUGRINTE_RECORDS], uint8_t codes[SAUGRINTE_RECORDS], uint32_t parts[SAUGRINTE_RECORDS]);
 
 /* Rates an analysis with a proposed split.
    Done: figures holds rating, spread and 0.
    Refused 5 to 10, 7 also where count is not nine: figures is unchanged. */
-saugrinte_answer saugrinte_rate_split(const uint32_t amounts[14], size_t count, const uint8_t systems[9],
-                                      const uint8_t codes[9], const uint32_t parts[9], int64_t figures[3]);
+saugrinte_answer saugrinte_rate_split(const uint32_t amounts[SAUGRINTE_CODES], size_t count, const uint8_t systems[SAUGRINTE_RECORDS],
+                                      const uint8_t codes[SAUGRINTE_RECORDS], const uint32_t parts[SAUGRINTE_RECORDS], int64_t figures[3]);
 
 /* The partial number, in units, of a system (2, 4, 7, 8, 20) at amounts n1, n2, n3 in the order of its formula.
    Done: *number holds it.
@@ -85,15 +85,15 @@ saugrinte_answer saugrinte_partial_number(uint32_t system, uint32_t n1, uint32_t
    Done: amounts holds the analysis, *count 0 or 9, the three arrays the split's records as they stand in the
    sheet, or zeros where it has none.
    Refused 1 to 6: no buffer is changed. */
-saugrinte_answer saugrinte_read(const uint8_t *sheet, size_t length, uint32_t amounts[14], size_t *count,
-                                uint8_t systems[9], uint8_t codes[9], uint32_t parts[9]);
+saugrinte_answer saugrinte_read(const uint8_t *sheet, size_t length, uint32_t amounts[SAUGRINTE_CODES], size_t *count,
+                                uint8_t systems[SAUGRINTE_RECORDS], uint8_t codes[SAUGRINTE_RECORDS], uint32_t parts[SAUGRINTE_RECORDS]);
 
 /* Writes the sheet of an analysis and a split, or of none (count 0), into a buffer of `room` bytes. The split's
    records are written as given.
    Done: *length holds the sheet's length, the buffer's first *length bytes the sheet; the others are unchanged.
    Refused 1 (count neither 0 nor 9), then 5, 6, 14: the buffer and *length are unchanged. */
-saugrinte_answer saugrinte_write(const uint32_t amounts[14], size_t count, const uint8_t systems[9],
-                                 const uint8_t codes[9], const uint32_t parts[9], uint8_t *buffer, size_t room,
+saugrinte_answer saugrinte_write(const uint32_t amounts[SAUGRINTE_CODES], size_t count, const uint8_t systems[SAUGRINTE_RECORDS],
+                                 const uint8_t codes[SAUGRINTE_RECORDS], const uint32_t parts[SAUGRINTE_RECORDS], uint8_t *buffer, size_t room,
                                  size_t *length);
 
 /* The controller's record of a rating and a spread in units: each count is converted to a double, which is exact

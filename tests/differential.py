@@ -34,6 +34,7 @@ EXACT = 150                 # ratings of proposed splits compared with the exact
 SECONDS = 600               # the longest that the driver may take for a part, or to be built
 DISTANCE = 40               # units; every rating is nearer than this to the exact one
 WORD = struct.calcsize('P')
+CODES, RECORDS = 16, 21     # sizes of the header's arrays
 U32, U64, I64 = 1 << 32, 1 << 64, 1 << 63
 
 
@@ -61,12 +62,23 @@ def figures(fill, result):
 
 def split_blocks(fill, records):
     if records is None:
-        return block(fill, None, 9) + block(fill, None, 9) + block(fill, None, 36)
-    return (block(fill, bytes(r[0] for r in records), 9) + block(fill, bytes(r[1] for r in records), 9)
-            + block(fill, big((r[2] for r in records), 4), 36))
+        return block(fill, None, RECORDS) + block(fill, None, RECORDS) + block(fill, None, 4 * RECORDS)
+    records = (*records, *NONE[len(records):])
+    return (block(fill, bytes(r[0] for r in records), RECORDS) + block(fill, bytes(r[1] for r in records), RECORDS)
+            + block(fill, big((r[2] for r in records), 4), 4 * RECORDS))
 
 
-NONE = ((0, 0, 0),) * 9
+NONE = ((0, 0, 0),) * RECORDS
+NO_CODE = 0, 9, 13, 14, 15
+
+
+def wide(analysis):
+    """An amount for each of the header's places."""
+    return tuple(analysis) + (0,) * (CODES - len(analysis))
+
+
+def amounts(analysis):
+    return big(wide(analysis), 4)
 
 
 class Expected:
@@ -111,7 +123,7 @@ class Line:
 
 def check(analysis):
     """5 or 6; an amount at a code that has none is at fault too."""
-    wrong = {c for c in (0, 9, 13) if analysis[c]}
+    wrong = {c for c in NO_CODE if wide(analysis)[c]}
     if not wrong:
         return ref.check(analysis)
     others = ref.check(tuple(0 if c in wrong else a for c, a in enumerate(analysis)))
@@ -160,22 +172,22 @@ class Cases:
     def read(self, kind, sheet, got):
         fill = self.next_fill()
         if isinstance(got, ref.Refusal):
-            buffers = block(fill, None, 56) + block(fill, None, WORD) + split_blocks(fill, None)
+            buffers = block(fill, None, 4 * CODES) + block(fill, None, WORD) + split_blocks(fill, None)
         else:
             analysis, split = got
-            buffers = (block(fill, big(analysis, 4), 56) + block(fill, big((9 if split else 0,), WORD), WORD)
+            buffers = (block(fill, amounts(analysis), 4 * CODES) + block(fill, big((9 if split else 0,), WORD), WORD)
                        + split_blocks(fill, split or NONE))
         self.add(kind, 'read %02x %s' % (fill, sheet.hex() or '-'), Expected(got, buffers))
 
     def search(self, kind, analysis, allowance, result):
         fill = self.next_fill()
         found = None if isinstance(result, ref.Refusal) else result.split
-        self.add(kind, 'search %02x %d %s' % (fill, allowance, big(analysis, 4).hex()),
+        self.add(kind, 'search %02x %d %s' % (fill, allowance, amounts(analysis).hex()),
                  Expected(result, figures(fill, result) + split_blocks(fill, found)))
 
     def split(self, kind, analysis, count, records, result):
         fill = self.next_fill()
-        self.add(kind, 'split %02x %d %s %s' % (fill, count, big(analysis, 4).hex(), packed(records)),
+        self.add(kind, 'split %02x %d %s %s' % (fill, count, amounts(analysis).hex(), packed(records)),
                  Expected(result, figures(fill, result)))
 
     def write(self, kind, analysis, count, records, low, high):
@@ -189,7 +201,7 @@ class Cases:
                 result = check(analysis) or ref.write(analysis, records if count else None, buffer)
             length = None if isinstance(result, ref.Refusal) else big((result,), WORD)
             expected.append(Expected(result, block(fill, bytes(buffer), room) + block(fill, length, WORD)))
-        self.add(kind, 'write %02x %d %s %s %d %d' % (fill, count, big(analysis, 4).hex(), packed(records), low, high),
+        self.add(kind, 'write %02x %d %s %s %d %d' % (fill, count, amounts(analysis).hex(), packed(records), low, high),
                  *expected)
 
     def partial(self, kind, system, n1, n2, n3):
@@ -211,7 +223,7 @@ class Cases:
 
 
 def packed(records):
-    return b''.join(bytes((s, c)) + a.to_bytes(4, 'big') for s, c, a in records or NONE).hex()
+    return b''.join(bytes((s, c)) + a.to_bytes(4, 'big') for s, c, a in (*(records or ()), *NONE[len(records or ()):])).hex()
 
 
 class Exact:
@@ -309,8 +321,8 @@ def seldom_cases(cases, exact, seed):
 
 
 def at_no_code(draw, analysis):
-    a = list(analysis)
-    a[draw.pick((0, 9, 13))] = draw.pick((1, 100, U32 - 1))
+    a = list(wide(analysis))
+    a[draw.pick(NO_CODE)] = draw.pick((1, 100, U32 - 1))
     return tuple(a)
 
 

@@ -10,7 +10,7 @@
      controller RATING SPREAD
      whole      RATING
      touch      LENGTH AT                               (calls nothing: reads byte AT of LENGTH bytes that are lent)
-   AMOUNTS is 14 times four bytes, high byte first; RECORDS nine times system, code and four bytes.
+   AMOUNTS is 16 times four bytes, high byte first; RECORDS 21 times system, code and four bytes.
 
    An answer is number, place, then every buffer of the call in base sixteen, in the header's order: first filled
    with FILL, GUARD bytes before and after it included. Numbers in buffers stand high byte first. With --flush each
@@ -151,20 +151,20 @@ static uint32_t four(const uint8_t *b)
     return (uint32_t)b[0] << 24 | (uint32_t)b[1] << 16 | (uint32_t)b[2] << 8 | b[3];
 }
 
-static void amounts_word(uint32_t amounts[14])
+static void amounts_word(uint32_t amounts[SAUGRINTE_CODES])
 {
     size_t length;
     uint8_t *b = bytes(&length);
-    if (length != 56)
-        fail("amounts are 56 bytes", line);
-    for (int i = 0; i < 14; i++)
+    if (length != 64)
+        fail("amounts are 64 bytes", line);
+    for (int i = 0; i < SAUGRINTE_CODES; i++)
         amounts[i] = four(b + 4 * i);
     free(b);
 }
 
 typedef struct {
-    uint8_t systems[9], codes[9];
-    uint32_t parts[9];
+    uint8_t systems[SAUGRINTE_RECORDS], codes[SAUGRINTE_RECORDS];
+    uint32_t parts[SAUGRINTE_RECORDS];
 } records;
 
 static records records_word(void)
@@ -173,9 +173,9 @@ static records records_word(void)
     size_t length;
     memset(&r, 0, sizeof r);
     uint8_t *b = bytes(&length);
-    if (length != 54)
-        fail("records are 54 bytes", line);
-    for (int i = 0; i < 9; i++) {
+    if (length != 126)
+        fail("records are 126 bytes", line);
+    for (int i = 0; i < SAUGRINTE_RECORDS; i++) {
         r.systems[i] = b[6 * i];
         r.codes[i] = b[6 * i + 1];
         r.parts[i] = four(b + 6 * i + 2);
@@ -187,7 +187,7 @@ static records records_word(void)
 /* COUNT, AMOUNTS and RECORDS. */
 typedef struct {
     size_t count;
-    uint32_t amounts[14];
+    uint32_t amounts[SAUGRINTE_CODES];
     records split;
 } gas;
 
@@ -239,8 +239,8 @@ static void read_sheet(void)
     int fill = fill_byte();
     size_t length;
     uint8_t *sheet = bytes(&length), *lent = lend(sheet, length);
-    region amounts = filled(56, fill), count = filled(sizeof(size_t), fill), systems = filled(9, fill),
-           codes = filled(9, fill), parts = filled(36, fill);
+    region amounts = filled(64, fill), count = filled(sizeof(size_t), fill), systems = filled(21, fill),
+           codes = filled(21, fill), parts = filled(84, fill);
     put_answer(saugrinte_read(lent, length, at(amounts), at(count), at(systems), at(codes), at(parts)));
     put(amounts, 4);
     put(count, sizeof(size_t));
@@ -254,10 +254,10 @@ static void read_sheet(void)
 static void search(void)
 {
     int fill = fill_byte();
-    uint32_t allowance = (uint32_t)number(), amounts[14];
+    uint32_t allowance = (uint32_t)number(), amounts[SAUGRINTE_CODES];
     amounts_word(amounts);
     uint32_t *lent = lend(amounts, sizeof amounts);
-    region figures = filled(24, fill), systems = filled(9, fill), codes = filled(9, fill), parts = filled(36, fill);
+    region figures = filled(24, fill), systems = filled(21, fill), codes = filled(21, fill), parts = filled(84, fill);
     put_answer(saugrinte_search(lent, allowance, at(figures), at(systems), at(codes), at(parts)));
     put(figures, 8);
     put(systems, 1);

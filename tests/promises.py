@@ -9,8 +9,10 @@ What stands between backquotes is one of
                              File.{a, b}, File.Record.field. File.name is looked for in the crates of the row, then in
                              those of the section
   name                       in the file named before it in the same cell; else in a crate of the row, of the section,
-                             or below these; or a function, type or constant of these crates
-  crate::function            also crate::module::function, crate::{a, b}; with (a, b) its parameters are compared
+                             or below these, and there in one file only, or in one that the cell names; or a function,
+                             type or constant of these crates
+  crate::function            also crate::module::function, crate::{a, b}, crate::Type; with (a, b) its parameters are
+                             compared
   crate/edit                 crates/crate/must-fail/edit.edit; in the same cell the next ones of the crate by name alone
   saugrinte_x, _x            a function of the C interface
   a path, a command, a crate, a file of a crate's data
@@ -234,6 +236,8 @@ class Document:
             self.crate, parts = parts[0], parts[1:]
             scope = [self.crates[self.crate]]
         for crate in scope:
+            if len(parts) == 1 and parts[0] in crate.types and parts not in crate.functions:
+                return 'code of ' + crate.name
             if parts not in crate.functions:
                 continue
             parameters = crate.functions[parts]
@@ -314,10 +318,11 @@ class Document:
                     return 'code of ' + crate.name
                 if any(os.path.isfile(os.path.join(crate.folder, place, token)) for place in ('', 'data')):
                     return 'file of ' + crate.name
-            if len(places) > 1:
+            named = [(crate, key) for crate, key in places if os.path.basename(key) in self.tokens]
+            if len(places) > 1 and not named:
                 raise Unknown('say which: ' + ', '.join('%s/%s' % (crate.name, key) for crate, key in places))
             if places:
-                return '%s/%s' % (places[0][0].name, places[0][1])
+                return '%s/%s' % ((named or places)[0][0].name, (named or places)[0][1])
         if token in LANGUAGE or any(token in self.crates[name].imported for name in self.row):
             return 'of the language or its library'
         raise Unknown('not declared in the file or the crates named here')
@@ -377,7 +382,7 @@ class Document:
     # -- lines
 
     def cell(self, number, text, column):
-        self.line = number
+        self.line, self.tokens = number, quoted(text)
         self.begin_cell()
         for token in quoted(text):
             try:

@@ -90,7 +90,7 @@ def fixed(driver):
             (0, TABLE_A1, 11),
             (4000, changed(c1=970797 - 100), 6), (4000, changed(c1=970797 - 99), 0),
             (4000, changed(c1=970797 + 16558, c2=100), 0), (4000, changed(c1=970797 + 16559, c2=99), 5)):
-        asked.append('search 00 %d %s' % (allowance, d.big(analysis, 4).hex()))
+        asked.append('search 00 %d %s' % (allowance, d.amounts(analysis).hex()))
         wanted.append('%d %d' % (number, 2 if number == 5 else 0))
     status, printed = d.run(driver, asked)
     if status != 0 or len(printed) != len(asked):

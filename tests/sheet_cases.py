@@ -9,11 +9,11 @@ The reader below is written from document 01 ("The register and the sheet",
 
 A data file is a count of cases in two bytes and the cases, all numbers high
 byte first. A case is a length in two bytes, the codes at fault in two bytes
-(bit k for code k) and so many bytes: a sheet to read, or in `writings` 14
+(bit k for code k) and so many bytes: a sheet to read, or in `writings` 16
 amounts of four bytes, a split count, nine split records and the sheet that is
 to be written. One line is printed for each:
 
-  READ      14 amounts (indexed by code), SPLIT, split count, three fields a
+  READ      16 amounts (indexed by code), SPLIT, split count, three fields a
             record, WRITE and its counts
   REFUSED   number, and for 2 to 4 the place, for 5 FAULT where the code that
             came with it is at fault
@@ -36,6 +36,7 @@ RETIRED = (9, 13)
 REQUIRED = (1, 2, 3, 4, 5)
 LEAST_TOTAL, GREATEST_TOTAL = 999900, 1000100
 MOST_COMPONENTS = 11
+CODES = 16
 SPLIT_COUNTS = (0, 9)
 COMPONENT_SIZE, SPLIT_SIZE = 5, 6
 LARGEST_BUFFER = 112
@@ -83,7 +84,7 @@ def read(data):
     if found is None:
         return 'REFUSED', 1, None
     components, records = found
-    amounts, before = [0] * 14, 0
+    amounts, before = [0] * CODES, 0
     for place, record in enumerate(components):
         code = record[0]
         if code == 0 or code >= 14:
@@ -249,15 +250,15 @@ def fields():
 
 def writings():
     """(amounts by code, split): what a reader would never hand on is refused too."""
-    gas = [0] * 14
+    gas = [0] * CODES
     for code, amount in GAS:
         gas[code] = amount
-    five = [0] * 14
+    five = [0] * CODES
     for code, amount in FIVE:
         five[code] = amount
     for split in ([], START, ODD):
-        yield from ((gas, split), (five, split), ([0] * 14, split))
-        for code in range(14):
+        yield from ((gas, split), (five, split), ([0] * CODES, split))
+        for code in range(CODES):
             for amount in (0, 1, 9, 99, 100, 40000, 1000000, U32):
                 yield gas[:code] + [amount] + gas[code + 1:], split
         for total in (999899, 999900, 1000100, 1000101):
@@ -270,7 +271,7 @@ def writings():
 
 def write_case(analysis, split):
     """The case's bytes, and its line."""
-    refused, wrong = checked(analysis, [c for c in range(14) if analysis[c]])
+    refused, wrong = checked(analysis, [c for c in range(CODES) if analysis[c]])
     records = split or [(0, 0, 0)] * 9
     body = b''.join(a.to_bytes(4, 'big') for a in analysis) + bytes([len(split)])
     body += b''.join(bytes([s, c]) + a.to_bytes(4, 'big') for s, c, a in records)
@@ -279,7 +280,7 @@ def write_case(analysis, split):
     elif refused == 6:
         counted = [0, LARGEST_BUFFER + 1, 0, 0, 0]
     else:
-        out = sheet([(c, analysis[c]) for c in range(14) if analysis[c]], split)
+        out = sheet([(c, analysis[c]) for c in range(CODES) if analysis[c]], split)
         counted, body = written(len(out)), body + out
     return body, wrong, ' '.join(map(str, ['WRITE', *counted]))
 

@@ -10,9 +10,9 @@ out=target/interface
 mkdir -p "$out"
 rm -f "$out/failed" "$out/driver" "$out/plain"
 trap 'status=$?; [ "$status" -eq 0 ] || touch "$out/failed"; exit "$status"' EXIT
-lib=${SAUGRINTE_LIB:-target/staticlib/libplant.a}
+lib=${SAUGRINTE_LIB:-target/staticlib/libsaugrinte.a}
 if [ -z "${SAUGRINTE_LIB:-}" ]; then
-  rt staticlib plant >"$out/staticlib.log" 2>&1 || { cat "$out/staticlib.log"; exit 1; }
+  rt staticlib saugrinte >"$out/staticlib.log" 2>&1 || { cat "$out/staticlib.log"; exit 1; }
 fi
 
 warnings='-std=c11 -Wall -Wextra -Werror'

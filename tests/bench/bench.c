@@ -1,7 +1,7 @@
 /* Times the C interface. Linked once with the library and once with the plain C program; tests/bench/run asks both
    in turn for the same chunks of the same input.
 
-     bench GASES       GASES: a file with 14 amounts a line, one gas each
+     bench GASES       GASES: a file with 16 amounts a line, one gas each
 
    Commands on standard input, one answer line each:
      rounds                        the rounds that each gas needs, -1 where it is refused
@@ -109,7 +109,7 @@ static uint64_t split(size_t first, size_t last)
     for (size_t i = first; i < last; i++) {
         const gas *g = &gases[i];
         int64_t figures[3] = { 0 };
-        saugrinte_answer answer = saugrinte_rate_split(g->amounts, SAUGRINTE_RECORDS, g->systems, g->codes, g->parts,
+        saugrinte_answer answer = saugrinte_rate_split(g->amounts, 9, g->systems, g->codes, g->parts,
                                                        figures);
         sum = mixed(mixed(sum, answer.number), (uint64_t)(figures[0] + figures[1]));
     }

@@ -7,7 +7,10 @@
 enum { TORN = 1, UNKNOWN, RETIRED, OUT_OF_ORDER, OUT_OF_RANGE, TOTAL, MISFIT, UNSUMMED, EMPTY_SYSTEM, WIDE,
        UNBALANCED, NO_MIXTURE, NO_SYSTEM, SHORT_BLANK };
 
-enum { CODES = SAUGRINTE_CODES, RECORDS = SAUGRINTE_RECORDS, ROUNDS = SAUGRINTE_ROUNDS };
+enum { CODES = SAUGRINTE_CODES, ROOM = SAUGRINTE_RECORDS, ROUNDS = SAUGRINTE_ROUNDS };
+
+/* Records of a split. */
+enum { RECORDS = 9 };
 
 /* Components of the simplified mixture. */
 enum { METHANE, ETHANE, PROPANE, BUTANE, COMPONENTS };
@@ -42,6 +45,8 @@ static const struct { uint32_t least, greatest; int required; } ranges[CODES] = 
     { 10, 15000, 0 },
     { 50, 100000, 0 },
     { 50, 150000, 0 },
+    { 0, 0, 0 },
+    { 0, 0, 0 },
     { 0, 0, 0 },
 };
 
@@ -388,8 +393,8 @@ static saugrinte_answer find(const uint32_t amounts[CODES], uint32_t allowance, 
 typedef struct {
     uint32_t amounts[CODES];
     size_t count;
-    uint8_t systems[RECORDS], codes[RECORDS];
-    uint32_t parts[RECORDS];
+    uint8_t systems[ROOM], codes[ROOM];
+    uint32_t parts[ROOM];
 } contents;
 
 static uint32_t four_bytes(const uint8_t *b)
@@ -459,8 +464,8 @@ saugrinte_answer saugrinte_rate(const uint8_t *sheet, size_t length, int64_t fig
     return rate_records(read.amounts, read.systems, read.codes, read.parts, figures);
 }
 
-saugrinte_answer saugrinte_search(const uint32_t amounts[14], uint32_t allowance, int64_t figures[3],
-                                  uint8_t systems[9], uint8_t codes[9], uint32_t parts[9])
+saugrinte_answer saugrinte_search(const uint32_t amounts[CODES], uint32_t allowance, int64_t figures[3],
+                                  uint8_t systems[ROOM], uint8_t codes[ROOM], uint32_t parts[ROOM])
 {
     split found;
     saugrinte_answer answer = check(amounts);
@@ -469,6 +474,9 @@ saugrinte_answer saugrinte_search(const uint32_t amounts[14], uint32_t allowance
     answer = find(amounts, allowance < ROUNDS ? allowance : ROUNDS, figures, &found);
     if (answer.number)
         return answer;
+    memset(systems, 0, ROOM);
+    memset(codes, 0, ROOM);
+    memset(parts, 0, ROOM * sizeof *parts);
     for (int r = 0; r < RECORDS; r++) {
         int i = r / MEMBERS, c = members[found.systems[i]][r % MEMBERS];
         systems[r] = system_numbers[found.systems[i]];
@@ -478,8 +486,8 @@ saugrinte_answer saugrinte_search(const uint32_t amounts[14], uint32_t allowance
     return done;
 }
 
-saugrinte_answer saugrinte_rate_split(const uint32_t amounts[14], size_t count, const uint8_t systems[9],
-                                      const uint8_t codes[9], const uint32_t parts[9], int64_t figures[3])
+saugrinte_answer saugrinte_rate_split(const uint32_t amounts[CODES], size_t count, const uint8_t systems[ROOM],
+                                      const uint8_t codes[ROOM], const uint32_t parts[ROOM], int64_t figures[3])
 {
     saugrinte_answer answer = check(amounts);
     if (answer.number)
@@ -502,8 +510,8 @@ saugrinte_answer saugrinte_partial_number(uint32_t system, uint32_t n1, uint32_t
     return refused(NO_SYSTEM, 0);
 }
 
-saugrinte_answer saugrinte_read(const uint8_t *sheet, size_t length, uint32_t amounts[14], size_t *count,
-                                uint8_t systems[9], uint8_t codes[9], uint32_t parts[9])
+saugrinte_answer saugrinte_read(const uint8_t *sheet, size_t length, uint32_t amounts[CODES], size_t *count,
+                                uint8_t systems[ROOM], uint8_t codes[ROOM], uint32_t parts[ROOM])
 {
     contents read;
     saugrinte_answer answer = parse(sheet, length, &read);
@@ -517,8 +525,8 @@ saugrinte_answer saugrinte_read(const uint8_t *sheet, size_t length, uint32_t am
     return done;
 }
 
-saugrinte_answer saugrinte_write(const uint32_t amounts[14], size_t count, const uint8_t systems[9],
-                                 const uint8_t codes[9], const uint32_t parts[9], uint8_t *buffer, size_t room,
+saugrinte_answer saugrinte_write(const uint32_t amounts[CODES], size_t count, const uint8_t systems[ROOM],
+                                 const uint8_t codes[ROOM], const uint32_t parts[ROOM], uint8_t *buffer, size_t room,
                                  size_t *length)
 {
     if (count != 0 && count != RECORDS)

@@ -11,7 +11,9 @@ use borrow.Author.Tests.{le-leb, lt-leb, eq-eqb, ne-eqb, eqb-false}
 use Rattle.analysis.specs.Register.{CODES, ifElse}
 use Rattle.analysis.specs.declared.Checked.{Checked}
 use Rattle.analysis.specs.declared.Checked.the-variants.{InRange, Refused}
-use Rattle.analysis.specs.Check.{inRange, allInRange, totalOf, totalFits, refusalBy, refusalOf, AtFault, codeOf, answerOf, Checking, Fault}
+use Rattle.analysis.specs.Check.{inRange, allInRange, totalOf, totalFits, refusalBy, refusalOf, AtFault, answerOf, Checking, Fault}
+use Rattle.analysis.specs.CheckedCases.{numberOf, codeOf}
+use Rattle.analysis.specs.Ranges.{answer-number}
 
 -- ---- the number of a refusal
 
@@ -136,7 +138,8 @@ module _ (a : List ℕ) (fault sum code : ℕ) (r : Checked) (z : code ≤ 0) (w
       let f : r ≡ answerOf (refusalOf a) fault = e ∙ ap (λ n. answerOf n fault) number in
       record {
         answer = own-code r (refusalOf a) fault (eqb (refusalOf a) 0) (eqb (refusalOf a) 5) refl refl f;
-        code = λ h.
+        code = λ k.
+            let h : refusalOf a ≡ 5 = sym (ap numberOf f ∙ answer-number (refusalOf a) fault) ∙ k in
             let g : fault < CODES = let x = eqb-false fault CODES (five (eqb fault CODES) (totalFits sum) (number ∙ h)) in let y = found .within in omega (arith, x) in
             let d : codeOf r ≡ fault = ap codeOf (rw h at f) in
             rw d (found .fault g);

@@ -8,6 +8,7 @@ use lib.ListN.{getD}
 use lib.Dec.{leb, eqb}
 use Rattle.analysis.specs.declared.Checked.{Checked}
 use Rattle.analysis.specs.declared.Checked.the-variants.{InRange, Refused}
+use Rattle.analysis.specs.CheckedCases.{numberOf, codeOf}
 use Rattle.analysis.specs.Register.{CODES, Status, live, retired, splitsOnly, unknown, statusOf, ifElse}
 
 -- the least and the greatest amount; 1 and 0, which leave no amount, where the code is not live
@@ -76,15 +77,10 @@ AtFault a code = inRange code (getD a code 0) ≡ false
 abbrev pub answerOf : ℕ → ℕ → Checked
 answerOf n code = ifElse (eqb n 0) InRange (Refused n (ifElse (eqb n 5) code 0))
 
--- the code that an answer carries
-abbrev pub codeOf : Checked → ℕ
-codeOf InRange = 0
-codeOf (Refused number code) = code
-
 -- the promise of the check: the answer is fixed but for the code of 5, and that is a code at fault
 pub record Checking (a : List ℕ) (r : Checked) : Type 0 where
   pub answer : r ≡ answerOf (refusalOf a) (codeOf r)
-  pub code : refusalOf a ≡ 5 → AtFault a (codeOf r)
+  pub code : numberOf r ≡ 5 → AtFault a (codeOf r)
 
 -- what a search for a code at fault finds: `r`, or CODES where there is none
 pub record Fault (a : List ℕ) (r : ℕ) : Type 0 where

@@ -1,13 +1,14 @@
 -- Worked examples (document 01, "Gases and their figures": run and compared). Assumes nothing.
 use mathlib.Core.Path.{_≡_, refl}
-use mathlib.Core.List.{List, [], _∷_}
-use Prim.Native.Nat.{ℕ}
-use Rattle.analysis.specs.Register.{statusOf}
+use mathlib.Core.List.{List, _∷_}
+use Prim.Native.Nat.{ℕ, _-_}
+use lib.ListN.{replicate}
+use Rattle.analysis.specs.Register.{CODES, statusOf}
 use Rattle.analysis.specs.Check.{inRange, totalFits, refusalOf}
 
 -- a gas of methane and ethane as given, and 10000 parts of propane, 1000 of each butane
 abbrev gas : ℕ → ℕ → List ℕ
-gas methane ethane = 0 ∷ methane ∷ ethane ∷ 10000 ∷ 1000 ∷ 1000 ∷ 0 ∷ 0 ∷ 0 ∷ 0 ∷ 0 ∷ 0 ∷ 0 ∷ 0 ∷ []
+gas methane ethane = 0 ∷ methane ∷ ethane ∷ 10000 ∷ 1000 ∷ 1000 ∷ replicate (CODES - 6) 0
 
 -- total 999899 is 6, 999900 and 1000100 pass, 1000101 is 6
 total-999899 : refusalOf (gas 967899 20000) ≡ 6

@@ -1,5 +1,6 @@
 pub mod Register
 pub mod Table
+pub mod CheckedCases
 pub mod Check
 pub mod Packed
 pub mod Ranges

@@ -1,5 +1,6 @@
--- What holds of an analysis that is not refused, for those who compute with one. Assumes nothing.
-use mathlib.Core.Path.{_≡_, refl}
+-- What the check's answer says of an analysis, and what holds of one that is not refused, for those who compute with it.
+-- Assumes nothing.
+use mathlib.Core.Path.{_≡_, refl, sym, ap, _∙_}
 use mathlib.Core.List.{List, [], _∷_}
 use mathlib.Core.Bool.{Bool, true, false, not}
 use Prim.Native.Nat.{ℕ, zero, suc, _+_, _≤_, _<_}
@@ -10,7 +11,21 @@ use lib.ListN.{length, getD, drop, drop-of-length-le}
 use lib.Seq.{drop-cons}
 use borrow.Author.Tests.{eqb-true, eqb-false, leb-true}
 use Rattle.analysis.specs.Register.{CODES, ifElse, statusOf}
-use Rattle.analysis.specs.Check.{leastOf, greatestOf, requiredOf, inRange, allInRange, totalOf, totalFits, refusalBy, refusalOf}
+use Rattle.analysis.specs.declared.Checked.{Checked}
+use Rattle.analysis.specs.declared.Checked.the-variants.{InRange, Refused}
+use Rattle.analysis.specs.CheckedCases.{numberOf, codeOf}
+use Rattle.analysis.specs.Check.{leastOf, greatestOf, requiredOf, inRange, allInRange, totalOf, totalFits, refusalBy, refusalOf, answerOf, Checking}
+
+-- the number of the check's answer is the analysis's
+pub answer-number : (n code : ℕ) → numberOf (answerOf n code) ≡ n
+answer-number n code = go (eqb n 0) refl
+  where
+    go : (t : Bool) → eqb n 0 ≡ t → numberOf (ifElse t InRange (Refused n (ifElse (eqb n 5) code 0))) ≡ n
+    go true e = sym (eqb-true n 0 e)
+    go false e = refl
+
+pub checked-number : (a : List ℕ) (r : Checked) → Checking a r → numberOf r ≡ refusalOf a
+checked-number a r h = ap numberOf (h .answer) ∙ answer-number (refusalOf a) (codeOf r)
 
 -- the sum of the amounts from code k on
 pub total-go : (k : ℕ) (a : List ℕ) → k < length a → totalOf (drop k a) ≡ getD a k 0 + totalOf (drop (k + 1) a)
@@ -116,6 +131,8 @@ pub record WithinRanges (a : List ℕ) : Type 0 where
   pub carbon-dioxide-greatest : getD a 11 0 ≤ 100000
   pub nitrogen-greatest : getD a 12 0 ≤ 150000
   pub retired-thirteen : getD a 13 0 ≡ 0
+  pub splits-fourteen : getD a 14 0 ≡ 0
+  pub unknown-fifteen : getD a 15 0 ≡ 0
   pub total-least : 999900 ≤ totalOf a
   pub total-greatest : totalOf a ≤ 1000100
 
@@ -123,9 +140,9 @@ module _ (a : List ℕ) (l : length a ≡ CODES) where
   -- the total is the sum over the codes
   pub total-sum : totalOf a
       ≡ getD a 0 0 + getD a 1 0 + getD a 2 0 + getD a 3 0 + getD a 4 0 + getD a 5 0 + getD a 6 0 + getD a 7 0 + getD a 8 0
-      + getD a 9 0 + getD a 10 0 + getD a 11 0 + getD a 12 0 + getD a 13 0
+      + getD a 9 0 + getD a 10 0 + getD a 11 0 + getD a 12 0 + getD a 13 0 + getD a 14 0 + getD a 15 0
   total-sum =
-      omega (arith, total-go 0 a (omega arith), total-go 1 a (omega arith), total-go 2 a (omega arith), total-go 3 a (omega arith), total-go 4 a (omega arith), total-go 5 a (omega arith), total-go 6 a (omega arith), total-go 7 a (omega arith), total-go 8 a (omega arith), total-go 9 a (omega arith), total-go 10 a (omega arith), total-go 11 a (omega arith), total-go 12 a (omega arith), total-go 13 a (omega arith), total-end 14 a (omega arith))
+      omega (arith, total-go 0 a (omega arith), total-go 1 a (omega arith), total-go 2 a (omega arith), total-go 3 a (omega arith), total-go 4 a (omega arith), total-go 5 a (omega arith), total-go 6 a (omega arith), total-go 7 a (omega arith), total-go 8 a (omega arith), total-go 9 a (omega arith), total-go 10 a (omega arith), total-go 11 a (omega arith), total-go 12 a (omega arith), total-go 13 a (omega arith), total-go 14 a (omega arith), total-go 15 a (omega arith), total-end CODES a (omega arith))
 
   module _ (h : refusalOf a ≡ 0) where
     at-most : (k : ℕ) → k < CODES → getD a k 0 ≤ greatestOf k
@@ -158,6 +175,8 @@ module _ (a : List ℕ) (l : length a ≡ CODES) where
           carbon-dioxide-greatest = at-most 11 (omega arith);
           nitrogen-greatest = at-most 12 (omega arith);
           retired-thirteen = let z = at-most 13 (omega arith) in omega arith;
+          splits-fourteen = let z = at-most 14 (omega arith) in omega arith;
+          unknown-fifteen = let z = at-most 15 (omega arith) in omega arith;
           total-least = passed-least a h;
           total-greatest = passed-greatest a h;
         }

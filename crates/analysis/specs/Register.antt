@@ -54,9 +54,9 @@ register =
     entry 14 splitsOnly ∷
     []
 
--- the indices of an analysis: its codes are below 14
+-- the indices of an analysis: room for every code below 16. What is not live, or no key at all, has no legal amount.
 abbrev pub CODES : ℕ
-CODES = 14
+CODES = 16
 
 abbrev pub ifElse {ℓ} : {A : Type ℓ} → Bool → A → A → A
 ifElse true a b = a

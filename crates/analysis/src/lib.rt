@@ -5,10 +5,11 @@ ghost use Prim.Native.Nat.{_+_, _<_, _≤_};
 ghost use lib.Dec.{eqb};
 ghost use Rattle.analysis.specs.Register.{CODES, ifElse};
 ghost use Rattle.analysis.specs.Packed.{rangeOf};
-ghost use Rattle.analysis.specs.Check.{inRange, totalFits, refusalBy, refusalOf, answerOf, codeOf, AtFault};
+ghost use Rattle.analysis.specs.CheckedCases.{numberOf, codeOf};
+ghost use Rattle.analysis.specs.Check.{inRange, totalFits, refusalBy, refusalOf, answerOf, AtFault};
 
-// Indices of an analysis: the codes 1 to 13, and 0, which is no code.
-pub const CODES: usize = 14;
+// Indices of an analysis: room for every code below 16. At 0, 9 and 13 to 15 no amount is legal.
+pub const CODES: usize = 16;
 
 // The amount in parts of code k stands at index k, 0 where it is absent.
 pub struct Analysis {
@@ -40,6 +41,8 @@ const RANGES: [u64; CODES] = [
     100000 * ABOVE + 50,
     150000 * ABOVE + 50,
     1,
+    1,
+    1,
 ];
 
 // The code where its amount is out of its range, else the code at fault so far. 0 is in range where the code may be absent:
@@ -54,7 +57,7 @@ fn fault_at(code: usize, amount: u32, range: u64, fault: usize) -> usize
     if fits { fault } else { code }
 }
 
-// One amount more: 14 of them stay far below the greatest u64.
+// One amount more: CODES of them stay far below the greatest u64.
 fn plus(sum: u64, amount: u32) -> u64
     requires { ⌜ sum < 1000000000000 ⌝ }
     ensures { λ r. ⌜ (r ≡ sum + amount) × (r ≤ sum + 4294967295) ⌝ }
@@ -100,7 +103,7 @@ fn answer(fault: usize, sum: u64) -> Checked
 // lowest code at fault, CODES where there is none, and the total.
 pub fn check(a: Analysis) -> Checked
     ensures { λ r. ⌜ r ≡ answerOf (refusalOf (a .amounts)) (codeOf r) ⌝ }
-    ensures { λ r. ⌜ (refusalOf (a .amounts) ≡ 5 → AtFault (a .amounts) (codeOf r)) ⌝ }
+    ensures { λ r. ⌜ (numberOf r ≡ 5 → AtFault (a .amounts) (codeOf r)) ⌝ }
 {
     let amounts = a.amounts;
     let ranges = RANGES;

@@ -1,14 +1,14 @@
 -- From the check's answer to the answer of simplification. Assumes nothing.
 use Prim.Native.Nat.{ℕ}
-use mathlib.Core.Path.{_≡_, refl, sym, _∙_, subst}
+use mathlib.Core.Path.{_≡_, refl, sym, ap, _∙_, subst}
 use mathlib.Core.List.{List}
 use mathlib.Core.Bool.{Bool, true, false}
-use native.Mathlib.Omega.{arith}
 use lib.Dec.{eqb}
 use lib.ListN.{replicate}
-use borrow.Author.Tests.{eqb-true, eq-eqb}
-use Rattle.analysis.specs.Register.{ifElse}
-use Rattle.analysis.specs.Check.{refusalOf, answerOf, codeOf, Checking}
+use borrow.Author.Tests.{eq-eqb}
+use Rattle.analysis.specs.CheckedCases.{numberOf, codeOf}
+use Rattle.analysis.specs.Check.{refusalOf, answerOf, Checking}
+use Rattle.analysis.specs.Ranges.{checked-number}
 use Rattle.analysis.specs.declared.Checked.{Checked}
 use Rattle.analysis.specs.declared.Checked.the-variants.{InRange, Refused}
 use Rattle.mixture.specs.Simplification.{COMPONENTS, simplifiedOf}
@@ -16,14 +16,7 @@ use Rattle.mixture.specs.Inert.{inertFirst}
 use Rattle.mixture.specs.Answers.{mixtureOf, inertN1}
 
 pub refusal-none : (a : List ℕ) (r : Checked) → Checking a r → r ≡ InRange → refusalOf a ≡ 0
-refusal-none a r h e = go (refusalOf a) (codeOf r) (eqb (refusalOf a) 0) refl (sym (h .answer) ∙ e)
-  where
-    go : (n code : ℕ) (b : Bool) → eqb n 0 ≡ b → answerOf n code ≡ InRange → n ≡ 0
-    go n code true q f = eqb-true n 0 q
-    go n code false q f =
-        let z : Refused n (ifElse (eqb n 5) code 0) ≡ InRange = rw q at f in
-        let y : _≡_ {A = ℕ} 0 1 = cc in
-        absurd (omega arith)
+refusal-none a r h e = sym (checked-number a r h) ∙ ap numberOf e
 
 pub refusal-some : (a : List ℕ) (r : Checked) (number code : ℕ) → Checking a r → r ≡ Refused number code → eqb (refusalOf a) 0 ≡ false
 refusal-some a r number code h e = go (refusalOf a) (codeOf r) (eqb (refusalOf a) 0) refl (sym (h .answer) ∙ e)

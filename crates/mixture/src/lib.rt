@@ -10,7 +10,8 @@ ghost use Rattle.analysis.specs.Check.{totalOf};
 ghost use Rattle.mixture.specs.Scaling.{WHOLE, quotientOf, remainderOf, greatestPlace, distributed, scaledOf};
 ghost use Rattle.mixture.specs.Simplification.{COMPONENTS, butaneOf, tenthsOf, tenthsTotal, simplifiedOf};
 ghost use Rattle.mixture.specs.Limits.{LIMIT, Limited};
-ghost use Rattle.analysis.specs.Check.{refusalOf, answerOf, codeOf, AtFault};
+ghost use Rattle.analysis.specs.CheckedCases.{numberOf, codeOf};
+ghost use Rattle.analysis.specs.Check.{refusalOf, answerOf, AtFault};
 ghost use Rattle.mixture.specs.Answers.{mixtureOf, inertN1};
 ghost use Rattle.mixture.specs.Inert.{halvesUp, methaneShare, inertFirst};
 ghost use Rattle.mixture.specs.Factor.{factorOf};
@@ -41,7 +42,7 @@ pub struct Simplified {
 // enter.
 pub fn simplify(a: Analysis) -> Simplified
     ensures { λ r. ⌜ r .answer ≡ answerOf (refusalOf (a .amounts)) (codeOf (r .answer)) ⌝ }
-    ensures { λ r. ⌜ (refusalOf (a .amounts) ≡ 5 → AtFault (a .amounts) (codeOf (r .answer))) ⌝ }
+    ensures { λ r. ⌜ (numberOf (r .answer) ≡ 5 → AtFault (a .amounts) (codeOf (r .answer))) ⌝ }
     ensures { λ r. ⌜ r .mixture .amounts ≡ mixtureOf (a .amounts) ⌝ }
     ensures { λ r. ⌜ r .inert ≡ inertN1 (a .amounts) ⌝ }
 {

@@ -11,10 +11,11 @@ use lib.Signed.{mag}
 use mir.Syntax.{w64}
 use mir.Val.{toZ, ofZ}
 use lib.ListN.{length, replicate}
-use borrow.Author.Tests.{eq-eqb, eqb-true}
+use borrow.Author.Tests.{eq-eqb}
 use Rattle.integer.specs.Ring.{mag-le}
-use Rattle.analysis.specs.Register.{ifElse}
-use Rattle.analysis.specs.Check as check
+use Rattle.analysis.specs.Register.{CODES, ifElse}
+use Rattle.analysis.specs.CheckedCases as check
+use Rattle.analysis.specs.Ranges.{checked-number}
 use Rattle.analysis.specs.Check.{refusalOf, AtFault, Checking}
 use Rattle.analysis.specs.declared.Checked.{Checked}
 use Rattle.analysis.specs.declared.Checked.the-variants as checked
@@ -29,6 +30,7 @@ use Rattle.split.specs.Refused.{differ}
 use Rattle.split.specs.Split.{RECORDS, cellsOf, numberAt}
 use Rattle.split.specs.Rating.{spreadOf, ratingOf}
 use Rattle.split.specs.Fits.{Fit}
+use Rattle.split.specs.AnswerCases.{numberOf, codeOf}
 use Rattle.split.specs.Rated.{IsRated, fit-rated}
 use Rattle.split.specs.Proposed.{Proposal, answerOf, answer-proposed}
 use Rattle.split.specs.Search.{LEVEL}
@@ -39,7 +41,7 @@ use Rattle.split.specs.declared.Answer.the-variants.{Rated, Refused}
 use Rattle.split.specs.declared.Search.the-variants.{Balanced, Unbalanced}
 use Rattle.split.specs.declared.Found.{Found}
 use Rattle.rating.specs.Records.{fitsOf}
-use Rattle.rating.specs.Rate.{LIMIT, ROUNDS, mixOf, systemsFor, countFor, splitBy, splitAnswer, outcome, recordsOf, foundBy, foundOutcome, searched, searchOutcome, numberOf, codeOf}
+use Rattle.rating.specs.Rate.{LIMIT, ROUNDS, mixOf, systemsFor, countFor, splitBy, splitAnswer, outcome, recordsOf, foundBy, foundOutcome, searched, searchOutcome}
 use Rattle.split.specs.Accuracy.{fit-few}
 use Rattle.split.specs.PutBack.{balance-fit}
 use Rattle.split.specs.Size.{rating-small}
@@ -63,11 +65,7 @@ pub record TurnedAway (a : List ℕ) (number code : ℕ) : Type 0 where
 
 module _ (a : List ℕ) (x : Checked) (h : Checking a x) where
   pub in-range : x ≡ checked.InRange → refusalOf a ≡ 0
-  in-range e = go (eqb (refusalOf a) 0) refl (h .answer)
-    where
-      go : (b : Bool) → eqb (refusalOf a) 0 ≡ b → x ≡ ifElse b checked.InRange (checked.Refused (refusalOf a) (ifElse (eqb (refusalOf a) 5) (check.codeOf x) 0)) → refusalOf a ≡ 0
-      go true q r = eqb-true (refusalOf a) 0 q
-      go false q r = absurd (differ (isIn x) (ap isIn e) (ap isIn r))
+  in-range e = sym (checked-number a x h) ∙ ap check.numberOf e
 
   pub turned-away : (number code : ℕ) → x ≡ checked.Refused number code → TurnedAway a number code
   turned-away number code e = go (eqb (refusalOf a) 0) refl (h .answer)
@@ -91,7 +89,7 @@ module _ (a : List ℕ) (x : Checked) (h : Checking a x) where
           record {
             some = q;
             same = by (eqb (refusalOf a) 5) refl n c;
-            fault = λ z. rw (eq-eqb number 5 z) (subst (AtFault a) carried (h .code (sym n ∙ z)));
+            fault = λ z. rw (eq-eqb number 5 z) (subst (AtFault a) carried (h .code (ap check.numberOf e ∙ z)));
           }
 
 pub split-away : (a : List ℕ) (p : Split) (number code : ℕ) → TurnedAway a number code → Refused number code ≡ splitAnswer a p (codeOf (Refused number code))
@@ -108,7 +106,7 @@ search-away a allowance number code t =
 
 -- ---- an analysis in range
 
-module _ (a : List ℕ) (long : length a ≡ 14) (passed : refusalOf a ≡ 0) where
+module _ (a : List ℕ) (long : length a ≡ CODES) (passed : refusalOf a ≡ 0) where
   mixture-in : mixtureOf a ≡ simplifiedOf a
   mixture-in = ap (λ (n : ℕ). ifElse (eqb n 0) (simplifiedOf a) (replicate 4 0)) passed
 

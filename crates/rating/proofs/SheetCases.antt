@@ -1,6 +1,6 @@
 -- What the rating of a sheet meets. Assumes nothing.
 use mathlib.Core.Path.{_≡_, refl, sym, ap, _∙_, subst}
-use mathlib.Core.Bool.{Bool, true, false}
+use mathlib.Core.Bool.{Bool, true, false, cond}
 use mathlib.Core.Logic.{inl, inr}
 use mathlib.Core.List.{List}
 use Prim.Native.Nat.{ℕ}
@@ -11,26 +11,31 @@ use borrow.Author.Tests.{ne-eqb}
 use Rattle.analysis.specs.Register.{ifElse}
 use Rattle.analysis.specs.Check.{refusalOf}
 use Rattle.sheet.specs.Split.{noSplit}
-use Rattle.sheet.specs.Read as read
+use Rattle.sheet.specs.ReadingCases as read
 use Rattle.sheet.specs.Read.{readOf, ReadAs, FaultIn}
-use Rattle.sheet.specs.Coded.{carriedOf, refused-answer, carried-code, read-as-is, read-as-read}
+use Rattle.sheet.specs.Coded.{refused-answer, carried-code, read-as-is, read-as-read}
 use Rattle.sheet.specs.declared.Reading.{Reading}
 use Rattle.sheet.specs.declared.Reading.the-variants as reading
 use Rattle.sheet.specs.declared.Sheet.{Sheet}
+use Rattle.split.specs.AnswerCases.{numberOf, codeOf}
 use Rattle.split.specs.declared.Answer.{Answer}
 use Rattle.split.specs.declared.Answer.the-variants.{Rated, Refused}
-use Rattle.rating.specs.Rate.{splitAnswer, outcome, searchOutcome, readBy, sheetOutcome, numberOf, codeOf}
+use Rattle.rating.specs.Rate.{splitAnswer, outcome, searchOutcome, readBy, sheetOutcome}
 use Rattle.rating.specs.Sheets.{RatedOr, split-ends, search-ends, read-passed, split-wider, search-wider, not-five}
 use Rattle.rating.specs.declared.Outcome.{Outcome}
 
 -- ---- a refused sheet
 
+choice : (b : Bool) (x : ℕ) → cond b x 0 ≡ ifElse b x 0
+choice true x = refl
+choice false x = refl
+
 module _ (s : List ℕ) (r : Sheet) (h : ReadAs s r) (number place code : ℕ) (e : r .answer ≡ reading.Refused number place code) where
   abbrev carried : ℕ
-  carried = carriedOf number place code
+  carried = read.placeOf (reading.Refused number place code)
 
   same-code : codeOf (Refused number carried) ≡ code
-  same-code = carried-code s r h number place code e
+  same-code = choice (eqb number 5) carried ∙ carried-code s r h number place code e
 
   pub sheet-refused : outcome (Refused number carried) noSplit ≡ sheetOutcome s (codeOf (Refused number carried))
   unfolding sheetOutcome
@@ -84,7 +89,7 @@ module _ (s : List ℕ) (r : Sheet) (h : ReadAs s r) (e : r .answer ≡ reading.
 -- ---- the same of a call's result
 
 pub sheet-refused-is : (s : List ℕ) (r : Sheet) → ReadAs s r → (number place code : ℕ) → r .answer ≡ reading.Refused number place code
-    → (at : ℕ) (o : Outcome) → at ≡ carriedOf number place code → o ≡ outcome (Refused number at) noSplit
+    → (at : ℕ) (o : Outcome) → at ≡ read.placeOf (reading.Refused number place code) → o ≡ outcome (Refused number at) noSplit
     → (o ≡ sheetOutcome s (codeOf (o .answer))) × (numberOf (o .answer) ≡ 5 → FaultIn (getD s 0 0) s (codeOf (o .answer)))
 sheet-refused-is s r h number place code e at o c q =
     subst (λ (x : Outcome). (x ≡ sheetOutcome s (codeOf (x .answer))) × (numberOf (x .answer) ≡ 5 → FaultIn (getD s 0 0) s (codeOf (x .answer))))

@@ -8,7 +8,7 @@ use lib.Dec.{eqb}
 use lib.IntN.{ℤ}
 use lib.ListN.{getD, length}
 use borrow.Author.Tests.{eq-eqb, eqb-true}
-use Rattle.analysis.specs.Register.{ifElse}
+use Rattle.analysis.specs.Register.{CODES, ifElse}
 use Rattle.analysis.specs.Check.{refusalOf}
 use Rattle.sheet.specs.Split.{noSplit}
 use Rattle.sheet.specs.declared.Split.{Split}
@@ -101,14 +101,14 @@ search-rated a allowance code w s r is = go (eqb (refusalOf a) 0) (searched a al
     go false x e f h = absurd (subst IsRated (sym h) tt)
 
 -- what a balance is: a split that re-sums, with no system empty, and its spread within the limit
-pub balance : (a : List ℕ) → length a ≡ 14 → refusalOf a ≡ 0 → (allowance s r : ℕ) → searched a allowance .search ≡ Balanced s r
+pub balance : (a : List ℕ) → length a ≡ CODES → refusalOf a ≡ 0 → (allowance s r : ℕ) → searched a allowance .search ≡ Balanced s r
     → Balance (mixOf a) (systemsFor a) (countFor a) LIMIT (min allowance ROUNDS) (searched a allowance .cells) s r
 balance a long passed allowance s r is =
     let u = find-search (mixOf a) (systemsFor a) (countFor a) LEVEL LIMIT (min allowance ROUNDS) (input-fits (mixOf a) (systemsFor a) (countFor a) LEVEL (input a long passed)) in
     rw u (find-balanced (mixOf a) (systemsFor a) (countFor a) LIMIT LEVEL (min allowance ROUNDS) s r (ap (λ (f : Found). f .search) (sym u) ∙ is))
 
 -- the found split, put back
-pub found-back : (a : List ℕ) → length a ≡ 14 → (allowance code code′ : ℕ) (w : ℤ) (s r : ℕ) → searchOutcome a allowance code .answer ≡ Rated w s r
+pub found-back : (a : List ℕ) → length a ≡ CODES → (allowance code code′ : ℕ) (w : ℤ) (s r : ℕ) → searchOutcome a allowance code .answer ≡ Rated w s r
     → splitAnswer a (searchOutcome a allowance code .split) code′ ≡ Rated w s 0
 found-back a long allowance code code′ w s r is =
     let (passed, x, e, f) = search-rated a allowance code w s r is in

@@ -17,6 +17,7 @@ use native.Mathlib.Omega.{arith}
 use lib.IntN.{ℤ}
 use lib.ListN.{length}
 use Rattle.integer.specs.Fraction.{Within}
+use Rattle.analysis.specs.Register.{CODES}
 use Rattle.analysis.specs.Check.{refusalOf}
 use Rattle.sheet.specs.Read.{readOf}
 use Rattle.sheet.specs.declared.Split.{Split}
@@ -68,20 +69,20 @@ rated-with a passed xs code f =
     ∙ fit-rated LIMIT (systemsFor a) (countFor a) (mixOf a) (cellsIn a (proposal a xs)) (inertFirst a) f
 
 -- (2) a found split, put back, gets the same rating and the same spread
-pub put-back : (a : List ℕ) → length a ≡ 14 → (allowance code code′ : ℕ) (w : ℤ) (s r : ℕ)
+pub put-back : (a : List ℕ) → length a ≡ CODES → (allowance code code′ : ℕ) (w : ℤ) (s r : ℕ)
     → searchOutcome a allowance code .answer ≡ Rated w s r
     → splitAnswer a (searchOutcome a allowance code .split) code′ ≡ Rated w s 0
 put-back a long allowance code code′ w s r is = found-back a long allowance code code′ w s r is
 
 -- (3) each rating, of a proposed split and of a found one, is less than 40 units from the exact fraction
-pub proposed-within : (a : List ℕ) → length a ≡ 14 → (p : Split) (code : ℕ) (w : ℤ) (s r : ℕ)
+pub proposed-within : (a : List ℕ) → length a ≡ CODES → (p : Split) (code : ℕ) (w : ℤ) (s r : ℕ)
     → splitAnswer a p code ≡ Rated w s r → Within w (exactRating (systemsFor a) (countFor a) (cellsIn a p) (inertFirst a)) 40
 proposed-within a long p code w s r is =
     let (passed, e) = split-rated a p code w s r is in
     rated-within (systemsFor a) (countFor a) (mixOf a) (cellsIn a p) (chosen a) LIMIT (inertFirst a) w s r e
     (omega (arith, million a long passed)) (inert-million a long passed)
 
-pub found-within : (a : List ℕ) → length a ≡ 14 → (allowance code : ℕ) (w : ℤ) (s r : ℕ)
+pub found-within : (a : List ℕ) → length a ≡ CODES → (allowance code : ℕ) (w : ℤ) (s r : ℕ)
     → searchOutcome a allowance code .answer ≡ Rated w s r
     → Within w (exactRating (systemsFor a) (countFor a) (cellsIn a (searchOutcome a allowance code .split)) (inertFirst a)) 40
 found-within a long allowance code w s r is =

@@ -6,6 +6,7 @@ use Prim.Native.Nat.{ℕ, _≤_, _<_, min}
 use native.Mathlib.Omega.{arith}
 use lib.IntN.{ℤ, natAbs}
 use lib.ListN.{length}
+use Rattle.analysis.specs.Register.{CODES}
 use Rattle.analysis.specs.Check.{refusalOf}
 use Rattle.sheet.specs.declared.Split.{Split}
 use Rattle.mixture.specs.Inert.{inertFirst}
@@ -21,7 +22,7 @@ use Rattle.rating.specs.Ready.{chosen, million, input}
 use Rattle.rating.specs.Answers.{split-rated, search-rated, found-back}
 
 -- a larger allowance finds the same
-same-found : (a : List ℕ) → length a ≡ 14 → refusalOf a ≡ 0 → (few many : ℕ) → few ≤ many → (s r : ℕ)
+same-found : (a : List ℕ) → length a ≡ CODES → refusalOf a ≡ 0 → (few many : ℕ) → few ≤ many → (s r : ℕ)
     → searched a few .search ≡ Balanced s r → searched a many ≡ searched a few
 same-found a long passed few many le s r is =
     let fits = input-fits (mixOf a) (systemsFor a) (countFor a) LEVEL (input a long passed) in
@@ -29,7 +30,7 @@ same-found a long passed few many le s r is =
     let v = find-search (mixOf a) (systemsFor a) (countFor a) LEVEL LIMIT (min many ROUNDS) fits in
     v ∙ find-larger (mixOf a) (systemsFor a) (countFor a) LIMIT LEVEL (min few ROUNDS) (min many ROUNDS) (omega arith) s r (ap (λ (f : Found). f .search) (sym u) ∙ is) ∙ sym u
 
-pub larger-allowance : (a : List ℕ) → length a ≡ 14 → (few many code : ℕ) → few ≤ many → (w : ℤ) (s r : ℕ)
+pub larger-allowance : (a : List ℕ) → length a ≡ CODES → (few many code : ℕ) → few ≤ many → (w : ℤ) (s r : ℕ)
     → searchOutcome a few code .answer ≡ Rated w s r → searchOutcome a many code ≡ searchOutcome a few code
 unfolding searchOutcome
 larger-allowance a long few many code le w s r is =
@@ -38,7 +39,7 @@ larger-allowance a long few many code le w s r is =
     rw (passed, same)
 
 -- below 2^53
-pub proposed-small : (a : List ℕ) → length a ≡ 14 → (p : Split) (code : ℕ) (w : ℤ) (s r : ℕ) → splitAnswer a p code ≡ Rated w s r
+pub proposed-small : (a : List ℕ) → length a ≡ CODES → (p : Split) (code : ℕ) (w : ℤ) (s r : ℕ) → splitAnswer a p code ≡ Rated w s r
     → (natAbs w < 9007199254740992) × (s < 9007199254740992)
 proposed-small a long p code w s r is =
     let (passed, e) = split-rated a p code w s r is in
@@ -47,7 +48,7 @@ proposed-small a long p code w s r is =
       rated-spread-small (systemsFor a) (countFor a) (mixOf a) cells (chosen a) LIMIT (inertFirst a) w s r e,
     )
 
-pub found-small : (a : List ℕ) → length a ≡ 14 → (allowance code : ℕ) (w : ℤ) (s r : ℕ) → searchOutcome a allowance code .answer ≡ Rated w s r
+pub found-small : (a : List ℕ) → length a ≡ CODES → (allowance code : ℕ) (w : ℤ) (s r : ℕ) → searchOutcome a allowance code .answer ≡ Rated w s r
     → (natAbs w < 9007199254740992) × (s < 9007199254740992)
 found-small a long allowance code w s r is =
     proposed-small a long (searchOutcome a allowance code .split) code w s 0 (found-back a long allowance code code w s r is)

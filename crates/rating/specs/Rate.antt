@@ -7,6 +7,7 @@ use Rattle.analysis.specs.Register.{ifElse}
 use Rattle.analysis.specs.Check.{refusalOf}
 use Rattle.sheet.specs.Split.{noSplit}
 use Rattle.sheet.specs.Read.{readOf}
+use Rattle.sheet.specs.ReadingCases as read
 use Rattle.sheet.specs.declared.Split.{Split}
 use Rattle.sheet.specs.declared.Reading.{Reading}
 use Rattle.sheet.specs.declared.Reading.the-variants as reading
@@ -17,6 +18,7 @@ use Rattle.split.specs.Split.{cellsOf, amountsOf}
 use Rattle.split.specs.Rating.{ratingOf, proposedOf}
 use Rattle.split.specs.Start.{startOf}
 use Rattle.split.specs.Search.{LEVEL, searchOf}
+use Rattle.split.specs.SearchCases as search
 use Rattle.split.specs.declared.Answer.{Answer}
 use Rattle.split.specs.declared.Answer.the-variants.{Rated, Refused}
 use Rattle.split.specs.declared.Search.{Search}
@@ -68,10 +70,10 @@ recordsOf ch k a = record { count = 3 * k; systems = systemsOf ch k; codes = cod
 abbrev pub outcome : Answer → Split → Outcome
 outcome answer split = record { answer = answer; split = split }
 
--- what the search came to: a rating with its split, or 11 and no split
+-- what the search came to: a rating with its split, or its refusal and no split
 abbrev pub foundBy : List ℕ → ℕ → ℕ → List ℕ → Search → Outcome
 foundBy ch k n1 a (Balanced spread rounds) = outcome (Rated (ratingOf ch k a n1) spread rounds) (recordsOf ch k a)
-foundBy ch k n1 a Unbalanced = outcome (Refused 11 0) noSplit
+foundBy ch k n1 a Unbalanced = outcome (Refused (search.numberOf Unbalanced) 0) noSplit
 
 unfoldable pub foundOutcome : List ℕ → ℕ → ℕ → Found → Outcome
 foundOutcome ch k n1 f = foundBy ch k n1 (f .cells) (f .search)
@@ -89,21 +91,11 @@ searchOutcome a allowance code =
 
 -- ---- a sheet: its refusal, else its split, else the search with the most rounds
 
--- a refusal carries the code at fault with 5, else the record's place
 abbrev pub readBy : Reading → List ℕ → Split → ℕ → Outcome
-readBy (reading.Refused number place code′) a p code = outcome (Refused number (ifElse (eqb number 5) code′ place)) noSplit
+readBy (reading.Refused number place code′) a p code =
+    outcome (Refused number (read.placeOf (reading.Refused number place code′))) noSplit
 readBy reading.Read a p code =
     ifElse (eqb (p .count) 0) (searchOutcome a ROUNDS code) (outcome (splitAnswer a p code) noSplit)
 
 unfoldable pub sheetOutcome : List ℕ → ℕ → Outcome
 sheetOutcome s code = readBy (readOf s code .answer) (readOf s code .analysis .amounts) (readOf s code .split) code
-
--- ---- what an answer carries: a refusal's number, 0 of a rating; the code at fault of 5, else 0
-
-abbrev pub numberOf : Answer → ℕ
-numberOf (Rated rating spread rounds) = 0
-numberOf (Refused number place) = number
-
-abbrev pub codeOf : Answer → ℕ
-codeOf (Rated rating spread rounds) = 0
-codeOf (Refused number place) = ifElse (eqb number 5) place 0

@@ -6,7 +6,7 @@ use Prim.Native.Nat.{ℕ}
 use lib.Dec.{eqb}
 use lib.IntN.{ℤ}
 use lib.ListN.{length}
-use Rattle.analysis.specs.Register.{ifElse}
+use Rattle.analysis.specs.Register.{CODES, ifElse}
 use Rattle.sheet.specs.Split.{noSplit}
 use Rattle.sheet.specs.Read.{readOf}
 use Rattle.sheet.specs.declared.Split.{Split}
@@ -26,7 +26,7 @@ abbrev pub splitRated : List ℕ → ℕ → Split
 splitRated s code = ifElse (eqb (readOf s code .split .count) 0) (sheetOutcome s code .split) (readOf s code .split)
 
 pub sheet-split : (s : List ℕ) (code : ℕ) (w : ℤ) (d r : ℕ) → sheetOutcome s code .answer ≡ Rated w d r
-    → (length (analysisIn s code) ≡ 14) × (splitAnswer (analysisIn s code) (splitRated s code) code ≡ Rated w d 0)
+    → (length (analysisIn s code) ≡ CODES) × (splitAnswer (analysisIn s code) (splitRated s code) code ≡ Rated w d 0)
 unfolding sheetOutcome
 sheet-split s code w d r is = go (readOf s code .answer) refl is
   where
@@ -36,12 +36,12 @@ sheet-split s code w d r is = go (readOf s code .answer) refl is
     p : Split
     p = readOf s code .split
 
-    by : (length a ≡ 14) → (t : Bool) → ifElse t (searchOutcome a ROUNDS code) (outcome (splitAnswer a p code) noSplit) .answer ≡ Rated w d r
+    by : (length a ≡ CODES) → (t : Bool) → ifElse t (searchOutcome a ROUNDS code) (outcome (splitAnswer a p code) noSplit) .answer ≡ Rated w d r
         → splitAnswer a (ifElse t (ifElse t (searchOutcome a ROUNDS code) (outcome (splitAnswer a p code) noSplit) .split) p) code ≡ Rated w d 0
     by long true e = found-back a long ROUNDS code code w d r e
     by long false e = rated-zero a p code w d r e
 
     go : (x : Reading) → readOf s code .answer ≡ x → readBy x a p code .answer ≡ Rated w d r
-        → (length a ≡ 14) × (splitAnswer a (ifElse (eqb (p .count) 0) (readBy x a p code .split) p) code ≡ Rated w d 0)
+        → (length a ≡ CODES) × (splitAnswer a (ifElse (eqb (p .count) 0) (readBy x a p code .split) p) code ≡ Rated w d 0)
     go reading.Read e h = (read-long s code e, by (read-long s code e) (eqb (p .count) 0) h)
     go (reading.Refused number place code′) e h = absurd (subst IsRated (sym h) tt)

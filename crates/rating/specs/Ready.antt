@@ -7,7 +7,7 @@ use mathlib.Core.Logic.{inr}
 use Prim.Native.Nat.{ℕ, zero, suc, _+_, _*_, _≤_, _<_}
 use native.Mathlib.Omega.{arith}
 use lib.ListN.{getD, length}
-use Rattle.analysis.specs.Register.{statusOf}
+use Rattle.analysis.specs.Register.{CODES, statusOf}
 use Rattle.analysis.specs.Check.{refusalOf}
 use Rattle.analysis.specs.Check as analysis
 use Rattle.analysis.specs.Ranges.{within-ranges}
@@ -75,7 +75,7 @@ three-parts t x (suc (suc (suc s))) p h k n = omega arith
 
 -- ---- of an analysis in range
 
-module _ (a : List ℕ) (long : length a ≡ 14) (passed : refusalOf a ≡ 0) where
+module _ (a : List ℕ) (long : length a ≡ CODES) (passed : refusalOf a ≡ 0) where
   pub million : totalOf (mixOf a) ≡ 1000000
   million = sym (total-is (simplifiedOf a) (simplified-length a)) ∙ simplified-total a (tenths-positive a long passed)
 

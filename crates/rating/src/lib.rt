@@ -12,11 +12,13 @@ ghost use Rattle.analysis.specs.Register.{ifElse};
 ghost use Rattle.analysis.specs.Check.{refusalOf, AtFault};
 ghost use Rattle.sheet.specs.Split.{noSplit};
 ghost use Rattle.sheet.specs.Read.{FaultIn};
+ghost use Rattle.sheet.specs.ReadingCases.{placeOf};
 ghost use Rattle.split.specs.Split.{RECORDS};
+ghost use Rattle.split.specs.AnswerCases.{numberOf, codeOf};
 ghost use Rattle.split.specs.Rating.{ratingOf};
 ghost use Rattle.split.specs.Proposed.{Proposal};
 ghost use Rattle.split.specs.Fits.{Fit};
-ghost use Rattle.rating.specs.Rate.{LIMIT, ROUNDS, splitBy, splitAnswer, outcome, foundOutcome, searchOutcome, sheetOutcome, numberOf, codeOf};
+ghost use Rattle.rating.specs.Rate.{LIMIT, ROUNDS, splitBy, splitAnswer, outcome, foundOutcome, searchOutcome, sheetOutcome};
 ghost use Rattle.rating.specs.Given.{FoundFit};
 use analysis::Analysis;
 use analysis::Checked;
@@ -194,7 +196,7 @@ fn at_most(allowance: u32) -> u32
 
 // The code at fault with 5, else the record's place.
 fn carried(number: u32, place: u32, code: u32) -> u32
-    ensures { λ r. ⌜ r ≡ ifElse (eqb number 5) code place ⌝ }
+    ensures { λ r. ⌜ r ≡ placeOf (Reading.Refused number place code) ⌝ }
 {
     if number == 5 { code } else { place }
 }

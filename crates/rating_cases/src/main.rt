@@ -21,6 +21,8 @@ const GAS: [u32; CODES] = [
     528,
     8715,
     0,
+    0,
+    0,
 ];
 
 // Much butane: its systems are 2, 7 and 8.
@@ -38,6 +40,8 @@ const BUTANE: [u32; CODES] = [
     15000,
     0,
     150000,
+    0,
+    0,
     0,
 ];
 
@@ -57,6 +61,8 @@ const TOTAL_999899: [u32; CODES] = [
     528,
     8715,
     0,
+    0,
+    0,
 ];
 
 const TOTAL_999900: [u32; CODES] = [
@@ -74,11 +80,47 @@ const TOTAL_999900: [u32; CODES] = [
     528,
     8715,
     0,
+    0,
+    0,
 ];
 
-const ETHANE_99: [u32; CODES] = [0, 969901, 99, 20000, 5000, 5000, 0, 0, 0, 0, 0, 0, 0, 0];
+const ETHANE_99: [u32; CODES] = [
+    0,
+    969901,
+    99,
+    20000,
+    5000,
+    5000,
+    0,
+    0,
+    0,
+    0,
+    0,
+    0,
+    0,
+    0,
+    0,
+    0,
+];
 
-const ETHANE_100: [u32; CODES] = [0, 969900, 100, 20000, 5000, 5000, 0, 0, 0, 0, 0, 0, 0, 0];
+const ETHANE_100: [u32; CODES] = [
+    0,
+    969900,
+    100,
+    20000,
+    5000,
+    5000,
+    0,
+    0,
+    0,
+    0,
+    0,
+    0,
+    0,
+    0,
+    0,
+    0,
+];
 
 // Gases whose ethane and propane have equal remainders: one part is given out; after butane; after methane.
 const REMAINDERS_ONE_PART: [u32; CODES] = [
@@ -94,6 +136,8 @@ const REMAINDERS_ONE_PART: [u32; CODES] = [
     0,
     0,
     65502,
+    0,
+    0,
     0,
     0,
 ];
@@ -113,6 +157,8 @@ const REMAINDERS_AFTER_BUTANE: [u32; CODES] = [
     92243,
     0,
     0,
+    0,
+    0,
 ];
 
 const REMAINDERS_AFTER_METHANE: [u32; CODES] = [
@@ -128,6 +174,8 @@ const REMAINDERS_AFTER_METHANE: [u32; CODES] = [
     0,
     0,
     75782,
+    0,
+    0,
     0,
     0,
 ];

@@ -11,7 +11,8 @@ use borrow.Author.Tests.{eq-eqb, ne-eqb, le-leb, lt-leb, eqb-true, eqb-false}
 use Rattle.analysis.specs.Register.{Status, live, retired, splitsOnly, unknown, statusOf, ifElse}
 use Rattle.analysis.specs.declared.Checked.{Checked}
 use Rattle.analysis.specs.declared.Checked.the-variants as checked
-use Rattle.analysis.specs.Check.{refusalOf, answerOf, codeOf, Checking, AtFault}
+use Rattle.analysis.specs.CheckedCases.{codeOf}
+use Rattle.analysis.specs.Check.{refusalOf, answerOf, Checking, AtFault}
 use Rattle.section.specs.declared.Section.{Section}
 use Rattle.section.specs.declared.Section.the-variants as found
 use Rattle.section.specs.Section.{sectionAt}
@@ -71,7 +72,7 @@ module _ (n : ℕ) (s : List ℕ) where
       let q : amountsRefusal n s ≡ refusalOf a = amounts-checked n s (z .none h) ∙ ap refusalOf (sym e) in
       record {
         answer = k .answer ∙ ap (λ (x : ℕ). answerOf x (codeOf r)) (sym q);
-        code = λ f. inr (subst (λ (x : List ℕ). AtFault x (codeOf r)) e (k .code (sym q ∙ f)));
+        code = λ f. inr (subst (λ (x : List ℕ). AtFault x (codeOf r)) e (k .code f));
       }
 
 -- ---- the whole
@@ -130,7 +131,7 @@ module _ (s : List ℕ) (r : Sheet) where
           let k : refusedSheet (Refused number 0 code) ≡ readOf s code =
           ap (λ (x : ℕ). refusedSheet (Refused x 0 code)) (q .1) ∙ ap (λ (x : ℕ). refusedSheet (Refused (amountsRefusal n s) 0 x)) (q .2) ∙ sym g in
           subst (λ (x : Sheet). ReadAs s x) (sym e)
-          (record { sheet = k; code = λ f. subst (λ (x : ℕ). FaultIn x s code) (sectioned s h .components) (a .code (sym (q .1) ∙ f)) })
+          (record { sheet = k; code = λ f. subst (λ (x : ℕ). FaultIn x s code) (sectioned s h .components) (a .code f) })
 
       pub answer-amounts : (number code : ℕ) (y : Checked) → AmountsRefused n s y → y ≡ checked.Refused number code → r ≡ refusedSheet (Refused number 0 code) → ReadAs s r
       answer-amounts number code y a f e = refused-answer number code (subst (λ (x : Checked). AmountsRefused n s x) f a) e

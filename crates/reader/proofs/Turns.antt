@@ -26,7 +26,7 @@ abbrev tested : ℕ → ℕ
 tested c = ifElse (eqb c 0 || ltb 13 c) 2 (ifElse (eqb c 9 || eqb c 13) 3 0)
 
 abbrev places : List ℕ
-places = 0 ∷ 0 ∷ 0 ∷ 0 ∷ 0 ∷ 0 ∷ 0 ∷ 0 ∷ 0 ∷ 0 ∷ 0 ∷ 0 ∷ 0 ∷ 0 ∷ []
+places = replicate CODES 0
 
 or-true : (b : Bool) → (b || true) ≡ true
 or-true true = refl

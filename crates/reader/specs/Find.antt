@@ -4,7 +4,8 @@ use mathlib.Core.List.{List}
 use mathlib.Core.Bool.{true, false}
 use Prim.Native.Nat.{ℕ, _+_, _*_, _<_, _≤_}
 use Rattle.analysis.specs.declared.Checked.{Checked}
-use Rattle.analysis.specs.Check.{answerOf, codeOf}
+use Rattle.analysis.specs.CheckedCases.{numberOf, codeOf}
+use Rattle.analysis.specs.Check.{answerOf}
 use Rattle.sheet.specs.Bytes.{numberAt}
 use Rattle.sheet.specs.Components.{COMPONENT_BYTES, zeroListed}
 use Rattle.sheet.specs.Read.{amountsRefusal, FaultIn}
@@ -19,4 +20,4 @@ pub record ZeroRecord (n : ℕ) (s : List ℕ) (r : ℕ) : Type 0 where
 -- the answer to the amounts: fixed but for the code of 5, and that is a code at fault
 pub record AmountsRefused (n : ℕ) (s : List ℕ) (r : Checked) : Type 0 where
   pub answer : r ≡ answerOf (amountsRefusal n s) (codeOf r)
-  pub code : amountsRefusal n s ≡ 5 → FaultIn n s (codeOf r)
+  pub code : numberOf r ≡ 5 → FaultIn n s (codeOf r)

@@ -9,8 +9,9 @@ use Rattle.sheet.specs.declared.Split.{Split}
 use Rattle.sheet.specs.declared.Written.{Written}
 use Rattle.sheet.specs.declared.Written.the-variants.{Length}
 use Rattle.sheet.specs.Split.{trimmed}
-use Rattle.sheet.specs.Read.{codeOf, readOf, ReadAs}
-use Rattle.sheet.specs.Write as w
+use Rattle.sheet.specs.ReadingCases.{codeOf}
+use Rattle.sheet.specs.WrittenCases as w
+use Rattle.sheet.specs.Read.{readOf, ReadAs}
 use Rattle.sheet.specs.Write.{writtenOf, leftOf, WrittenAs}
 use Rattle.sheet.specs.Forth.{Bytes}
 use Rattle.sheet.specs.RoundTrip.{Sized, Unused, asRead, read-written, read-written-same, written-read}

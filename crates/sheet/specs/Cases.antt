@@ -21,7 +21,7 @@ use Rattle.sheet.specs.declared.Split.{Split}
 use Rattle.sheet.specs.declared.Written.the-variants as w
 use Rattle.sheet.specs.Components.{COMPONENT_BYTES, refusalBy, codeRefusal, codesReading, countOf, componentBytes, zeroListed}
 use Rattle.sheet.specs.Bytes.{bytesOf}
-use Rattle.sheet.specs.Split.{RECORDS, RECORD_BYTES, allowedCount, recordBytes, splitBytes}
+use Rattle.sheet.specs.Split.{RECORDS, LONGEST_SPLIT, RECORD_BYTES, allowedCount, recordBytes, splitBytes}
 use Rattle.sheet.specs.Sheet.{LISTED, sheetOf, withSplit, withComponents, sectionsOf}
 use Rattle.sheet.specs.Read.{amountsOf, amountsRefusal, refusedSheet, contentOf, withAnswer, afterCodes, readBy, readOf}
 use Rattle.sheet.specs.Write.{writeRefusal, writtenOf, leftOf}
@@ -33,14 +33,18 @@ pub both-true : (t x : Bool) → ifElse t x false ≡ true → (t ≡ true) × (
 both-true true x h = (refl, h)
 both-true false x h = (h, cc)
 
--- a count that is allowed is 0 or 9
-pub allowed-most : (m : ℕ) → allowedCount m ≡ true → m ≤ RECORDS
+-- a count that is allowed is 0 or the most
+pub allowed-most : (m : ℕ) → allowedCount m ≡ true → m ≤ LONGEST_SPLIT
 unfolding allowedCount
 allowed-most m h = go (eqb m 0) refl h
   where
-    go : (t : Bool) → eqb m 0 ≡ t → ifElse t true (eqb m 9) ≡ true → m ≤ RECORDS
+    go : (t : Bool) → eqb m 0 ≡ t → ifElse t true (eqb m LONGEST_SPLIT) ≡ true → m ≤ LONGEST_SPLIT
     go true e h = let z = eqb-true m 0 e in omega arith
-    go false e h = let z = eqb-true m 9 h in omega arith
+    go false e h = let z = eqb-true m LONGEST_SPLIT h in omega arith
+
+-- and there is room for its records
+pub allowed-room : (m : ℕ) → allowedCount m ≡ true → m ≤ RECORDS
+allowed-room m h = omega (arith, allowed-most m h)
 
 -- ---- sections
 
@@ -189,7 +193,7 @@ module _ (n : ℕ) (s : List ℕ) where
 
 -- ---- codes
 
--- a code beyond the register is unknown, and one from 14 on refused 2
+-- a code beyond the register is unknown, and one beyond an analysis refused 2
 above : (c : ℕ) → 15 ≤ c → statusIn register c ≡ unknown
 above c h =
     rw (
@@ -211,14 +215,7 @@ above c h =
 
 pub status-above : (c : ℕ) → CODES ≤ c → refusalBy (statusOf c) ≡ 2
 unfolding statusOf
-status-above c h = go (eqb c 14) refl
-  where
-    go : (t : Bool) → eqb c 14 ≡ t → refusalBy (statusIn register c) ≡ 2
-    go true e = ap (λ (k : ℕ). refusalBy (statusIn register k)) (eqb-true c 14 e)
-    go false e =
-        let n = eqb-false c 14 e in
-        let k : 15 ≤ c = omega (arith, n) in
-        ap refusalBy (above c k)
+status-above c h = let k : 15 ≤ c = omega arith in ap refusalBy (above c k)
 
 -- the cases of a code's refusal
 module _ (c p : ℕ) where

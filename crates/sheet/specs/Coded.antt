@@ -9,7 +9,8 @@ use lib.ListN.{getD}
 use Rattle.analysis.specs.Register.{ifElse}
 use Rattle.sheet.specs.Components.{COMPONENT_BYTES, codeRefusal, codesReading}
 use Rattle.sheet.specs.Sheet.{sectionsOf}
-use Rattle.sheet.specs.Read.{readBy, readOf, ReadAs, amountsRefusal, byAmounts, contentOf, withAnswer, afterCodes, codeOf}
+use Rattle.sheet.specs.Read.{readBy, readOf, ReadAs, amountsRefusal, byAmounts, contentOf, withAnswer, afterCodes}
+use Rattle.sheet.specs.ReadingCases.{placeOf, codeOf}
 use Rattle.sheet.specs.declared.Sections.{Sections}
 use Rattle.sheet.specs.declared.Sections.the-variants.{Torn, Both}
 use Rattle.sheet.specs.declared.Reading.{Reading}
@@ -53,16 +54,13 @@ read-coded s code = go (sectionsOf s)
     go (Both n m first) =
         with-coded (afterCodes (codesReading n s 1 0 0) n s code) (contentOf n m first s) refl (after-coded (codesReading n s 1 0 0) n s code (codes-coded n s 1 0 0))
 
--- ---- what a refused sheet carries as one figure, and the code in it
-
-abbrev pub carriedOf : ℕ → ℕ → ℕ → ℕ
-carriedOf number place code = ifElse (eqb number 5) code place
+-- ---- the code in the place that a refused sheet carries
 
 module _ (s : List ℕ) (r : Sheet) (h : ReadAs s r) (number place code : ℕ) (e : r .answer ≡ Refused number place code) where
   pub refused-answer : readOf s code .answer ≡ Refused number place code
   refused-answer = ap (λ (x : Sheet). x .answer) (sym (h .sheet ∙ ap (readOf s) (ap codeOf e))) ∙ e
 
-  pub carried-code : ifElse (eqb number 5) (carriedOf number place code) 0 ≡ code
+  pub carried-code : ifElse (eqb number 5) (placeOf (Refused number place code)) 0 ≡ code
   carried-code = go (eqb number 5) refl (subst Coded refused-answer (read-coded s code))
     where
       go : (t : Bool) → eqb number 5 ≡ t → Coded (Refused number place code) → ifElse t (ifElse t code place) 0 ≡ code

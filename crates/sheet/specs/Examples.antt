@@ -1,14 +1,14 @@
 -- Worked examples (document 01, "Writer, display, controller", "Gases and their figures"). Assumes nothing.
 use mathlib.Core.Path.{_≡_, refl}
 use mathlib.Core.List.{List, [], _∷_}
-use Prim.Native.Nat.{ℕ}
+use Prim.Native.Nat.{ℕ, _-_}
 use lib.ListN.{length, replicate}
-use Rattle.analysis.specs.Register.{statusOf}
+use Rattle.analysis.specs.Register.{CODES, statusOf}
 use Rattle.analysis.specs.Check.{inRange, totalFits, refusalOf}
 use Rattle.section.specs.Section.{endAt, tornOr, sectionAt}
 use Rattle.sheet.specs.declared.Reading.the-variants.{Refused}
 use Rattle.sheet.specs.declared.Split.{Split}
-use Rattle.sheet.specs.Split.{RECORDS, allowedCount, noSplit}
+use Rattle.sheet.specs.Split.{RECORDS, LONGEST_SPLIT, allowedCount, noSplit}
 use Rattle.sheet.specs.Components.{codeRefusal}
 use Rattle.sheet.specs.Sheet.{SHEET, sheetOf, sectionsOf}
 use Rattle.sheet.specs.Read.{amountsRefusal, refusedSheet, readBy, readOf}
@@ -31,7 +31,7 @@ byte-over = refl
 
 -- the gas of 001 Table A.1, by code
 abbrev pub tableA1 : List ℕ
-tableA1 = 0 ∷ 970797 ∷ 16658 ∷ 2417 ∷ 346 ∷ 245 ∷ 11 ∷ 73 ∷ 125 ∷ 0 ∷ 84 ∷ 528 ∷ 8715 ∷ 0 ∷ []
+tableA1 = 0 ∷ 970797 ∷ 16658 ∷ 2417 ∷ 346 ∷ 245 ∷ 11 ∷ 73 ∷ 125 ∷ 0 ∷ 84 ∷ 528 ∷ 8715 ∷ replicate (CODES - 13) 0
 
 -- it is in range, and its sheet has 57 bytes
 table-a1-passes : refusalOf tableA1 ≡ 0
@@ -49,7 +49,7 @@ longest = refl
 abbrev nineRecords : Split
 nineRecords =
     record {
-      count = RECORDS;
+      count = LONGEST_SPLIT;
       systems = replicate RECORDS 0;
       codes = replicate RECORDS 0;
       amounts = replicate RECORDS 0;

@@ -1,3 +1,5 @@
+pub mod ReadingCases
+pub mod WrittenCases
 pub mod Bytes
 pub mod Components
 pub mod Split

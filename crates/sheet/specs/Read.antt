@@ -12,6 +12,7 @@ use Rattle.sheet.specs.declared.Reading.the-variants.{Read, Refused}
 use Rattle.sheet.specs.declared.Sections.{Sections}
 use Rattle.sheet.specs.declared.Sections.the-variants.{Torn, Both}
 use Rattle.sheet.specs.declared.Sheet.{Sheet}
+use Rattle.sheet.specs.ReadingCases.{numberOf, codeOf}
 use Rattle.sheet.specs.Bytes.{numberAt}
 use Rattle.sheet.specs.Components.{COMPONENT_BYTES, codesReading, amountsFrom, zeroListed}
 use Rattle.sheet.specs.Split.{splitAt, noSplit}
@@ -54,15 +55,6 @@ readBy (Both n m first) s code = withAnswer (afterCodes (codesReading n s 1 0 0)
 -- the sheet that the bytes `s` are; a refusal 5 carries `code`
 unfoldable pub readOf : List ℕ → ℕ → Sheet
 readOf s code = readBy (sectionsOf s) s code
-
--- the number of an answer, and the code that it carries
-abbrev pub numberOf : Reading → ℕ
-numberOf Read = 0
-numberOf (Refused number place code) = number
-
-abbrev pub codeOf : Reading → ℕ
-codeOf Read = 0
-codeOf (Refused number place code) = code
 
 -- `code` stands in one of `n` component records with the amount 0
 pub record ListedAtZero (n : ℕ) (s : List ℕ) (code : ℕ) : Type 0 where

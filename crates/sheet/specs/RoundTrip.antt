@@ -22,7 +22,7 @@ use Rattle.sheet.specs.Split.{RECORDS, allowedCount, splitBytes, byteCol
 use Rattle.sheet.specs.Sheet.{LISTED, SHEET, sheetOf, sectionsOf}
 use Rattle.sheet.specs.Read.{amountsOf, amountsRefusal, contentOf, readOf}
 use Rattle.sheet.specs.Write.{writeRefusal, writtenOf, leftOf}
-use Rattle.sheet.specs.Cases.{both-true, allowed-most, Sectioned, sectioned, sections-both, read-good, Whole, read-whole, amounts-checked, amounts-back, length-components, length-sheet, number-none, number-back, written-length, written-back, left-sheet}
+use Rattle.sheet.specs.Cases.{both-true, allowed-most, allowed-room, Sectioned, sectioned, sections-both, read-good, Whole, read-whole, amounts-checked, amounts-back, length-components, length-sheet, number-none, number-back, written-length, written-back, left-sheet}
 use Rattle.sheet.specs.Back.{unlisted, codes-back, zero-back, amounts-filled, rest-here, cut, cut-take, split-back}
 use Rattle.sheet.specs.Forth.{Bytes, one, Filled, filled-forth, split-forth, column-forth, length-byte-column, length-amount-column}
 
@@ -183,7 +183,7 @@ module _ (xs : List ℕ) (p : Split) (k : Sized (0 ∷ xs) p) (allowed : allowed
   split : splitAt (p .count) s (2 + 5 * n) ≡ trimmed p
   unfolding s n
   split =
-      let h = allowed-most (p .count) allowed in
+      let h = allowed-room (p .count) allowed in
       let b = split-back (p .systems) (p .codes) (p .amounts) (p .count) 0 s (2 + 5 * n) split-at in
       let x = ap padded (b .0 ∙ column-cut (p .count) (p .systems) h (k .systems)) in
       let y = ap padded (b .1 ∙ column-cut (p .count) (p .codes) h (k .codes)) in
@@ -230,7 +230,7 @@ pub read-written-same : (a : List ℕ) (p : Split) → Sized a p → Unused p �
 read-written-same a p k u b n code code' h =
     let g = written-back a p (length b) code h in
     let c = number-back a p (length b) (g .0) in
-    read-written a p k b n code code' h ∙ ap (λ (q : Split). asRead a q) (trimmed-same a p k (allowed-most (p .count) (c .0)) u)
+    read-written a p k b n code code' h ∙ ap (λ (q : Split). asRead a q) (trimmed-same a p k (allowed-room (p .count) (c .0)) u)
 
 -- ---- writing what was read
 

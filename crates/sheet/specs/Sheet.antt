@@ -11,7 +11,7 @@ use Rattle.sheet.specs.declared.Split.{Split}
 use Rattle.sheet.specs.declared.Sections.{Sections}
 use Rattle.sheet.specs.declared.Sections.the-variants.{Torn, Both}
 use Rattle.sheet.specs.Components.{COMPONENT_BYTES, countOf, componentBytes}
-use Rattle.sheet.specs.Split.{RECORDS, RECORD_BYTES, allowedCount, splitBytes}
+use Rattle.sheet.specs.Split.{LONGEST_SPLIT, RECORD_BYTES, allowedCount, splitBytes}
 
 -- the bytes of an analysis and a split: a count and its records, twice
 abbrev pub sheetOf : List ℕ → Split → List ℕ
@@ -23,7 +23,7 @@ LISTED = 11
 
 -- the bytes of the longest sheet (document 01, "The register and the sheet"): two counts and the most records of each
 abbrev pub SHEET : ℕ
-SHEET = 2 + COMPONENT_BYTES * LISTED + RECORD_BYTES * RECORDS
+SHEET = 2 + COMPONENT_BYTES * LISTED + RECORD_BYTES * LONGEST_SPLIT
 
 -- section by section: the components at the start, the split's records where those end, and nothing after the split; torn
 -- where a count is not allowed, bytes are missing or bytes are left over

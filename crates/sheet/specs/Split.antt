@@ -9,9 +9,13 @@ use Rattle.analysis.specs.Register.{ifElse}
 use Rattle.sheet.specs.declared.Split.{Split}
 use Rattle.sheet.specs.Bytes.{numberAt, bytesOf}
 
--- the places of a column
+-- the places of a column: room for a split's records
 abbrev pub RECORDS : ℕ
-RECORDS = 9
+RECORDS = 21
+
+-- the most records of a sheet's split (document 01, "The register and the sheet")
+abbrev pub LONGEST_SPLIT : ℕ
+LONGEST_SPLIT = 9
 
 -- the bytes of a record (document 01, "The register and the sheet"): system, code and amount
 abbrev pub RECORD_BYTES : ℕ
@@ -19,7 +23,7 @@ RECORD_BYTES = 6
 
 -- the counts of a split section: none or nine
 unfoldable pub allowedCount : ℕ → Bool
-allowedCount m = ifElse (eqb m 0) true (eqb m 9)
+allowedCount m = ifElse (eqb m 0) true (eqb m LONGEST_SPLIT)
 
 -- the bytes of `m` records from the place `i` on, of the columns `xs`, `ys` and `zs`
 abbrev pub recordBytes : ℕ → ℕ → List ℕ → List ℕ → List ℕ → List ℕ

@@ -9,6 +9,7 @@ use Rattle.analysis.specs.Check.{refusalOf, AtFault}
 use Rattle.sheet.specs.declared.Split.{Split}
 use Rattle.sheet.specs.declared.Written.{Written}
 use Rattle.sheet.specs.declared.Written.the-variants.{Length, Refused}
+use Rattle.sheet.specs.WrittenCases.{numberOf, codeOf}
 use Rattle.sheet.specs.Split.{allowedCount}
 use Rattle.sheet.specs.Sheet.{sheetOf}
 
@@ -30,15 +31,6 @@ writtenOf a p size code =
 -- the buffer after it: the sheet's bytes at its start and the rest as it was, or all of it as it was
 unfoldable pub leftOf : List ℕ → Split → List ℕ → List ℕ
 leftOf a p b = ifElse (eqb (writeRefusal a p (length b)) 0) (sheetOf a p ++ drop (length (sheetOf a p)) b) b
-
--- the number of an answer, and the code that it carries
-abbrev pub numberOf : Written → ℕ
-numberOf (Length n) = 0
-numberOf (Refused number code) = number
-
-abbrev pub codeOf : Written → ℕ
-codeOf (Length n) = 0
-codeOf (Refused number code) = code
 
 -- the promise of the writer: answer and buffer are fixed but for the code of 5, and that is a code at fault
 pub record WrittenAs (a : List ℕ) (p : Split) (b : List ℕ) (r : Written) (left : List ℕ) : Type 0 where

@@ -7,8 +7,11 @@ use analysis::Analysis;
 // The most components that a sheet lists.
 pub const LISTED: usize = 11;
 
-// The most records of a split.
-pub const RECORDS: usize = 9;
+// Room for a split's records.
+pub const RECORDS: usize = 21;
+
+// The most records of a sheet's split.
+pub const LONGEST_SPLIT: usize = 9;
 
 // The bytes of a component's record: code and amount.
 pub const COMPONENT_BYTES: usize = 5;
@@ -17,7 +20,7 @@ pub const COMPONENT_BYTES: usize = 5;
 pub const RECORD_BYTES: usize = 6;
 
 // The bytes of the longest sheet, 111: two counts and the most records of each section.
-pub const SHEET: usize = 2 + COMPONENT_BYTES * LISTED + RECORD_BYTES * RECORDS;
+pub const SHEET: usize = 2 + COMPONENT_BYTES * LISTED + RECORD_BYTES * LONGEST_SPLIT;
 
 // A split as records, in a sheet's order; a count of 0 is no split. Places from the count on are not used.
 pub struct Split {
@@ -63,5 +66,5 @@ pub fn allowed_count(count: usize) -> bool
     if count == 0 {
         return true;
     }
-    count == 9
+    count == LONGEST_SPLIT
 }

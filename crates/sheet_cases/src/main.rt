@@ -5,6 +5,7 @@ ghost use lib.ListN.{length};
 use analysis::Analysis;
 use analysis::CODES;
 use libc::STDOUT_FILENO;
+use sheet::LONGEST_SPLIT;
 use sheet::RECORDS;
 use sheet::Reading;
 use sheet::Split;
@@ -14,6 +15,9 @@ use sheet::Written;
 const LARGEST: usize = 112;
 
 const BEFORE: u8 = 165;
+
+// The amount that stands in a split's places that no record uses.
+const UNUSED: u32 = 2779096485;
 
 // How a writing went.
 const REFUSED_5: u8 = 0;
@@ -27,9 +31,9 @@ const WRITTEN: u8 = 3;
 const OTHER: u8 = 4;
 
 // Bytes of a case of `writings` before the sheet: the amounts, the split count, the records.
-const AMOUNT_BYTES: usize = 56;
+const AMOUNT_BYTES: usize = 64;
 
-const CASE_BYTES: usize = 111;
+const CASE_BYTES: usize = 119;
 
 // The code's bit among the codes at fault.
 const BITS: [u16; CODES] = [
@@ -47,6 +51,8 @@ const BITS: [u16; CODES] = [
     2048,
     4096,
     8192,
+    16384,
+    32768,
 ];
 
 fn put(text: &[u8]) {
@@ -244,7 +250,7 @@ fn pair(high: u8, low: u8) -> u16
 
 // The amounts at the start of a case.
 fn amounts_of(bytes: &[u8]) -> [u32; CODES]
-    requires { ⌜ 111 ≤ length (now bytes) ⌝ }
+    requires { ⌜ 119 ≤ length (now bytes) ⌝ }
 {
     let mut amounts = [0u32; CODES];
     let mut code: usize = 0;
@@ -256,15 +262,15 @@ fn amounts_of(bytes: &[u8]) -> [u32; CODES]
     amounts
 }
 
-// The split after them.
+// The split after them; the places that no record uses are filled as a buffer is.
 fn split_of(bytes: &[u8]) -> Split
-    requires { ⌜ 111 ≤ length (now bytes) ⌝ }
+    requires { ⌜ 119 ≤ length (now bytes) ⌝ }
 {
-    let mut systems = [0u8; RECORDS];
-    let mut codes = [0u8; RECORDS];
-    let mut amounts = [0u32; RECORDS];
+    let mut systems = [BEFORE; RECORDS];
+    let mut codes = [BEFORE; RECORDS];
+    let mut amounts = [UNUSED; RECORDS];
     let mut i: usize = 0;
-    while i < RECORDS {
+    while i < LONGEST_SPLIT {
         let at = AMOUNT_BYTES + 1 + i * 6;
         systems[i] = bytes[at];
         codes[i] = bytes[at + 1];

@@ -1,3 +1,5 @@
+pub mod AnswerCases
+pub mod SearchCases
 pub mod Fold
 pub mod Split
 pub mod Rating

@@ -20,11 +20,6 @@ abbrev pub IsRated : Answer → Type 0
 IsRated (Rated w s n) = Unit {0}
 IsRated (Refused n p) = ⊥
 
--- the number of a refusal; 0 of a rating
-abbrev pub refusalOf : Answer → ℕ
-refusalOf (Rated w s n) = 0
-refusalOf (Refused n p) = n
-
 -- ---- the answer by cases
 
 module _ (limit : ℕ) (ch : List ℕ) (k : ℕ) (mix a : List ℕ) (n1 : ℕ) where

@@ -15,7 +15,8 @@ use Rattle.split.specs.Rating.{spreadOf, ratingOf, resums, someEmpty, ve
 use Rattle.split.specs.Spread.{EveryTwo, spread-near, near-spread}
 use Rattle.split.specs.Exact.{NoneEmpty}
 use Rattle.split.specs.Fits.{Resums, resums-yes, yes-resums, empty-no, no-empty}
-use Rattle.split.specs.Rated.{IsRated, refusalOf, proposed-unsummed, proposed-empty, proposed-wide, fit-rated, rated-fit}
+use Rattle.split.specs.AnswerCases.{numberOf}
+use Rattle.split.specs.Rated.{IsRated, proposed-unsummed, proposed-empty, proposed-wide, fit-rated, rated-fit}
 use Rattle.split.specs.declared.Answer.the-variants.{Rated, Refused}
 
 fails : (b : Bool) {P : Type 0} → (b ≡ true → P) → (P → ⊥) → b ≡ false
@@ -32,21 +33,21 @@ differ b p q = let z : _≡_ {A = ℕ} 0 1 = cc in omega arith
 -- what each number says of the tests
 at-8 : (b e w : Bool) (x : ℤ) (y : ℕ) → verdict b e w (Rated x y 0) ≡ Refused 8 0 → b ≡ false
 at-8 false e w x y h = refl
-at-8 true true w x y h = absurd (omega (arith, ap refusalOf h))
-at-8 true false true x y h = absurd (omega (arith, ap refusalOf h))
-at-8 true false false x y h = absurd (omega (arith, ap refusalOf h))
+at-8 true true w x y h = absurd (omega (arith, ap numberOf h))
+at-8 true false true x y h = absurd (omega (arith, ap numberOf h))
+at-8 true false false x y h = absurd (omega (arith, ap numberOf h))
 
 at-9 : (b e w : Bool) (x : ℤ) (y : ℕ) → verdict b e w (Rated x y 0) ≡ Refused 9 0 → (b ≡ true) × (e ≡ true)
-at-9 false e w x y h = absurd (omega (arith, ap refusalOf h))
+at-9 false e w x y h = absurd (omega (arith, ap numberOf h))
 at-9 true true w x y h = (refl, refl)
-at-9 true false true x y h = absurd (omega (arith, ap refusalOf h))
-at-9 true false false x y h = absurd (omega (arith, ap refusalOf h))
+at-9 true false true x y h = absurd (omega (arith, ap numberOf h))
+at-9 true false false x y h = absurd (omega (arith, ap numberOf h))
 
 at-10 : (b e w : Bool) (x : ℤ) (y : ℕ) → verdict b e w (Rated x y 0) ≡ Refused 10 0 → (b ≡ true) × (e ≡ false) × (w ≡ true)
-at-10 false e w x y h = absurd (omega (arith, ap refusalOf h))
-at-10 true true w x y h = absurd (omega (arith, ap refusalOf h))
+at-10 false e w x y h = absurd (omega (arith, ap numberOf h))
+at-10 true true w x y h = absurd (omega (arith, ap numberOf h))
 at-10 true false true x y h = (refl, refl, refl)
-at-10 true false false x y h = absurd (omega (arith, ap refusalOf h))
+at-10 true false false x y h = absurd (omega (arith, ap numberOf h))
 
 module _ (limit : ℕ) (ch : List ℕ) (k : ℕ) (mix a : List ℕ) (n1 : ℕ) where
   abbrev wide : Bool

@@ -22,7 +22,7 @@ abbrev pub CELLS : ℕ
 CELLS = 32
 
 abbrev pub RECORDS : ℕ
-RECORDS = 9
+RECORDS = 21
 
 -- row s's amount of component c
 abbrev pub cellOf : List ℕ → ℕ → ℕ → ℕ

@@ -10,7 +10,9 @@ use Rattle.ternary.specs.Coefficients.{systems, placeIn, coeffOf}
 use Rattle.ternary.specs.Bound.{small}
 use Rattle.ternary.specs.Table.{inTable, Bounded}
 use Rattle.ternary.specs.Partial.{partialNumber}
-use Rattle.ternary.specs.Answer.{isSystem, tableOf, isMixture, partialOf, partial-is, partial-12}
+use Rattle.ternary.specs.Answer.{isSystem, tableOf, isMixture, refusalOf, partialOf, partial-refusal, partial-is, partial-12}
+use Rattle.ternary.specs.PartialCases.{numberOf}
+use Rattle.ternary.specs.declared.Partial.{Partial}
 use Rattle.ternary.specs.declared.Partial.the-variants.{Number, Refused}
 
 pub small-table : (s : ℕ) (t : List ℤ) → t ≡ tableOf s → Bounded t
@@ -40,6 +42,10 @@ module _ (s n1 n2 d : ℕ) (known : isSystem s ≡ true) (h : n1 + n2 ≤ d) whe
   sum-number z e k l =
       ap Number (e ∙ ap (λ (x : ℕ). worked n1 n2 x (rowsOf (coeffOf s))) (sym whole))
       ∙ sym (partial-is s n1 n2 (d - n1 - n2) known (omega (arith, whole)) (omega (arith, whole)))
+
+-- an answer that is so has this number
+pub with-number : (s n1 n2 n3 : ℕ) (r : Partial) → r ≡ partialOf s n1 n2 n3 → (r ≡ partialOf s n1 n2 n3) × (numberOf r ≡ refusalOf s (n1 + n2 + n3))
+with-number s n1 n2 n3 r e = (e, ap numberOf e ∙ partial-refusal s n1 n2 n3)
 
 -- and from there to the three amounts
 pub sum-of : (s n1 n2 n3 : ℕ) → partialOf s n1 n2 (n1 + n2 + n3 - n1 - n2) ≡ partialOf s n1 n2 n3

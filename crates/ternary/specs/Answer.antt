@@ -9,6 +9,7 @@ use lib.IntN.{ℤ}
 use lib.ListN.{getD}
 use Rattle.ternary.specs.declared.Partial.{Partial}
 use Rattle.ternary.specs.declared.Partial.the-variants.{Number, Refused}
+use Rattle.ternary.specs.PartialCases.{numberOf}
 use Rattle.ternary.specs.Coefficients.{tables, systems, placeIn}
 use Rattle.ternary.specs.Partial.{partialNumber}
 
@@ -29,11 +30,20 @@ tableOf system = getD tables (placeIn systems system) []
 abbrev pub isMixture : ℕ → Bool
 isMixture d = elim (ltb 0 d) [ true ↦ leb d 1000000 | false ↦ false ]
 
+-- the number of the refusal: 13, no such system; 12, the sum d is no mixture's; else 0
+abbrev pub refusalOf : ℕ → ℕ → ℕ
+refusalOf system d = cond (isSystem system) (cond (isMixture d) 0 12) 13
+
 -- 13: no such system; 12: no mixture; else the number
 unfoldable pub partialOf : ℕ → ℕ → ℕ → ℕ → Partial
 partialOf system n1 n2 n3 = cond (isSystem system) (cond (isMixture (n1 + n2 + n3)) (Number (partialNumber system n1 n2 n3)) (Refused 12)) (Refused 13)
 
 -- ---- each case
+
+numbered : (b m : Bool) (n : ℤ) → numberOf (cond b (cond m (Number n) (Refused 12)) (Refused 13)) ≡ cond b (cond m 0 12) 13
+numbered true true n = refl
+numbered true false n = refl
+numbered false m n = refl
 
 answered : (b m : Bool) (p : Partial) → b ≡ true → m ≡ true → cond b (cond m p (Refused 12)) (Refused 13) ≡ p
 answered true true p h k = refl
@@ -69,6 +79,11 @@ pub mixture-above : (d : ℕ) → 1000000 < d → isMixture d ≡ false
 mixture-above d h = beyond (ltb 0 d) (leb d 1000000) (λ t. N.not-le-of-lt h (leb→le d 1000000 t))
 
 module _ (system n1 n2 n3 : ℕ) where
+  -- the answer's number
+  pub partial-refusal : numberOf (partialOf system n1 n2 n3) ≡ refusalOf system (n1 + n2 + n3)
+  unfolding partialOf
+  partial-refusal = numbered (isSystem system) (isMixture (n1 + n2 + n3)) (partialNumber system n1 n2 n3)
+
   -- no system of that number: 13, whatever the amounts are
   pub partial-13 : isSystem system ≡ false → partialOf system n1 n2 n3 ≡ Refused 13
   unfolding partialOf

@@ -4,6 +4,7 @@ pub mod Error
 pub mod Size
 pub mod Bound
 pub mod Partial
+pub mod PartialCases
 pub mod Answer
 pub mod Precomputed
 pub mod Table

@@ -9,7 +9,8 @@ mod rule;
 ghost use mathlib.Core.Path.{_≡_};
 ghost use mathlib.Core.Bool.{true};
 ghost use Prim.Native.Nat.{_+_, _-_, _≤_};
-ghost use Rattle.ternary.specs.Answer.{isSystem, partialOf};
+ghost use Rattle.ternary.specs.PartialCases.{numberOf};
+ghost use Rattle.ternary.specs.Answer.{isSystem, refusalOf, partialOf};
 
 // The largest sum of amounts, in parts.
 const LIMIT: u64 = 1000000;
@@ -24,6 +25,7 @@ pub enum Partial {
 // Refused 12: the amounts add up to 0 or to more than 1000000.
 pub fn partial_number(system: u32, n1: u32, n2: u32, n3: u32) -> Partial
     ensures { λ r. ⌜ r ≡ partialOf system n1 n2 n3 ⌝ }
+    ensures { λ r. ⌜ numberOf r ≡ refusalOf system (n1 + n2 + n3) ⌝ }
 {
     if coefficients::is_system(system) {
         return of_sum(system, n1, n2, n1 as u64 + n2 as u64 + n3 as u64);

@@ -53,7 +53,7 @@ module _ (a : List ℕ) (p : Split) (size : ℕ) where
         let g = written-refused a p size code (refusalOf a) (number-check a p size h (q .0)) (q .0) in
         record {
           answer = sym (g ∙ ap (λ (x : ℕ). Refused (refusalOf a) x) (q .2) ∙ ap (λ (x : ℕ). Refused x code) (q .1));
-          code = λ f. k .code (q .1 ∙ f);
+          code = k .code;
         }
 
     pub answer-check : (number code : ℕ) (y : Checked) → Checking a y → y ≡ checked.Refused number code → Answered a p size (Refused number code)

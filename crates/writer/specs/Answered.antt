@@ -8,7 +8,8 @@ use Rattle.analysis.specs.Check.{AtFault}
 use Rattle.sheet.specs.declared.Split.{Split}
 use Rattle.sheet.specs.declared.Written.{Written}
 use Rattle.sheet.specs.declared.Written.the-variants.{Length, Refused}
-use Rattle.sheet.specs.Write.{writtenOf, numberOf, codeOf}
+use Rattle.sheet.specs.WrittenCases.{numberOf, codeOf}
+use Rattle.sheet.specs.Write.{writtenOf}
 
 -- fixed but for the code of 5, and that is a code at fault
 pub record Answered (a : List ℕ) (p : Split) (size : ℕ) (r : Written) : Type 0 where

@@ -11,7 +11,8 @@ ghost use Rattle.sheet.specs.Components.{COMPONENT_BYTES, countOf, componentByt
 ghost use Rattle.sheet.specs.Split.{RECORDS, RECORD_BYTES, splitBytes};
 ghost use Rattle.sheet.specs.Sheet.{sheetOf};
 ghost use Rattle.analysis.specs.Check.{AtFault};
-ghost use Rattle.sheet.specs.Write.{writtenOf, leftOf, numberOf, codeOf};
+ghost use Rattle.sheet.specs.WrittenCases.{numberOf, codeOf};
+ghost use Rattle.sheet.specs.Write.{writtenOf, leftOf};
 ghost use Rattle.writer.specs.Answered.{Answered, roomFor};
 use analysis::Analysis;
 use analysis::CODES;

@@ -16,7 +16,7 @@ abbrev μ-loop : tie.MeasureT-loop
 μ-loop amounts ranges fault₀ sum₀ code₀ fault sum code = code
 
 loop-holds : tie.Need-loop-holds Inv-loop μ-loop
-loop-holds c = let l : length (c .before .args .a .amounts) ≡ 14 = search needs in walk-none _ l
+loop-holds c = let l : length (c .before .args .a .amounts) ≡ CODES = search needs in walk-none _ l
 
 sub-code : tie.Need-sub-code Inv-loop μ-loop
 sub-code c = search needs

@@ -1,6 +1,7 @@
 -- `mixture::simplify` meets its contract. Assumes nothing.
 use mathlib.Core.Path.{_≡_, sym, _∙_}
 use lib.ListN.{length}
+use Rattle.analysis.specs.Register.{CODES}
 use Rattle.analysis.specs.Check.{Checking}
 use Rattle.mixture.specs.Bounds.{tenths-positive}
 use Rattle.mixture.proofs.Answered.{refusal-none, refusal-some, same-answer, mixture-in-range, inert-in-range, mixture-refused, inert-refused}
@@ -18,7 +19,7 @@ in-range-requires : tie.Need-in-range-requires
 in-range-requires c κs =
     let k = c .before .before .before in
     let a = k .before .before .args .a .amounts in
-    let l : length a ≡ 14 = search needs in
+    let l : length a ≡ CODES = search needs in
     tenths-positive a l (refusal-none a _ (record { answer = k .check .ensures .0; code = k .check .ensures .1 }) (c .before .enum-told .given .1))
 
 enum-known-answer : tie.Need-enum-known-answer

@@ -1,4 +1,5 @@
 -- `rating::rate_by_search` meets its contract. Assumes nothing.
+use Rattle.analysis.specs.Register.{CODES}
 use Rattle.rating.proofs.CallCases.{in-range, turned-away, search-away-is, given-proposal, found-fit, search-in, search-not-five}
 use mathlib.Core.Path.{_≡_}
 use lib.ListN.{length}
@@ -30,7 +31,7 @@ find-requires c κs = search needs
 found-outcome-requires : tie.Need-found-outcome-requires
 found-outcome-requires c κs = let b = c .before .before .before .before .before .before .before in
     let a = b .before .args .a .amounts in
-    let l : length a ≡ 14 = search needs in
+    let l : length a ≡ CODES = search needs in
     let s = b .simplify .ensures in
     let p = in-range _ _ (record { answer = s .0; code = s .1 .0 }) (c .before .before .before .enum-told .given .1) in (
       given-proposal a l p _ _ _ (s .1 .1 .0) (c .before .before .choose .ensures) (s .1 .1 .1),
@@ -44,7 +45,7 @@ returns c = let b = c .before .before .before .before .before .before in
 returns-2 : tie.Need-returns-2
 returns-2 c = let b = c .before .before .before .before .before .before .before .before in
     let a = b .before .args .a .amounts in
-    let l : length a ≡ 14 = search needs in
+    let l : length a ≡ CODES = search needs in
     let s = b .simplify .ensures in
     let p = in-range _ _ (record { answer = s .0; code = s .1 .0 }) (c .before .before .before .before .enum-told .given .1) in
     let e = search-in a l p _ _ _ (s .1 .1 .0) (c .before .before .before .choose .ensures) (s .1 .1 .1) (b .before .args .allowance) _ (c .before .before .at-most .ensures) _ (c .before .find .ensures) _ (c .found-outcome .ensures) in

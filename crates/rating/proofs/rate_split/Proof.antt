@@ -1,4 +1,5 @@
 -- `rating::rate_split` meets its contract. Assumes nothing.
+use Rattle.analysis.specs.Register.{CODES}
 use Rattle.rating.proofs.CallCases.{in-range, turned-away, split-away, given-proposal, given-room, split-in, split-not-five}
 use mathlib.Core.Path.{_≡_}
 use lib.ListN.{length}
@@ -20,7 +21,7 @@ choose-requires c κs = search needs
 
 split-by-requires : tie.Need-split-by-requires
 split-by-requires c κs = let a = c .before .before .before .before .before .before .args .a .amounts in
-    let l : length a ≡ 14 = search needs in
+    let l : length a ≡ CODES = search needs in
     let s = c .before .before .before .before .before .simplify .ensures in
     let p = in-range _ _ (record { answer = s .0; code = s .1 .0 }) (c .before .enum-told .given .1) in (
       given-proposal a l p _ _ _ (s .1 .1 .0) (c .choose .ensures) (s .1 .1 .1),
@@ -35,7 +36,7 @@ returns c = let s = c .before .before .before .before .before .simplify .ensures
 returns-2 : tie.Need-returns-2
 returns-2 c = let b = c .before .before .before .before .before .before in
     let a = b .before .args .a .amounts in
-    let l : length a ≡ 14 = search needs in
+    let l : length a ≡ CODES = search needs in
     let s = b .simplify .ensures in
     let p = in-range _ _ (record { answer = s .0; code = s .1 .0 }) (c .before .before .enum-told .given .1) in
     let e = split-in a l p _ _ _ (s .1 .1 .0) (c .before .choose .ensures) (s .1 .1 .1) _ _ (c .split-by .ensures) in

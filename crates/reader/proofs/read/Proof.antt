@@ -6,7 +6,7 @@ use Rattle.sheet.specs.declared.Reading.the-variants.{Read}
 use Rattle.sheet.specs.declared.Sections.the-variants.{Both}
 use Rattle.sheet.specs.Sheet.{sectionsOf}
 use Rattle.sheet.specs.Read.{refusedSheet}
-use Rattle.sheet.specs.Cases.{allowed-most, sectioned}
+use Rattle.sheet.specs.Cases.{allowed-room, sectioned}
 use Rattle.reader.proofs.Answers.{answer-torn, answer-codes, answer-amounts, answer-good}
 use borrow.Author.Needs.{needs}
 use Rattle.reader.proofs.read.Statement.{statement}
@@ -74,7 +74,7 @@ enum-told-4 c = search needs
 split-at-requires : tie.Need-split-at-requires
 split-at-requires c κs =
     let g = sectioned _ (both (c .before .before .before .before .before .before .before)) in
-    (allowed-most _ (g .allowed), omega (arith, g .size, g .begins))
+    (allowed-room _ (g .allowed), omega (arith, g .size, g .begins))
 
 returns-3 : tie.Need-returns-3
 returns-3 c =

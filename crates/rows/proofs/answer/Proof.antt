@@ -30,7 +30,7 @@ partial-number-requires : tie.Need-partial-number-requires
 partial-number-requires c κs = search needs
 
 returns-2 : tie.Need-returns-2
-returns-2 c = c .partial-number .ensures ∙ answer-is _ _ _ _ _ _ _ (c .before .before .before .before .wide .ensures) (c .before .before .before .amount .ensures) (c .before .before .amount2 .ensures) (c .before .amount3 .ensures) (sym (c .before .before .before .before .before .before .is-candidate .ensures) ∙ not-false _ (c .before .before .before .before .before .if1 .left))
+returns-2 c = c .partial-number .ensures .0 ∙ answer-is _ _ _ _ _ _ _ (c .before .before .before .before .wide .ensures) (c .before .before .before .amount .ensures) (c .before .before .amount2 .ensures) (c .before .amount3 .ensures) (sym (c .before .before .before .before .before .before .is-candidate .ensures) ∙ not-false _ (c .before .before .before .before .before .if1 .left))
 
 pub answer-spec : {M : Type 1} → statement M
 answer-spec =

@@ -1,14 +1,15 @@
 -- `sheet_cases::amounts_of` is safe and ends. Assumes nothing.
 use borrow.Author.Needs.{needs}
 use Prim.Native.Nat.{_≤_, _-_}
+use Rattle.analysis.specs.Register.{CODES}
 use Rattle.sheet_cases.proofs.amounts_of.Statement.{statement}
 use Rattle.sheet_cases.proofs.amounts_of.Tie as tie
 
 abbrev Inv-loop : tie.InvT-loop
-Inv-loop bytes amounts₀ code₀ amounts code = code ≤ 14
+Inv-loop bytes amounts₀ code₀ amounts code = code ≤ CODES
 
 abbrev μ-loop : tie.MeasureT-loop
-μ-loop bytes amounts₀ code₀ amounts code = 14 - code
+μ-loop bytes amounts₀ code₀ amounts code = CODES - code
 
 loop-holds : tie.Need-loop-holds Inv-loop μ-loop
 loop-holds c = search needs

@@ -1,14 +1,15 @@
 -- `sheet_cases::put_amounts` is safe and ends. Assumes nothing.
 use borrow.Author.Needs.{needs}
 use Prim.Native.Nat.{_≤_, _-_}
+use Rattle.analysis.specs.Register.{CODES}
 use Rattle.sheet_cases.proofs.put_amounts.Statement.{statement}
 use Rattle.sheet_cases.proofs.put_amounts.Tie as tie
 
 abbrev Inv-loop : tie.InvT-loop
-Inv-loop amounts code₀ code = code ≤ 14
+Inv-loop amounts code₀ code = code ≤ CODES
 
 abbrev μ-loop : tie.MeasureT-loop
-μ-loop amounts code₀ code = 14 - code
+μ-loop amounts code₀ code = CODES - code
 
 loop-holds : tie.Need-loop-holds Inv-loop μ-loop
 loop-holds c = search needs

@@ -1,14 +1,15 @@
 -- `sheet_cases::put_split` is safe and ends. Assumes nothing.
 use borrow.Author.Needs.{needs}
 use Prim.Native.Nat.{_≤_, _-_}
+use Rattle.sheet.specs.Split.{RECORDS}
 use Rattle.sheet_cases.proofs.put_split.Statement.{statement}
 use Rattle.sheet_cases.proofs.put_split.Tie as tie
 
 abbrev Inv-loop : tie.InvT-loop
-Inv-loop count systems codes amounts i₀ i = i ≤ 9
+Inv-loop count systems codes amounts i₀ i = i ≤ RECORDS
 
 abbrev μ-loop : tie.MeasureT-loop
-μ-loop count systems codes amounts i₀ i = 9 - i
+μ-loop count systems codes amounts i₀ i = RECORDS - i
 
 slice-aggregate-put : tie.Need-slice-aggregate-put Inv-loop μ-loop
 slice-aggregate-put c = search needs

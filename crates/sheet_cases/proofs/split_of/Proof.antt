@@ -1,14 +1,15 @@
 -- `sheet_cases::split_of` is safe and ends. Assumes nothing.
 use borrow.Author.Needs.{needs}
 use Prim.Native.Nat.{_≤_, _-_}
+use Rattle.sheet.specs.Split.{LONGEST_SPLIT}
 use Rattle.sheet_cases.proofs.split_of.Statement.{statement}
 use Rattle.sheet_cases.proofs.split_of.Tie as tie
 
 abbrev Inv-loop : tie.InvT-loop
-Inv-loop bytes systems₀ codes₀ amounts₀ i₀ systems codes amounts i = i ≤ 9
+Inv-loop bytes systems₀ codes₀ amounts₀ i₀ systems codes amounts i = i ≤ LONGEST_SPLIT
 
 abbrev μ-loop : tie.MeasureT-loop
-μ-loop bytes systems₀ codes₀ amounts₀ i₀ systems codes amounts i = 9 - i
+μ-loop bytes systems₀ codes₀ amounts₀ i₀ systems codes amounts i = LONGEST_SPLIT - i
 
 loop-holds : tie.Need-loop-holds Inv-loop μ-loop
 loop-holds c = search needs

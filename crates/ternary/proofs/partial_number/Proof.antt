@@ -3,7 +3,7 @@ use mathlib.Core.Path.{sym, _∙_}
 use native.Mathlib.Omega.{arith}
 use borrow.Author.Needs.{needs}
 use Rattle.ternary.specs.Answer.{partial-13}
-use Rattle.ternary.proofs.Tables.{sum-of}
+use Rattle.ternary.proofs.Tables.{sum-of, with-number}
 use Rattle.ternary.proofs.partial_number.Statement.{statement}
 use Rattle.ternary.proofs.partial_number.Tie as tie
 
@@ -22,12 +22,13 @@ of-sum-requires c κs = (sym (c .before .is-system .ensures) ∙ c .if1 .taken, 
 returns : tie.Need-returns
 returns c =
     let a = c .before .before .before .args in
-    c .of-sum .ensures ∙ sum-of (a .system) (a .n1) (a .n2) (a .n3)
+    with-number (a .system) (a .n1) (a .n2) (a .n3) _ (c .of-sum .ensures ∙ sum-of (a .system) (a .n1) (a .n2) (a .n3))
 
 returns-2 : tie.Need-returns-2
 returns-2 c =
     let a = c .before .before .args in
-    sym (partial-13 (a .system) (a .n1) (a .n2) (a .n3) (sym (c .before .is-system .ensures) ∙ c .if1 .left))
+    with-number (a .system) (a .n1) (a .n2) (a .n3) _
+    (sym (partial-13 (a .system) (a .n1) (a .n2) (a .n3) (sym (c .before .is-system .ensures) ∙ c .if1 .left)))
 
 pub partial-number-spec : {M : Type 1} → statement M
 partial-number-spec =

@@ -1,7 +1,7 @@
 -- `writer::answer` meets its contract. Assumes nothing.
 use mathlib.Core.Path.{refl, sym, _∙_}
 use borrow.Author.Tests.{not-true, not-false}
-use Rattle.sheet.specs.Cases.{allowed-most}
+use Rattle.sheet.specs.Cases.{allowed-room}
 use Rattle.writer.proofs.Answers.{answer-count, answer-check, answer-room}
 use borrow.Author.Needs.{needs}
 use Rattle.writer.proofs.answer.Statement.{statement}
@@ -26,7 +26,7 @@ enum-told : tie.Need-enum-told
 enum-told c = search needs
 
 length-in-requires : tie.Need-length-in-requires
-length-in-requires c κs = allowed-most _ (sym (c .before .before .before .before .before .allowed-count .ensures) ∙ not-false _ (c .before .before .before .before .if1 .left))
+length-in-requires c κs = allowed-room _ (sym (c .before .before .before .before .before .allowed-count .ensures) ∙ not-false _ (c .before .before .before .before .if1 .left))
 
 returns-3 : tie.Need-returns-3
 returns-3 c = answer-room _ _ _ (sym (c .before .before .before .before .before .before .allowed-count .ensures) ∙ not-false _ (c .before .before .before .before .before .if1 .left)) _ (record { answer = c .before .before .before .before .check .ensures .0; code = c .before .before .before .before .check .ensures .1 }) (c .before .before .enum-told .given .1) _ _ refl refl _ (c .length-in .ensures)

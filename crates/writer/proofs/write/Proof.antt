@@ -1,6 +1,6 @@
 -- `writer::write` meets its contract. Assumes nothing.
 use Prim.Native.Nat.{_-_}
-use Rattle.sheet.specs.Cases.{allowed-most}
+use Rattle.sheet.specs.Cases.{allowed-room}
 use Rattle.writer.proofs.Answers.{room, wrote, left-alone}
 use borrow.Author.Needs.{needs}
 use Rattle.writer.proofs.write.Statement.{statement}
@@ -23,7 +23,7 @@ returns c =
 put-sheet-requires : tie.Need-put-sheet-requires
 put-sheet-requires c κs =
     let g = room _ _ (c .before .before .before .before .before .before .args .b .now) _ (c .before .before .before .before .answer .ensures) _ (c .before .before .enum-told .given .1) in
-    (allowed-most _ (g .0), g .1)
+    (allowed-room _ (g .0), g .1)
 
 same-length : tie.Need-same-length
 same-length c = search needs

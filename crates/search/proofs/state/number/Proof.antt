@@ -18,10 +18,10 @@ enum-told : tie.Need-enum-told
 enum-told c = search needs
 
 returns : tie.Need-returns
-returns c = number-ok _ _ _ _ _ _ (c .before .before .before .before .wide .ensures) (c .before .before .before .partial-number .ensures) (c .before .before .before .before .before .pre .0) (c .before .before .before .before .before .pre .1) (c .before .before .before .before .before .pre .2) _ (c .before .p .given .1)
+returns c = number-ok _ _ _ _ _ _ (c .before .before .before .before .wide .ensures) (c .before .before .before .partial-number .ensures .0) (c .before .before .before .before .before .pre .0) (c .before .before .before .before .before .pre .1) (c .before .before .before .before .before .pre .2) _ (c .before .p .given .1)
 
 returns-2 : tie.Need-returns-2
-returns-2 c = number-never _ _ _ _ _ _ (c .before .before .before .wide .ensures) (c .before .before .partial-number .ensures) (c .before .before .before .before .pre .0) (c .before .before .before .before .pre .1) (c .before .before .before .before .pre .2) _ (c .enum-told .given .1)
+returns-2 c = number-never _ _ _ _ _ _ (c .before .before .before .wide .ensures) (c .before .before .partial-number .ensures .0) (c .before .before .before .before .pre .0) (c .before .before .before .before .pre .1) (c .before .before .before .before .pre .2) _ (c .enum-told .given .1)
 
 pub number-spec : {M : Type 1} → statement M
 number-spec =

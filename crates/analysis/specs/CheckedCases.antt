@@ -1,0 +1,13 @@
+-- What each case of `Checked` is (document 01, "What is turned away"): a refusal's number, 0 where there is none, and the
+-- code at fault that 5 carries, else 0. Assumes nothing.
+use Prim.Native.Nat.{ℕ}
+use Rattle.analysis.specs.declared.Checked.{Checked}
+use Rattle.analysis.specs.declared.Checked.the-variants.{InRange, Refused}
+
+abbrev pub numberOf : Checked → ℕ
+numberOf InRange = 0
+numberOf (Refused number code) = number
+
+abbrev pub codeOf : Checked → ℕ
+codeOf InRange = 0
+codeOf (Refused number code) = code

@@ -1,0 +1,95 @@
+-- What the functions for C meet: an answer as number and place, and what stands in each buffer. Assumes nothing.
+use mathlib.Core.Path.{_≡_, refl, sym, ap, _∙_, subst}
+use mathlib.Core.Bool.{Bool, true, false, cond}
+use mathlib.Core.List.{List, [], _∷_}
+use Prim.Native.Nat.{ℕ, _<_}
+use native.Mathlib.Omega.{arith}
+use lib.Dec.{eqb}
+use lib.IntN.{ℤ, pos, natAbs}
+use mir.Syntax.{w64}
+use mir.Val.{SFits, toZ, ofZ}
+use mir.ValLaws.{toZ-ofZ}
+use Rattle.integer.specs.Ring.{mag-le}
+use Rattle.analysis.specs.Register.{ifElse}
+use Rattle.ternary.specs.declared.Partial.{Partial}
+use Rattle.ternary.specs.declared.Partial.the-variants as partial
+use Rattle.split.specs.declared.Answer.{Answer}
+use Rattle.split.specs.declared.Answer.the-variants.{Rated, Refused}
+use Rattle.split.specs.AnswerCases.{numberOf, codeOf, figuresOf}
+use Rattle.rating.specs.declared.Outcome.{Outcome}
+use Rattle.saugrinte.specs.Interface.{reply, codeIn, replyOf, columnOf, SmallFigures, partialReply, partialIn}
+use Rattle.saugrinte.specs.declared.Reply.{Reply}
+
+-- ---- the figures of a rating
+
+module _ (x : Answer) (w : ℤ) (s r : ℕ) (e : x ≡ Rated w s r) where
+  small : SmallFigures x → (natAbs w < 9007199254740992) × (s < 9007199254740992)
+  small h = subst SmallFigures e h
+
+  pub spread-fits : SmallFigures x → SFits w64 (pos s)
+  spread-fits h = let z = small h in record { sfits = omega (arith, z .1) }
+
+  rating-back : SmallFigures x → toZ w64 (ofZ w64 w) ≡ w
+  rating-back h = let z = small h in toZ-ofZ w64 w (record { sfits = omega (arith, z .0, mag-le w) })
+
+  pub put-rated : SmallFigures x → SFits w64 (pos r) → (l : List ℤ)
+      → (reply 0 0 ≡ replyOf x) × (toZ w64 (ofZ w64 w) ∷ toZ w64 s ∷ toZ w64 r ∷ [] ≡ figuresOf x l)
+  put-rated h few l = (
+    sym (ap replyOf e),
+    ap (λ (z : ℤ). z ∷ toZ w64 s ∷ toZ w64 r ∷ []) (rating-back h)
+        ∙ ap (λ (z : ℤ). w ∷ z ∷ toZ w64 r ∷ []) (toZ-ofZ w64 (pos s) (spread-fits h))
+        ∙ ap (λ (z : ℤ). w ∷ pos s ∷ z ∷ []) (toZ-ofZ w64 (pos r) few)
+        ∙ sym (ap (λ (y : Answer). figuresOf y l) e),
+  )
+
+module _ (x : Answer) (number place : ℕ) (e : x ≡ Refused number place) where
+  pub put-refused : (l : List ℤ) → (reply number place ≡ replyOf x) × (l ≡ figuresOf x l)
+  put-refused l = (sym (ap replyOf e), sym (ap (λ (y : Answer). figuresOf y l) e))
+
+  pub column-left : (column l : List ℕ) → l ≡ columnOf x column l
+  column-left column l = sym (ap (λ (y : Answer). columnOf y column l) e)
+
+pub column-put : (x : Answer) (w : ℤ) (s r : ℕ) → x ≡ Rated w s r → (column l : List ℕ) → column ≡ columnOf x column l
+column-put x w s r e column l = sym (ap (λ (y : Answer). columnOf y column l) e)
+
+-- ---- number and place tell the code that 5 carries
+
+choice : (b : Bool) (x : ℕ) → ifElse b x 0 ≡ cond b x 0
+choice true x = refl
+choice false x = refl
+
+code-kept : (x : Answer) → codeIn (replyOf x) ≡ codeOf x
+code-kept (Rated w s r) = refl
+code-kept (Refused number place) = choice (eqb number 5) place
+
+same-code : (x : Answer) (r : Reply) → r ≡ replyOf x → codeIn r ≡ codeOf x
+same-code x r e = ap codeIn e ∙ code-kept x
+
+pub fault-at : (x : Answer) (r : Reply) → r ≡ replyOf x → (P : ℕ → Type 0) → (numberOf x ≡ 5 → P (codeOf x)) → r .number ≡ 5 → P (codeIn r)
+fault-at x r e P p z = subst P (sym (same-code x r e)) (p (sym (ap (λ (y : Reply). y .number) e) ∙ z))
+
+-- `f` gives the answer for a code with 5
+module _ (f : ℕ → Answer) (x : Answer) (h : x ≡ f (codeOf x)) (r : Reply) (e : r ≡ replyOf x) where
+  answered : x ≡ f (codeIn r)
+  answered = h ∙ ap f (sym (same-code x r e))
+
+  pub reply-is : r ≡ replyOf (f (codeIn r))
+  reply-is = e ∙ ap replyOf answered
+
+  pub figures-are : (after before : List ℤ) → after ≡ figuresOf x before → after ≡ figuresOf (f (codeIn r)) before
+  figures-are after before g = g ∙ ap (λ (y : Answer). figuresOf y before) answered
+
+-- the same with a split
+module _ (f : ℕ → Outcome) (x : Outcome) (h : x ≡ f (codeOf (x .answer))) (r : Reply) (e : r ≡ replyOf (x .answer)) where
+  pub outcome-is : x ≡ f (codeIn r)
+  outcome-is = h ∙ ap f (sym (same-code (x .answer) r e))
+
+-- ---- a partial number
+
+pub partial-done : (x : Partial) (n : ℤ) → x ≡ partial.Number n → (old after : ℤ) → after ≡ n
+    → (reply 0 0 ≡ partialReply x) × (after ≡ partialIn x old)
+partial-done x n e old after h = (sym (ap partialReply e), h ∙ sym (ap (λ (y : Partial). partialIn y old) e))
+
+pub partial-refused : (x : Partial) (number : ℕ) → x ≡ partial.Refused number → (old : ℤ)
+    → (reply number 0 ≡ partialReply x) × (old ≡ partialIn x old)
+partial-refused x number e old = (sym (ap partialReply e), sym (ap (λ (y : Partial). partialIn y old) e))

@@ -1,0 +1,29 @@
+-- `saugrinte::saugrinte_partial_number` meets its contract. Assumes nothing.
+use mathlib.Core.Path.{sym, _∙_}
+use mir.Syntax.{w64}
+use mir.ValLaws.{toZ-ofZ}
+use Rattle.saugrinte.proofs.Cases.{partial-done, partial-refused}
+use borrow.Author.Needs.{needs}
+use Rattle.saugrinte.proofs.saugrinte_partial_number.Statement.{statement}
+use Rattle.saugrinte.proofs.saugrinte_partial_number.Tie as tie
+
+partial-number-requires : tie.Need-partial-number-requires
+partial-number-requires c κs = search needs
+
+enum-known-partial : tie.Need-enum-known-partial
+enum-known-partial c = search needs
+
+enum-known-partial-2 : tie.Need-enum-known-partial-2
+enum-known-partial-2 c = search needs
+
+returns : tie.Need-returns
+returns c = partial-done _ _ (sym (c .before .before .before .partial-number .ensures .0) ∙ c .before .partial .given .1) _ _
+    (toZ-ofZ w64 _ (search needs))
+
+returns-2 : tie.Need-returns-2
+returns-2 c = partial-refused _ _ (sym (c .before .before .before .partial-number .ensures .0) ∙ c .before .partial2 .given .1) _
+
+pub saugrinte-partial-number-spec : {M : Type 1} → statement M
+saugrinte-partial-number-spec =
+    tie.close
+    (tie.spec partial-number-requires enum-known-partial enum-known-partial-2 returns returns-2)

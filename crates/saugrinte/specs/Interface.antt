@@ -1,0 +1,78 @@
+-- What the C interface answers, and what it leaves in each buffer. Assumes nothing.
+--
+-- A reply is an answer's number with its place, and a refusal leaves every buffer as it was: by what each case of the answer
+-- is, as the crate that has it says (`AnswerCases`, `PartialCases`, `ReadingCases`, `WrittenCases`). `x` is the answer of
+-- the library's function, and `l` or `old` is what the buffer held.
+use mathlib.Core.List.{List}
+use Prim.Native.Nat.{ℕ, _<_}
+use lib.Dec.{eqb}
+use lib.ListN.{length}
+use lib.IntN.{ℤ, natAbs}
+use Rattle.analysis.specs.Register.{ifElse}
+use Rattle.ternary.specs.declared.Partial.{Partial}
+use Rattle.ternary.specs.PartialCases as partial
+use Rattle.sheet.specs.declared.Split.{Split}
+use Rattle.sheet.specs.declared.Reading.{Reading}
+use Rattle.sheet.specs.ReadingCases as reading
+use Rattle.sheet.specs.declared.Written.{Written}
+use Rattle.sheet.specs.WrittenCases as written
+use Rattle.split.specs.AnswerCases as answer
+use Rattle.split.specs.declared.Answer.{Answer}
+use Rattle.split.specs.declared.Answer.the-variants.{Rated, Refused}
+use Rattle.saugrinte.specs.declared.Reply.{Reply}
+
+abbrev pub reply : ℕ → ℕ → Reply
+reply number place = record { number = number; place = place }
+
+-- the code that a refusal 5 carries, else 0
+abbrev pub codeIn : Reply → ℕ
+codeIn r = ifElse (eqb (r .number) 5) (r .place) 0
+
+-- ---- a rating
+
+abbrev pub replyOf : Answer → Reply
+replyOf x = reply (answer.numberOf x) (answer.placeOf x)
+
+-- rating and spread below 2^53, so that they fit 64 bits with a sign and a double holds them exactly
+abbrev pub SmallFigures : Answer → Type 0
+SmallFigures (Rated rating spread rounds) = (natAbs rating < 9007199254740992) × (spread < 9007199254740992)
+SmallFigures (Refused number place) = Unit {0}
+
+-- a column of the split found, beside a rating
+abbrev pub columnOf : Answer → List ℕ → List ℕ → List ℕ
+columnOf x column l = answer.heldOf x column l
+
+-- ---- a partial number
+
+abbrev pub partialReply : Partial → Reply
+partialReply x = reply (partial.numberOf x) (partial.placeOf x)
+
+abbrev pub partialIn : Partial → ℤ → ℤ
+partialIn x old = partial.figuresOf x old
+
+-- ---- reading
+
+abbrev pub readReply : Reading → Reply
+readReply x = reply (reading.numberOf x) (reading.placeOf x)
+
+abbrev pub readColumn : Reading → List ℕ → List ℕ → List ℕ
+readColumn x column l = reading.heldOf x column l
+
+abbrev pub readCount : Reading → ℕ → ℕ → ℕ
+readCount x count old = reading.heldOf x count old
+
+-- ---- writing
+
+abbrev pub writtenReply : Written → Reply
+writtenReply x = reply (written.numberOf x) (written.placeOf x)
+
+abbrev pub writtenLength : Written → ℕ → ℕ
+writtenLength x old = written.figuresOf x old
+
+-- the split that a count and three columns are
+abbrev pub splitFrom : ℕ → List ℕ → List ℕ → List ℕ → Split
+splitFrom count systems codes parts = record { count = count; systems = systems; codes = codes; amounts = parts }
+
+-- the bytes of a buffer
+abbrev pub size : List ℕ → ℕ
+size b = length b

@@ -1,0 +1,34 @@
+-- What each case of `Answer` is (document 01, "What is turned away"): a refusal's number, 0 where there is none; what it
+-- carries, the record's place with 2 to 4 and the code at fault with 5; a rating's figures; and what a lent buffer then
+-- holds. Assumes nothing.
+use mathlib.Core.Bool.{cond}
+use mathlib.Core.List.{List, [], _∷_}
+use Prim.Native.Nat.{ℕ}
+use lib.Dec.{eqb}
+use lib.IntN.{ℤ, pos}
+use Rattle.split.specs.declared.Answer.{Answer}
+use Rattle.split.specs.declared.Answer.the-variants.{Rated, Refused}
+
+abbrev pub numberOf : Answer → ℕ
+numberOf (Rated rating spread rounds) = 0
+numberOf (Refused number place) = number
+
+-- the place that it carries: of a record, or the code with 5; else 0
+abbrev pub placeOf : Answer → ℕ
+placeOf (Rated rating spread rounds) = 0
+placeOf (Refused number place) = place
+
+-- the code at fault that 5 carries, else 0
+abbrev pub codeOf : Answer → ℕ
+codeOf (Rated rating spread rounds) = 0
+codeOf (Refused number place) = cond (eqb number 5) place 0
+
+-- rating and spread in units and the rounds, or what the buffer for them held
+abbrev pub figuresOf : Answer → List ℤ → List ℤ
+figuresOf (Rated rating spread rounds) old = rating ∷ pos spread ∷ pos rounds ∷ []
+figuresOf (Refused number place) old = old
+
+-- what stands beside a rating, or what the buffer held
+abbrev pub heldOf {ℓ} : {A : Type ℓ} → Answer → A → A → A
+heldOf (Rated rating spread rounds) new old = new
+heldOf (Refused number place) new old = old
