@@ -16,36 +16,44 @@ static int refused(saugrinte_answer answer)
 
 int main(void)
 {
-    /* Parts of 0.0001 % by volume, by code: 1 methane, 2 ethane, 3 propane, 4 i-butane, 5 n-butane, 6 neo-pentane,
-       7 i-pentane, 8 n-pentane, 10 hexanes+, 11 carbon dioxide, 12 nitrogen. */
-    const uint32_t amounts[SAUGRINTE_CODES] = {
-        [1] = 970797, [2] = 16658, [3] = 2417, [4] = 346, [5] = 245, [6] = 11,
-        [7] = 73, [8] = 125, [10] = 84, [11] = 528, [12] = 8715,
+    /* A library of another first figure has another interface. */
+    if (saugrinte_version() / 10000 != SAUGRINTE_VERSION / 10000)
+        return 1;
+
+    /* Parts of 0.0001 % by volume, by code. */
+    uint32_t amounts[SAUGRINTE_CODES] = {
+        [SAUGRINTE_METHANE] = 970797, [SAUGRINTE_ETHANE] = 16658, [SAUGRINTE_PROPANE] = 2417,
+        [SAUGRINTE_I_BUTANE] = 346, [SAUGRINTE_N_BUTANE] = 245, [SAUGRINTE_NEO_PENTANE] = 11,
+        [SAUGRINTE_I_PENTANE] = 73, [SAUGRINTE_N_PENTANE] = 125, [SAUGRINTE_HEXANES] = 84,
+        [SAUGRINTE_CARBON_DIOXIDE] = 528, [SAUGRINTE_NITROGEN] = 8715,
     };
-    /* No split is proposed, so the rating searches for one. */
-    const uint8_t systems[SAUGRINTE_RECORDS] = { 0 }, codes[SAUGRINTE_RECORDS] = { 0 };
-    const uint32_t parts[SAUGRINTE_RECORDS] = { 0 };
+    /* No split is proposed, so the rating searches for one and gives it here. */
+    saugrinte_split split = { .count = 0 };
 
     uint8_t sheet[SAUGRINTE_SHEET];
     size_t length;
-    if (refused(saugrinte_write(amounts, 0, systems, codes, parts, sheet, sizeof sheet, &length)))
+    if (refused(saugrinte_write(amounts, split.count, split.systems, split.codes, split.parts,
+                                sheet, sizeof sheet, &length)))
         return 1;
     printf("sheet of %zu bytes\n", length);
 
-    int64_t figures[3];     /* rating, spread, rounds */
-    if (refused(saugrinte_rate(sheet, length, figures)))
+    saugrinte_figures figures;
+    if (refused(saugrinte_rate(sheet, length, &figures, &split.count, split.systems, split.codes, split.parts)))
         return 1;
     printf("RATED %" PRId64 " %" PRId64 " %" PRId64 " %" PRId64 "\n",
-           figures[0], saugrinte_whole_number(figures[0]), figures[1], figures[2]);
+           figures.rating, saugrinte_whole_number(figures.rating), figures.spread, figures.rounds);
 
-    saugrinte_record record = saugrinte_controller(figures[0], (uint64_t)figures[1]);
+    saugrinte_record record = saugrinte_controller(figures.rating, (uint64_t)figures.spread);
     printf("methane number %.7f, spread %.7f\n", record.rating, record.spread);
 
+    /* The split that was found, proposed for the same gas, gets the same rating with no round. */
+    printf("split of %zu records\n", split.count);
+    if (refused(saugrinte_rate_split(amounts, split.count, split.systems, split.codes, split.parts, &figures)))
+        return 1;
+    printf("put back %" PRId64 ", rounds %" PRId64 "\n", figures.rating, figures.rounds);
+
     /* A refusal: ethane is below its range, and a code at fault comes with the number. */
-    uint32_t poor[SAUGRINTE_CODES];
-    for (int code = 0; code < SAUGRINTE_CODES; code++)
-        poor[code] = amounts[code];
-    poor[2] = 99;
-    refused(saugrinte_write(poor, 0, systems, codes, parts, sheet, sizeof sheet, &length));
+    amounts[SAUGRINTE_ETHANE] = 99;
+    refused(saugrinte_write(amounts, 0, split.systems, split.codes, split.parts, sheet, sizeof sheet, &length));
     return 0;
 }

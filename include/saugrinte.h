@@ -2,35 +2,25 @@
 
    A part is 0.0001 % by volume. A unit is 0.0000001 of a methane number.
 
-   Every function answers every input. An answer holds a number: 0 means done, anything else is a refusal.
+   Every function answers every input. An answer holds a number: 0 means done, anything else is a refusal, which changes
+   no buffer. Its place tells more: for 2 to 4 the record's place from 0, for 5 a code at fault, for all else 0.
 
-      1 torn          a sheet's count not allowed, too few bytes, bytes left over
-      2 unknown       code 0, 14 or above in components
-      3 retired       code 9 or 13 in components
-      4 out of order  a code not above the one before
-      5 out of range  an amount outside its range, or one of codes 1 to 5 absent
-      6 total         the amounts' sum outside 999900..1000100
-      7 misfit        the split's systems or codes are not the nine expected
-      8 unsummed      a component's amounts in the split don't add up
-      9 empty system  a chosen system has no parts
-     10 wide          the split's spread is above 500000 units
-     11 unbalanced    no split within that spread was found
-     12 no mixture    amounts whose sum is 0 or above 1000000
-     13 no system     not one of 2, 4, 7, 8, 20
-     14 short blank   the writer's buffer is too short
-
-   The place tells more: for 2 to 4 the record's place from 0, for 5 a code at fault, for all else 0.
-   A refusal changes no buffer.
-
-   amounts[k] is the amount in parts of code k, 0 where it is absent. At 0, 9 and 13 to 15 no amount is legal:
+   amounts[k] is the amount in parts of code k, 0 where it is absent. At 0, 9, 13, 14 and 15 no amount is legal:
    anything but 0 there is refused 5.
 
-   A split is a count of records, 0 or 9, and three arrays: record i gives amount parts[i] of component codes[i]
-   to system systems[i]. Codes in a split are 1 methane, 2 ethane, 3 propane, 14 butane.
+   A split is a count of records and three arrays: record i gives amount parts[i] of component codes[i] to system
+   systems[i]. Codes in a split are 1 methane, 2 ethane, 3 propane, 14 butanes. A rated gas's split has 9 records today.
+   Places from the count on are not read, and a call that gives a split writes zeros there.
 
-   The functions keep nothing between calls, so several threads may call them at once. No pointer may be null,
-   not even with a length, room or count of 0; an array is given whole, whatever the count says; and no buffer
-   that a call writes may overlap another argument. */
+   A program that was compiled against this header outlives a release with the same first figure of SAUGRINTE_VERSION:
+   no size, number or name here changes, new ones may come. The arrays have room for requests to come (hydrogen, splits
+   of up to 21 records, sheets of up to 188 bytes), so a caller takes a split's records by its count and a sheet by its
+   length.
+
+   The functions keep nothing between calls, so several threads may call them at once. They use no heap and no floating
+   point but in saugrinte_controller, and call nothing but memcpy and memset. No pointer may be null, not even with a
+   length, room or count of 0; an array is given whole, whatever the count says; and no buffer that a call writes may
+   overlap another argument. */
 #ifndef SAUGRINTE_H
 #define SAUGRINTE_H
 
@@ -41,10 +31,47 @@
 extern "C" {
 #endif
 
+#define SAUGRINTE_VERSION 10000     /* of this header, 1.0.0: 10000, 100 and 1 times its three figures */
+
 #define SAUGRINTE_CODES 16          /* entries of an analysis, one for each code from 0 to 15 */
-#define SAUGRINTE_RECORDS 21        /* room for the records of a split; it has 9 */
-#define SAUGRINTE_SHEET 111         /* bytes of the longest sheet */
+#define SAUGRINTE_RECORDS 21        /* room for a split's records */
+#define SAUGRINTE_SHEET 188         /* room for a sheet's bytes; the longest today has 111 */
 #define SAUGRINTE_ROUNDS 4000       /* the greatest allowance of rounds */
+
+/* The number of an answer. */
+enum {
+    SAUGRINTE_DONE = 0,
+    SAUGRINTE_TORN = 1,             /* torn: a sheet's count not allowed, too few bytes, bytes left over */
+    SAUGRINTE_UNKNOWN = 2,          /* unknown: code 0, 14 or above in components */
+    SAUGRINTE_RETIRED = 3,          /* retired: code 9 or 13 in components */
+    SAUGRINTE_OUT_OF_ORDER = 4,     /* out of order: a code not above the one before */
+    SAUGRINTE_OUT_OF_RANGE = 5,     /* out of range: an amount outside its range, or one of codes 1 to 5 absent */
+    SAUGRINTE_TOTAL = 6,            /* total: the amounts' sum outside 999900..1000100 */
+    SAUGRINTE_MISFIT = 7,           /* misfit: the split's systems or codes are not the nine expected */
+    SAUGRINTE_UNSUMMED = 8,         /* unsummed: a component's amounts in the split don't add up */
+    SAUGRINTE_EMPTY_SYSTEM = 9,     /* empty system: a chosen system has no parts */
+    SAUGRINTE_WIDE = 10,            /* wide: the split's spread is above 500000 units */
+    SAUGRINTE_UNBALANCED = 11,      /* unbalanced: no split within that spread was found */
+    SAUGRINTE_NO_MIXTURE = 12,      /* no mixture: amounts whose sum is 0 or above 1000000 */
+    SAUGRINTE_NO_SYSTEM = 13,       /* no system: not one of 2, 4, 7, 8, 20 */
+    SAUGRINTE_SHORT_BLANK = 14      /* short blank: the writer's buffer is too short */
+};
+
+/* Component codes; 9 and 13 are retired and never given again. */
+enum {
+    SAUGRINTE_METHANE = 1,
+    SAUGRINTE_ETHANE = 2,
+    SAUGRINTE_PROPANE = 3,
+    SAUGRINTE_I_BUTANE = 4,
+    SAUGRINTE_N_BUTANE = 5,
+    SAUGRINTE_NEO_PENTANE = 6,
+    SAUGRINTE_I_PENTANE = 7,
+    SAUGRINTE_N_PENTANE = 8,
+    SAUGRINTE_HEXANES = 10,
+    SAUGRINTE_CARBON_DIOXIDE = 11,
+    SAUGRINTE_NITROGEN = 12,
+    SAUGRINTE_BUTANES = 14          /* in splits only */
+};
 
 /* 0 for done, or the refusal's number with its place. */
 typedef struct {
@@ -52,28 +79,54 @@ typedef struct {
     uint32_t place;
 } saugrinte_answer;
 
+/* A rating: rating and spread in units, and the rounds of the search, 0 for a proposed split. */
+typedef struct {
+    int64_t rating;
+    int64_t spread;
+    int64_t rounds;
+} saugrinte_figures;
+
+/* Room for a split, for a caller that keeps count and arrays together; a call takes them one by one:
+   &split.count, split.systems, split.codes, split.parts. */
+typedef struct {
+    size_t count;
+    uint8_t systems[SAUGRINTE_RECORDS];
+    uint8_t codes[SAUGRINTE_RECORDS];
+    uint32_t parts[SAUGRINTE_RECORDS];
+} saugrinte_split;
+
 /* The controller's record: a rating and its spread as methane numbers. */
 typedef struct {
     double rating;
     double spread;
 } saugrinte_record;
 
+/* The library's version. This header's sizes, numbers and names are its own where both have the same first figure:
+   saugrinte_version() / 10000 == SAUGRINTE_VERSION / 10000. */
+uint32_t saugrinte_version(void);
+
 /* Rates a sheet: its own split where it has one, else the split that the search finds in 4000 rounds.
-   Done: figures holds the rating in units, the spread in units and the rounds (0 for the sheet's own split).
-   Refused 1 to 11: figures is unchanged. */
-saugrinte_answer saugrinte_rate(const uint8_t *sheet, size_t length, int64_t figures[3]);
+   Done: *figures holds rating, spread and rounds; *count and the three arrays the split found, or 0 and zeros for a
+   sheet with its own split.
+   Refused 1 to 11: no buffer is changed. */
+saugrinte_answer saugrinte_rate(const uint8_t *sheet, size_t length, saugrinte_figures *figures, size_t *count,
+                                uint8_t systems[SAUGRINTE_RECORDS], uint8_t codes[SAUGRINTE_RECORDS],
+                                uint32_t parts[SAUGRINTE_RECORDS]);
 
 /* Rates an analysis by the search, with at most `allowance` rounds; above 4000 counts as 4000.
-   Done: figures holds rating, spread and rounds; the three arrays hold the nine records of the split found, and zeros after them.
+   Done: *figures holds rating, spread and rounds; *count and the three arrays the split found.
    Refused 5, 6, 11: no buffer is changed. */
-saugrinte_answer saugrinte_search(const uint32_t amounts[SAUGRINTE_CODES], uint32_t allowance, int64_t figures[3],
-                                  uint8_t systems[SAUGRINTE_RECORDS], uint8_t codes[SAUGRINTE_RECORDS], uint32_t parts[SAUGRINTE_RECORDS]);
+saugrinte_answer saugrinte_search(const uint32_t amounts[SAUGRINTE_CODES], uint32_t allowance,
+                                  saugrinte_figures *figures, size_t *count, uint8_t systems[SAUGRINTE_RECORDS],
+                                  uint8_t codes[SAUGRINTE_RECORDS], uint32_t parts[SAUGRINTE_RECORDS]);
 
 /* Rates an analysis with a proposed split.
-   Done: figures holds rating, spread and 0.
-   Refused 5 to 10, 7 also where count is not nine: figures is unchanged. */
-saugrinte_answer saugrinte_rate_split(const uint32_t amounts[SAUGRINTE_CODES], size_t count, const uint8_t systems[SAUGRINTE_RECORDS],
-                                      const uint8_t codes[SAUGRINTE_RECORDS], const uint32_t parts[SAUGRINTE_RECORDS], int64_t figures[3]);
+   Done: *figures holds rating, spread and 0.
+   Refused 5 to 10, 7 also where count is not nine: *figures is unchanged. */
+saugrinte_answer saugrinte_rate_split(const uint32_t amounts[SAUGRINTE_CODES], size_t count,
+                                      const uint8_t systems[SAUGRINTE_RECORDS],
+                                      const uint8_t codes[SAUGRINTE_RECORDS],
+                                      const uint32_t parts[SAUGRINTE_RECORDS], saugrinte_figures *figures);
 
 /* The partial number, in units, of a system (2, 4, 7, 8, 20) at amounts n1, n2, n3 in the order of its formula.
    Done: *number holds it.
@@ -83,17 +136,19 @@ saugrinte_answer saugrinte_partial_number(uint32_t system, uint32_t n1, uint32_t
 
 /* Reads a sheet.
    Done: amounts holds the analysis, *count 0 or 9, the three arrays the split's records as they stand in the
-   sheet, or zeros where it has none.
+   sheet, and zeros after them.
    Refused 1 to 6: no buffer is changed. */
-saugrinte_answer saugrinte_read(const uint8_t *sheet, size_t length, uint32_t amounts[SAUGRINTE_CODES], size_t *count,
-                                uint8_t systems[SAUGRINTE_RECORDS], uint8_t codes[SAUGRINTE_RECORDS], uint32_t parts[SAUGRINTE_RECORDS]);
+saugrinte_answer saugrinte_read(const uint8_t *sheet, size_t length, uint32_t amounts[SAUGRINTE_CODES],
+                                size_t *count, uint8_t systems[SAUGRINTE_RECORDS],
+                                uint8_t codes[SAUGRINTE_RECORDS], uint32_t parts[SAUGRINTE_RECORDS]);
 
 /* Writes the sheet of an analysis and a split, or of none (count 0), into a buffer of `room` bytes. The split's
    records are written as given.
    Done: *length holds the sheet's length, the buffer's first *length bytes the sheet; the others are unchanged.
    Refused 1 (count neither 0 nor 9), then 5, 6, 14: the buffer and *length are unchanged. */
-saugrinte_answer saugrinte_write(const uint32_t amounts[SAUGRINTE_CODES], size_t count, const uint8_t systems[SAUGRINTE_RECORDS],
-                                 const uint8_t codes[SAUGRINTE_RECORDS], const uint32_t parts[SAUGRINTE_RECORDS], uint8_t *buffer, size_t room,
+saugrinte_answer saugrinte_write(const uint32_t amounts[SAUGRINTE_CODES], size_t count,
+                                 const uint8_t systems[SAUGRINTE_RECORDS], const uint8_t codes[SAUGRINTE_RECORDS],
+                                 const uint32_t parts[SAUGRINTE_RECORDS], uint8_t *buffer, size_t room,
                                  size_t *length);
 
 /* The controller's record of a rating and a spread in units: each count is converted to a double, which is exact

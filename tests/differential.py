@@ -61,15 +61,13 @@ def figures(fill, result):
 
 
 def split_blocks(fill, records):
+    """The count and the three arrays; zeros after the records. None: no buffer is changed."""
     if records is None:
-        return block(fill, None, RECORDS) + block(fill, None, RECORDS) + block(fill, None, 4 * RECORDS)
-    records = (*records, *NONE[len(records):])
-    return (block(fill, bytes(r[0] for r in records), RECORDS) + block(fill, bytes(r[1] for r in records), RECORDS)
-            + block(fill, big((r[2] for r in records), 4), 4 * RECORDS))
-
-
-NONE = ((0, 0, 0),) * RECORDS
-NO_CODE = 0, 9, 13, 14, 15
+        return ''.join(block(fill, None, size) for size in (WORD, RECORDS, RECORDS, 4 * RECORDS))
+    places = (*records, *((0, 0, 0),) * (RECORDS - len(records)))
+    return (block(fill, big((len(records),), WORD), WORD) + block(fill, bytes(r[0] for r in places), RECORDS)
+            + block(fill, bytes(r[1] for r in places), RECORDS)
+            + block(fill, big((r[2] for r in places), 4), 4 * RECORDS))
 
 
 def wide(analysis):
@@ -121,6 +119,9 @@ class Line:
 
 # ------------------------------------------------------------ the reference's answers
 
+NO_CODE = 0, 9, 13, 14, 15
+
+
 def check(analysis):
     """5 or 6; an amount at a code that has none is at fault too."""
     wrong = {c for c in NO_CODE if wide(analysis)[c]}
@@ -167,16 +168,17 @@ class Cases:
 
     def rate(self, kind, sheet, result):
         fill = self.next_fill()
-        self.add(kind, 'rate %02x %s' % (fill, sheet.hex() or '-'), Expected(result, figures(fill, result)))
+        found = None if isinstance(result, ref.Refusal) else () if sheet[1 + 5 * sheet[0]] else result.split
+        self.add(kind, 'rate %02x %s' % (fill, sheet.hex() or '-'),
+                 Expected(result, figures(fill, result) + split_blocks(fill, found)))
 
     def read(self, kind, sheet, got):
         fill = self.next_fill()
         if isinstance(got, ref.Refusal):
-            buffers = block(fill, None, 4 * CODES) + block(fill, None, WORD) + split_blocks(fill, None)
+            buffers = block(fill, None, 4 * CODES) + split_blocks(fill, None)
         else:
             analysis, split = got
-            buffers = (block(fill, amounts(analysis), 4 * CODES) + block(fill, big((9 if split else 0,), WORD), WORD)
-                       + split_blocks(fill, split or NONE))
+            buffers = block(fill, amounts(analysis), 4 * CODES) + split_blocks(fill, split or ())
         self.add(kind, 'read %02x %s' % (fill, sheet.hex() or '-'), Expected(got, buffers))
 
     def search(self, kind, analysis, allowance, result):
@@ -223,7 +225,8 @@ class Cases:
 
 
 def packed(records):
-    return b''.join(bytes((s, c)) + a.to_bytes(4, 'big') for s, c, a in (*(records or ()), *NONE[len(records or ()):])).hex()
+    """The records; the driver fills the places after them."""
+    return b''.join(bytes((s, c)) + a.to_bytes(4, 'big') for s, c, a in records or ()).hex() or '-'
 
 
 class Exact:
@@ -338,7 +341,7 @@ def call_cases(cases, seed, sheets):
         kind = 'rate split ' + kind
         if draw.one_in(32):
             kind, analysis = 'rate split, amount at no code', at_no_code(draw, analysis)
-        count = draw.pick((0, 1, 8, 10, 255, U64 - 1)) if draw.one_in(32) else 9
+        count = draw.pick((0, 1, 8, 10, 21, 22, 255, U64 - 1)) if draw.one_in(32) else 9
         if count != 9:
             kind = 'rate split, another count'
         cases.split(kind, analysis, count, records, rate_split(analysis, count, records))
@@ -348,7 +351,7 @@ def call_cases(cases, seed, sheets):
         kind = 'write, a split' if records else 'write, no split'
         if draw.one_in(32):
             kind, analysis = 'write, amount at no code', at_no_code(draw, analysis)
-        count = draw.pick((1, 8, 10, 255, U64 - 1)) if draw.one_in(32) else 9 if records else 0
+        count = draw.pick((1, 8, 10, 21, 22, 255, U64 - 1)) if draw.one_in(32) else 9 if records else 0
         if count not in (0, 9):
             kind = 'write, another count'
         cases.write(kind, analysis, count, records, room, room)

@@ -9,21 +9,34 @@
      partial    FILL SYSTEM N1 N2 N3
      controller RATING SPREAD
      whole      RATING
-     touch      LENGTH AT                               (calls nothing: reads byte AT of LENGTH bytes that are lent)
-   AMOUNTS is 16 times four bytes, high byte first; RECORDS 21 times system, code and four bytes.
+     version                                             (the header's, then the library's)
+     touch      LENGTH AT                                (calls nothing: reads byte AT of LENGTH bytes that are lent)
+   AMOUNTS is 16 times four bytes, high byte first; RECORDS up to 21 times system, code and four bytes, and the places
+   left over hold FILL.
 
    An answer is number, place, then every buffer of the call in base sixteen, in the header's order: first filled
    with FILL, GUARD bytes before and after it included. Numbers in buffers stand high byte first. With --flush each
    line is printed at once, so that the last one shows where a call did not return. With --exact every buffer that is
    lent, to read or to write, is a block of just its size, so that a memory checker sees a step beyond it; the guards
    are then printed as FILL. */
+#include <stddef.h>
 #include <stdio.h>
 #include <stdlib.h>
 #include <string.h>
 
 #include "saugrinte.h"
 
+enum { CODES = SAUGRINTE_CODES, RECORDS = SAUGRINTE_RECORDS };
 enum { GUARD = 8, ROOM = 4096, LINE = 1 << 16 };
+
+/* The sizes and the layouts that compiled callers count on. */
+_Static_assert(CODES == 16 && RECORDS == 21 && SAUGRINTE_SHEET == 188, "sizes of the arrays");
+_Static_assert(sizeof(saugrinte_figures) == 3 * sizeof(int64_t), "figures are three numbers");
+_Static_assert(offsetof(saugrinte_figures, rating) == 0, "the rating first");
+_Static_assert(offsetof(saugrinte_figures, spread) == sizeof(int64_t), "then the spread");
+_Static_assert(offsetof(saugrinte_figures, rounds) == 2 * sizeof(int64_t), "then the rounds");
+_Static_assert(sizeof(saugrinte_answer) == 8 && offsetof(saugrinte_answer, place) == 4, "number and place");
+_Static_assert(sizeof(saugrinte_record) == 16 && offsetof(saugrinte_record, spread) == 8, "two doubles");
 
 static size_t guard = GUARD;            /* 0 with --exact */
 
@@ -151,31 +164,31 @@ static uint32_t four(const uint8_t *b)
     return (uint32_t)b[0] << 24 | (uint32_t)b[1] << 16 | (uint32_t)b[2] << 8 | b[3];
 }
 
-static void amounts_word(uint32_t amounts[SAUGRINTE_CODES])
+static void amounts_word(uint32_t amounts[CODES])
 {
     size_t length;
     uint8_t *b = bytes(&length);
-    if (length != 64)
+    if (length != 4 * CODES)
         fail("amounts are 64 bytes", line);
-    for (int i = 0; i < SAUGRINTE_CODES; i++)
+    for (int i = 0; i < CODES; i++)
         amounts[i] = four(b + 4 * i);
     free(b);
 }
 
 typedef struct {
-    uint8_t systems[SAUGRINTE_RECORDS], codes[SAUGRINTE_RECORDS];
-    uint32_t parts[SAUGRINTE_RECORDS];
+    uint8_t systems[RECORDS], codes[RECORDS];
+    uint32_t parts[RECORDS];
 } records;
 
-static records records_word(void)
+static records records_word(int fill)
 {
     records r;
     size_t length;
-    memset(&r, 0, sizeof r);
+    memset(&r, fill, sizeof r);
     uint8_t *b = bytes(&length);
-    if (length != 126)
-        fail("records are 126 bytes", line);
-    for (int i = 0; i < SAUGRINTE_RECORDS; i++) {
+    if (length % 6 || length > 6 * RECORDS)
+        fail("records are six bytes each, 21 at most", line);
+    for (size_t i = 0; i < length / 6; i++) {
         r.systems[i] = b[6 * i];
         r.codes[i] = b[6 * i + 1];
         r.parts[i] = four(b + 6 * i + 2);
@@ -187,15 +200,16 @@ static records records_word(void)
 /* COUNT, AMOUNTS and RECORDS. */
 typedef struct {
     size_t count;
-    uint32_t amounts[SAUGRINTE_CODES];
+    uint32_t amounts[CODES];
     records split;
 } gas;
 
-static void gas_words(gas *g)
+static void gas_words(gas *g, int fill)
 {
+    memset(g, 0, sizeof *g);
     g->count = (size_t)number();
     amounts_word(g->amounts);
-    g->split = records_word();
+    g->split = records_word(fill);
 }
 
 /* The arrays of a gas as they are lent. */
@@ -220,6 +234,26 @@ static void give_back_gas(lent_gas l, const gas *g)
     give_back(l.parts, g->split.parts, sizeof g->split.parts);
 }
 
+/* The buffers of a split, and their printing. */
+typedef struct {
+    region count, systems, codes, parts;
+} columns;
+
+static columns filled_columns(int fill)
+{
+    columns c = { filled(sizeof(size_t), fill), filled(RECORDS, fill), filled(RECORDS, fill),
+                  filled(4 * RECORDS, fill) };
+    return c;
+}
+
+static void put_columns(columns c)
+{
+    put(c.count, sizeof(size_t));
+    put(c.systems, 1);
+    put(c.codes, 1);
+    put(c.parts, 4);
+}
+
 /* ---- the calls ---- */
 
 static void rate(void)
@@ -227,9 +261,11 @@ static void rate(void)
     int fill = fill_byte();
     size_t length;
     uint8_t *sheet = bytes(&length), *lent = lend(sheet, length);
-    region figures = filled(24, fill);
-    put_answer(saugrinte_rate(lent, length, at(figures)));
+    region figures = filled(sizeof(saugrinte_figures), fill);
+    columns c = filled_columns(fill);
+    put_answer(saugrinte_rate(lent, length, at(figures), at(c.count), at(c.systems), at(c.codes), at(c.parts)));
     put(figures, 8);
+    put_columns(c);
     give_back(lent, sheet, length);
     free(sheet);
 }
@@ -239,14 +275,11 @@ static void read_sheet(void)
     int fill = fill_byte();
     size_t length;
     uint8_t *sheet = bytes(&length), *lent = lend(sheet, length);
-    region amounts = filled(64, fill), count = filled(sizeof(size_t), fill), systems = filled(21, fill),
-           codes = filled(21, fill), parts = filled(84, fill);
-    put_answer(saugrinte_read(lent, length, at(amounts), at(count), at(systems), at(codes), at(parts)));
+    region amounts = filled(4 * CODES, fill);
+    columns c = filled_columns(fill);
+    put_answer(saugrinte_read(lent, length, at(amounts), at(c.count), at(c.systems), at(c.codes), at(c.parts)));
     put(amounts, 4);
-    put(count, sizeof(size_t));
-    put(systems, 1);
-    put(codes, 1);
-    put(parts, 4);
+    put_columns(c);
     give_back(lent, sheet, length);
     free(sheet);
 }
@@ -254,15 +287,14 @@ static void read_sheet(void)
 static void search(void)
 {
     int fill = fill_byte();
-    uint32_t allowance = (uint32_t)number(), amounts[SAUGRINTE_CODES];
+    uint32_t allowance = (uint32_t)number(), amounts[CODES];
     amounts_word(amounts);
     uint32_t *lent = lend(amounts, sizeof amounts);
-    region figures = filled(24, fill), systems = filled(21, fill), codes = filled(21, fill), parts = filled(84, fill);
-    put_answer(saugrinte_search(lent, allowance, at(figures), at(systems), at(codes), at(parts)));
+    region figures = filled(sizeof(saugrinte_figures), fill);
+    columns c = filled_columns(fill);
+    put_answer(saugrinte_search(lent, allowance, at(figures), at(c.count), at(c.systems), at(c.codes), at(c.parts)));
     put(figures, 8);
-    put(systems, 1);
-    put(codes, 1);
-    put(parts, 4);
+    put_columns(c);
     give_back(lent, amounts, sizeof amounts);
 }
 
@@ -270,9 +302,9 @@ static void split(void)
 {
     int fill = fill_byte();
     gas g;
-    gas_words(&g);
+    gas_words(&g, fill);
     lent_gas l = lend_gas(&g);
-    region figures = filled(24, fill);
+    region figures = filled(sizeof(saugrinte_figures), fill);
     put_answer(saugrinte_rate_split(l.amounts, g.count, l.systems, l.codes, l.parts, at(figures)));
     put(figures, 8);
     give_back_gas(l, &g);
@@ -282,7 +314,7 @@ static void write_sheet(void)
 {
     int fill = fill_byte();
     gas g;
-    gas_words(&g);
+    gas_words(&g, fill);
     size_t low = (size_t)number(), high = (size_t)number();
     if (high > ROOM)
         fail("too large a room", line);
@@ -323,6 +355,11 @@ static void whole(void)
     printf("0 %lld", (long long)saugrinte_whole_number(strtoll(word(), NULL, 10)));
 }
 
+static void version(void)
+{
+    printf("%lu %lu", (unsigned long)SAUGRINTE_VERSION, (unsigned long)saugrinte_version());
+}
+
 /* Whether a memory checker sees a step beyond what is lent can be tried with this. */
 static void touch(void)
 {
@@ -338,7 +375,7 @@ int main(int count, char **words)
     static const struct { const char *name; void (*call)(void); } calls[] = {
         { "rate", rate }, { "read", read_sheet }, { "search", search }, { "split", split },
         { "write", write_sheet }, { "partial", partial }, { "controller", controller }, { "whole", whole },
-        { "touch", touch },
+        { "version", version }, { "touch", touch },
     };
     for (int i = 1; i < count; i++)
         if (!strcmp(words[i], "--flush"))

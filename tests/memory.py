@@ -27,11 +27,12 @@ def valgrind(log):
 
 
 def noticed(driver, under):
-    """A byte beyond a lent block is read, which has to be reported, and the last byte of one, which has not."""
-    for length, at, status in ((0, 0, STATUS), (111, 111, STATUS), (111, 110, 0)):
-        got, _ = d.run(driver, ['touch %d %d' % (length, at)], '--exact', under=under)
+    """A byte beyond a lent block is read, which has to be reported, and the last byte of one, which has not; nor has
+    the call of the version."""
+    for line, status in (('touch 0 0', STATUS), ('touch 111 111', STATUS), ('touch 111 110', 0), ('version', 0)):
+        got, _ = d.run(driver, [line], '--exact', under=under)
         if got != status:
-            raise d.Difference('byte %d of %d read: valgrind ended with %d, not %d' % (at, length, got, status))
+            raise d.Difference('%s: valgrind ended with %d, not %d' % (line, got, status))
 
 
 def main():

@@ -1,8 +1,8 @@
 #!/usr/bin/env bash
 # The C interface: builds the library's archive, compiles the driver and the example against it with the header, and
-# compares what the example prints. SAUGRINTE_LIB names another archive or a C file to take in the archive's place.
-# The driver gets its name once it is whole: the other tests wait for it, or for a file `failed`. So does a second
-# driver, `plain`, of the plain C program.
+# compares the header's constants with the sources, its version with the library's, and what the example prints.
+# SAUGRINTE_LIB names another archive or a C file to take in the archive's place. The driver gets its name once it is
+# whole: the other tests wait for it, or for a file `failed`. So does a second driver, `plain`, of the plain C program.
 set -euo pipefail
 cd "$(dirname "$0")/../.."
 
@@ -23,6 +23,9 @@ mv "$out/plain.new" "$out/plain"
 gcc -O3 $warnings -Iinclude examples/rate.c "$lib" -o "$out/rate-example"
 echo '#include "saugrinte.h"' | g++ -x c++ -fsyntax-only -Wall -Wextra -Werror -Iinclude -
 
+python3 tests/header.py
+said=$(echo version | "$out/driver")
+[ "$said" = "${said#* } ${said#* }" ] || { echo "interface: versions of the header and of the library: $said"; exit 1; }
 "$out/rate-example" >"$out/rate.out"
 diff examples/rate.out "$out/rate.out" || { echo "interface: examples/rate.c prints something else than rate.out"; exit 1; }
 echo "interface: $lib, header, drivers and example stand; the example prints examples/rate.out"

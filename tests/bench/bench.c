@@ -1,7 +1,7 @@
 /* Times the C interface. Linked once with the library and once with the plain C program; tests/bench/run asks both
    in turn for the same chunks of the same input.
 
-     bench GASES       GASES: a file with 16 amounts a line, one gas each
+     bench GASES       GASES: a file with an amount for each code from 0 on a line, one gas each
 
    Commands on standard input, one answer line each:
      rounds                        the rounds that each gas needs, -1 where it is refused
@@ -23,7 +23,7 @@
 typedef struct {
     uint32_t amounts[SAUGRINTE_CODES];
     uint8_t sheet[SAUGRINTE_SHEET];
-    size_t length;
+    size_t length, count;
     uint8_t systems[SAUGRINTE_RECORDS], codes[SAUGRINTE_RECORDS];
     uint32_t parts[SAUGRINTE_RECORDS];
     int64_t rounds;
@@ -66,9 +66,10 @@ static void load(const char *path)
             }
         if (saugrinte_write(g.amounts, 0, g.systems, g.codes, g.parts, g.sheet, sizeof g.sheet, &g.length).number)
             fail("a gas out of range");
-        int64_t figures[3];
-        saugrinte_answer answer = saugrinte_search(g.amounts, SAUGRINTE_ROUNDS, figures, g.systems, g.codes, g.parts);
-        g.rounds = answer.number ? -1 : figures[2];
+        saugrinte_figures figures;
+        saugrinte_answer answer = saugrinte_search(g.amounts, SAUGRINTE_ROUNDS, &figures, &g.count, g.systems, g.codes,
+                                                   g.parts);
+        g.rounds = answer.number ? -1 : figures.rounds;
         if (count == room) {
             room = room ? 2 * room : 1024;
             gases = realloc(gases, room * sizeof *gases);
@@ -83,11 +84,12 @@ static uint64_t search(size_t first, size_t last, uint32_t allowance)
 {
     uint64_t sum = 0;
     for (size_t i = first; i < last; i++) {
-        int64_t figures[3] = { 0 };
+        saugrinte_figures figures = { 0, 0, 0 };
+        size_t records = 0;
         uint8_t systems[SAUGRINTE_RECORDS] = { 0 }, codes[SAUGRINTE_RECORDS] = { 0 };
         uint32_t parts[SAUGRINTE_RECORDS] = { 0 };
-        saugrinte_answer answer = saugrinte_search(gases[i].amounts, allowance, figures, systems, codes, parts);
-        sum = mixed(mixed(mixed(sum, answer.number), (uint64_t)figures[0]), (uint64_t)figures[2] << 32 | parts[4]);
+        saugrinte_answer answer = saugrinte_search(gases[i].amounts, allowance, &figures, &records, systems, codes, parts);
+        sum = mixed(mixed(mixed(sum, answer.number), (uint64_t)figures.rating), (uint64_t)figures.rounds << 32 | parts[4]);
     }
     return sum;
 }
@@ -96,9 +98,12 @@ static uint64_t sheet(size_t first, size_t last)
 {
     uint64_t sum = 0;
     for (size_t i = first; i < last; i++) {
-        int64_t figures[3] = { 0 };
-        saugrinte_answer answer = saugrinte_rate(gases[i].sheet, gases[i].length, figures);
-        sum = mixed(mixed(sum, answer.number), (uint64_t)(figures[0] + figures[1] + figures[2]));
+        saugrinte_figures figures = { 0, 0, 0 };
+        size_t records = 0;
+        uint8_t systems[SAUGRINTE_RECORDS] = { 0 }, codes[SAUGRINTE_RECORDS] = { 0 };
+        uint32_t parts[SAUGRINTE_RECORDS] = { 0 };
+        saugrinte_answer answer = saugrinte_rate(gases[i].sheet, gases[i].length, &figures, &records, systems, codes, parts);
+        sum = mixed(mixed(sum, answer.number), (uint64_t)(figures.rating + figures.spread + figures.rounds));
     }
     return sum;
 }
@@ -108,10 +113,9 @@ static uint64_t split(size_t first, size_t last)
     uint64_t sum = 0;
     for (size_t i = first; i < last; i++) {
         const gas *g = &gases[i];
-        int64_t figures[3] = { 0 };
-        saugrinte_answer answer = saugrinte_rate_split(g->amounts, 9, g->systems, g->codes, g->parts,
-                                                       figures);
-        sum = mixed(mixed(sum, answer.number), (uint64_t)(figures[0] + figures[1]));
+        saugrinte_figures figures = { 0, 0, 0 };
+        saugrinte_answer answer = saugrinte_rate_split(g->amounts, g->count, g->systems, g->codes, g->parts, &figures);
+        sum = mixed(mixed(sum, answer.number), (uint64_t)(figures.rating + figures.spread));
     }
     return sum;
 }

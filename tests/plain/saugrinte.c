@@ -268,18 +268,18 @@ static int64_t spread_of(const int64_t numbers[CHOSEN])
     return greatest - least;
 }
 
-static void rated(const split *s, const mixture *m, int64_t rounds, int64_t figures[3])
+static void rated(const split *s, const mixture *m, int64_t rounds, saugrinte_figures *figures)
 {
     int64_t sum = 0;
     for (int i = 0; i < CHOSEN; i++)
         sum += s->numbers[i] * parts_of(s->amounts[i]);
-    figures[0] = sum / WHOLE + m->inert - 1000003000;
-    figures[1] = spread_of(s->numbers);
-    figures[2] = rounds;
+    figures->rating = sum / WHOLE + m->inert - 1000003000;
+    figures->spread = spread_of(s->numbers);
+    figures->rounds = rounds;
 }
 
 static saugrinte_answer rate_records(const uint32_t amounts[CODES], const uint8_t *systems, const uint8_t *codes,
-                                     const uint32_t *parts, int64_t figures[3])
+                                     const uint32_t *parts, saugrinte_figures *figures)
 {
     mixture m = simplify(amounts);
     split s = { 0 };
@@ -366,7 +366,7 @@ static int first_move(split *s, uint32_t stride, uint64_t *imbalance)
     return 0;
 }
 
-static saugrinte_answer find(const uint32_t amounts[CODES], uint32_t allowance, int64_t figures[3], split *s)
+static saugrinte_answer find(const uint32_t amounts[CODES], uint32_t allowance, saugrinte_figures *figures, split *s)
 {
     mixture m = simplify(amounts);
     uint32_t stride = 65536, rounds = 0;
@@ -452,42 +452,57 @@ static saugrinte_answer parse(const uint8_t *sheet, size_t length, contents *out
 
 /* ---- the interface ---- */
 
-saugrinte_answer saugrinte_rate(const uint8_t *sheet, size_t length, int64_t figures[3])
+uint32_t saugrinte_version(void)
+{
+    return SAUGRINTE_VERSION;
+}
+
+/* The records of a split that was found, or none, and zeros after them. */
+static void put_records(const split *found, size_t *count, uint8_t systems[ROOM], uint8_t codes[ROOM],
+                        uint32_t parts[ROOM])
+{
+    *count = found ? RECORDS : 0;
+    memset(systems, 0, ROOM);
+    memset(codes, 0, ROOM);
+    memset(parts, 0, ROOM * sizeof *parts);
+    for (int r = 0; found && r < RECORDS; r++) {
+        int i = r / MEMBERS, c = members[found->systems[i]][r % MEMBERS];
+        systems[r] = system_numbers[found->systems[i]];
+        codes[r] = split_codes[c];
+        parts[r] = found->amounts[i][c];
+    }
+}
+
+saugrinte_answer saugrinte_rate(const uint8_t *sheet, size_t length, saugrinte_figures *figures, size_t *count,
+                                uint8_t systems[ROOM], uint8_t codes[ROOM], uint32_t parts[ROOM])
 {
     contents read;
     split found;
     saugrinte_answer answer = parse(sheet, length, &read);
     if (answer.number)
         return answer;
-    if (read.count == 0)
-        return find(read.amounts, ROUNDS, figures, &found);
-    return rate_records(read.amounts, read.systems, read.codes, read.parts, figures);
+    answer = read.count == 0 ? find(read.amounts, ROUNDS, figures, &found)
+                             : rate_records(read.amounts, read.systems, read.codes, read.parts, figures);
+    if (answer.number == 0)
+        put_records(read.count == 0 ? &found : NULL, count, systems, codes, parts);
+    return answer;
 }
 
-saugrinte_answer saugrinte_search(const uint32_t amounts[CODES], uint32_t allowance, int64_t figures[3],
-                                  uint8_t systems[ROOM], uint8_t codes[ROOM], uint32_t parts[ROOM])
+saugrinte_answer saugrinte_search(const uint32_t amounts[CODES], uint32_t allowance, saugrinte_figures *figures,
+                                  size_t *count, uint8_t systems[ROOM], uint8_t codes[ROOM], uint32_t parts[ROOM])
 {
     split found;
     saugrinte_answer answer = check(amounts);
     if (answer.number)
         return answer;
     answer = find(amounts, allowance < ROUNDS ? allowance : ROUNDS, figures, &found);
-    if (answer.number)
-        return answer;
-    memset(systems, 0, ROOM);
-    memset(codes, 0, ROOM);
-    memset(parts, 0, ROOM * sizeof *parts);
-    for (int r = 0; r < RECORDS; r++) {
-        int i = r / MEMBERS, c = members[found.systems[i]][r % MEMBERS];
-        systems[r] = system_numbers[found.systems[i]];
-        codes[r] = split_codes[c];
-        parts[r] = found.amounts[i][c];
-    }
-    return done;
+    if (answer.number == 0)
+        put_records(&found, count, systems, codes, parts);
+    return answer;
 }
 
 saugrinte_answer saugrinte_rate_split(const uint32_t amounts[CODES], size_t count, const uint8_t systems[ROOM],
-                                      const uint8_t codes[ROOM], const uint32_t parts[ROOM], int64_t figures[3])
+                                      const uint8_t codes[ROOM], const uint32_t parts[ROOM], saugrinte_figures *figures)
 {
     saugrinte_answer answer = check(amounts);
     if (answer.number)

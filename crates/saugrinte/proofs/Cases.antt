@@ -15,9 +15,9 @@ use Rattle.ternary.specs.declared.Partial.{Partial}
 use Rattle.ternary.specs.declared.Partial.the-variants as partial
 use Rattle.split.specs.declared.Answer.{Answer}
 use Rattle.split.specs.declared.Answer.the-variants.{Rated, Refused}
-use Rattle.split.specs.AnswerCases.{numberOf, codeOf, figuresOf}
+use Rattle.split.specs.AnswerCases.{numberOf, codeOf, figuresOf, heldOf}
 use Rattle.rating.specs.declared.Outcome.{Outcome}
-use Rattle.saugrinte.specs.Interface.{reply, codeIn, replyOf, columnOf, SmallFigures, partialReply, partialIn}
+use Rattle.saugrinte.specs.Interface.{reply, codeIn, replyOf, SmallFigures, partialReply, partialIn}
 use Rattle.saugrinte.specs.declared.Reply.{Reply}
 
 -- ---- the figures of a rating
@@ -46,11 +46,11 @@ module _ (x : Answer) (number place : ℕ) (e : x ≡ Refused number place) wher
   pub put-refused : (l : List ℤ) → (reply number place ≡ replyOf x) × (l ≡ figuresOf x l)
   put-refused l = (sym (ap replyOf e), sym (ap (λ (y : Answer). figuresOf y l) e))
 
-  pub column-left : (column l : List ℕ) → l ≡ columnOf x column l
-  column-left column l = sym (ap (λ (y : Answer). columnOf y column l) e)
+  pub left : {A : Type 0} → (new old : A) → old ≡ heldOf x new old
+  left new old = sym (ap (λ (y : Answer). heldOf y new old) e)
 
-pub column-put : (x : Answer) (w : ℤ) (s r : ℕ) → x ≡ Rated w s r → (column l : List ℕ) → column ≡ columnOf x column l
-column-put x w s r e column l = sym (ap (λ (y : Answer). columnOf y column l) e)
+pub put : (x : Answer) (w : ℤ) (s r : ℕ) → x ≡ Rated w s r → {A : Type 0} → (new old : A) → new ≡ heldOf x new old
+put x w s r e new old = sym (ap (λ (y : Answer). heldOf y new old) e)
 
 -- ---- number and place tell the code that 5 carries
 
@@ -79,10 +79,22 @@ module _ (f : ℕ → Answer) (x : Answer) (h : x ≡ f (codeOf x)) (r : Reply) 
   pub figures-are : (after before : List ℤ) → after ≡ figuresOf x before → after ≡ figuresOf (f (codeIn r)) before
   figures-are after before g = g ∙ ap (λ (y : Answer). figuresOf y before) answered
 
--- the same with a split
-module _ (f : ℕ → Outcome) (x : Outcome) (h : x ≡ f (codeOf (x .answer))) (r : Reply) (e : r ≡ replyOf (x .answer)) where
-  pub outcome-is : x ≡ f (codeIn r)
-  outcome-is = h ∙ ap f (sym (same-code (x .answer) r e))
+-- the same with a split: the reply and each buffer after a call, beside what it held
+abbrev Put : Outcome → Reply → (figures₀ figures : List ℤ) (count₀ count : ℕ) (systems₀ systems codes₀ codes parts₀ parts : List ℕ)
+    → Type 0
+Put x r figures₀ figures count₀ count systems₀ systems codes₀ codes parts₀ parts =
+    (r ≡ replyOf (x .answer))
+    × (figures ≡ figuresOf (x .answer) figures₀)
+    × (count ≡ heldOf (x .answer) (x .split .count) count₀)
+    × (systems ≡ heldOf (x .answer) (x .split .systems) systems₀)
+    × (codes ≡ heldOf (x .answer) (x .split .codes) codes₀)
+    × (parts ≡ heldOf (x .answer) (x .split .amounts) parts₀)
+
+module _ (f : ℕ → Outcome) (x : Outcome) (h : x ≡ f (codeOf (x .answer))) (r : Reply) (figures₀ figures : List ℤ) (count₀ count : ℕ) (systems₀ systems codes₀ codes parts₀ parts : List ℕ) (p : Put x r figures₀ figures count₀ count systems₀ systems codes₀ codes parts₀ parts) where
+  pub put-is : Put (f (codeIn r)) r figures₀ figures count₀ count systems₀ systems codes₀ codes parts₀ parts
+  put-is =
+      subst (λ (y : Outcome). Put y r figures₀ figures count₀ count systems₀ systems codes₀ codes parts₀ parts)
+      (h ∙ ap f (sym (same-code (x .answer) r (p .0)))) p
 
 -- ---- a partial number
 
@@ -90,6 +102,6 @@ pub partial-done : (x : Partial) (n : ℤ) → x ≡ partial.Number n → (old a
     → (reply 0 0 ≡ partialReply x) × (after ≡ partialIn x old)
 partial-done x n e old after h = (sym (ap partialReply e), h ∙ sym (ap (λ (y : Partial). partialIn y old) e))
 
-pub partial-refused : (x : Partial) (number : ℕ) → x ≡ partial.Refused number → (old : ℤ)
-    → (reply number 0 ≡ partialReply x) × (old ≡ partialIn x old)
-partial-refused x number e old = (sym (ap partialReply e), sym (ap (λ (y : Partial). partialIn y old) e))
+pub partial-refused : (x : Partial) (number : ℕ) → x ≡ partial.Refused number → (o : Reply) → o ≡ reply number 0 → (old : ℤ)
+    → (o ≡ partialReply x) × (old ≡ partialIn x old)
+partial-refused x number e o q old = (q ∙ sym (ap partialReply e), sym (ap (λ (y : Partial). partialIn y old) e))

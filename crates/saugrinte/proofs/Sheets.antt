@@ -21,7 +21,7 @@ use Rattle.sheet.specs.declared.Reading.the-variants as reading
 use Rattle.sheet.specs.declared.Sheet.{Sheet}
 use Rattle.sheet.specs.declared.Written.{Written}
 use Rattle.sheet.specs.declared.Written.the-variants.{Length, Refused}
-use Rattle.saugrinte.specs.Interface.{reply, codeIn, readReply, readColumn, readCount, writtenReply, writtenLength, size}
+use Rattle.saugrinte.specs.Interface.{reply, codeIn, readReply, readOr, writtenReply, writtenLength, size}
 use Rattle.saugrinte.specs.declared.Reply.{Reply}
 
 -- ---- writing: only 5 carries a code
@@ -30,6 +30,13 @@ carries : (t : Bool) (n len c : ℕ) → write.codeOf (ifElse t (Length len) (Re
     ≡ ifElse (eqb (write.numberOf (ifElse t (Length len) (Refused n (ifElse (eqb n 5) c 0)))) 5) c 0
 carries true n len c = refl
 carries false n len c = refl
+
+-- the writer's promise, of the split that it was given
+pub written-by : (a : List ℕ) (p q : Split) (b : List ℕ) (r : Written) (left : List ℕ) → p ≡ q
+    → r ≡ writtenOf a p (length b) (write.codeOf r) → left ≡ leftOf a p b → (write.numberOf r ≡ 5 → AtFault a (write.codeOf r))
+    → WrittenAs a q b r left
+written-by a p q b r left e x y z =
+    subst (λ (s : Split). WrittenAs a s b r left) e (record { answer = x; buffer = y; code = z })
 
 module _ (a : List ℕ) (p : Split) (b : List ℕ) (r : Written) (left : List ℕ) (w : WrittenAs a p b r left) where
   coded : write.codeOf r ≡ ifElse (eqb (write.numberOf r) 5) (write.codeOf r) 0
@@ -40,10 +47,11 @@ module _ (a : List ℕ) (p : Split) (b : List ℕ) (r : Written) (left : List �
       ∙ sym (ap (λ (x : Written). ifElse (eqb (write.numberOf x) 5) (write.codeOf r) 0) (w .answer))
 
   pub written-done : (n : ℕ) → r ≡ Length n → (old : ℕ)
-      → (reply 0 0 ≡ writtenReply (writtenOf a p (size b) 0)) × ((left ≡ leftOf a p b) × ((n ≡ writtenLength (writtenOf a p (size b) 0) old) × (_≡_ {A = ℕ} 0 5 → AtFault a 0)))
+      → ((reply 0 0 ≡ writtenReply (writtenOf a p (size b) 0)) × (left ≡ leftOf a p b) × (n ≡ writtenLength (writtenOf a p (size b) 0) old))
+      × (_≡_ {A = ℕ} 0 5 → AtFault a 0)
   written-done n e old =
       let f : writtenOf a p (length b) 0 ≡ Length n = ap (writtenOf a p (length b)) (sym (ap write.codeOf e)) ∙ sym (w .answer) ∙ e in
-      (sym (ap writtenReply f), (w .buffer, (sym (ap (λ (x : Written). writtenLength x old) f), λ (z : _≡_ {A = ℕ} 0 5). absurd (omega (arith, z)))))
+      ((sym (ap writtenReply f), w .buffer, sym (ap (λ (x : Written). writtenLength x old) f)), λ (z : _≡_ {A = ℕ} 0 5). absurd (omega (arith, z)))
 
   module _ (number code : ℕ) (e : r ≡ Refused number code) where
     same : write.codeOf r ≡ codeIn (reply number code)
@@ -52,21 +60,20 @@ module _ (a : List ℕ) (p : Split) (b : List ℕ) (r : Written) (left : List �
     answer-back : writtenOf a p (length b) (codeIn (reply number code)) ≡ Refused number code
     answer-back = ap (writtenOf a p (length b)) (sym same) ∙ sym (w .answer) ∙ e
 
-    pub written-refused : (old : ℕ)
-        → (reply number code ≡ writtenReply (writtenOf a p (size b) (codeIn (reply number code))))
-        × ((left ≡ leftOf a p b)
-        × ((old ≡ writtenLength (writtenOf a p (size b) (codeIn (reply number code))) old)
-        × (number ≡ 5 → AtFault a (codeIn (reply number code)))))
-    written-refused old = (
-      sym (ap writtenReply answer-back),
-      (
-        w .buffer,
-        (
-          sym (ap (λ (x : Written). writtenLength x old) answer-back),
-          λ (z : number ≡ 5). subst (AtFault a) same (w .code (ap write.numberOf e ∙ z)),
-        ),
-      ),
-    )
+    -- of the reply to a refused writing
+    module _ (o : Reply) (q : o ≡ reply number code) where
+      answer-then : writtenOf a p (length b) (codeIn o) ≡ Refused number code
+      answer-then = ap (λ (x : Reply). writtenOf a p (length b) (codeIn x)) q ∙ answer-back
+
+      pub written-refused : (old : ℕ)
+          → ((o ≡ writtenReply (writtenOf a p (size b) (codeIn o))) × (left ≡ leftOf a p b) × (old ≡ writtenLength (writtenOf a p (size b) (codeIn o)) old))
+          × (o .number ≡ 5 → AtFault a (codeIn o))
+      written-refused old = (
+        (q ∙ sym (ap writtenReply answer-then), w .buffer, sym (ap (λ (x : Written). writtenLength x old) answer-then)),
+        λ (z : o .number ≡ 5).
+            subst⁻¹ (λ (c : ℕ). AtFault a c) (ap codeIn q)
+            (subst (AtFault a) same (w .code (ap write.numberOf e ∙ ap (λ (x : Reply). x .number) (sym q) ∙ z))),
+      )
 
 -- ---- reading
 
@@ -85,11 +92,8 @@ module _ (s : List ℕ) (r : Sheet) (h : ReadAs s r) (number place code : ℕ) (
     pub reply-refused : o ≡ readReply (readOf s (codeIn o) .answer)
     reply-refused = q ∙ sym (ap readReply answer-is)
 
-    pub column-stays : (column l : List ℕ) → l ≡ readColumn (readOf s (codeIn o) .answer) column l
-    column-stays column l = sym (ap (λ (x : Reading). readColumn x column l) answer-is)
-
-    pub count-stays : (count old : ℕ) → old ≡ readCount (readOf s (codeIn o) .answer) count old
-    count-stays count old = sym (ap (λ (x : Reading). readCount x count old) answer-is)
+    pub stays : {A : Type 0} → (new old : A) → old ≡ readOr (readOf s (codeIn o) .answer) new old
+    stays new old = sym (ap (λ (x : Reading). readOr x new old) answer-is)
 
     pub read-fault : o .number ≡ 5 → FaultIn (getD s 0 0) s (codeIn o)
     read-fault z =
@@ -106,11 +110,8 @@ module _ (s : List ℕ) (r : Sheet) (h : ReadAs s r) (e : r .answer ≡ reading.
   pub read-done : reply 0 0 ≡ readReply (readOf s 0 .answer)
   read-done = sym (ap readReply good)
 
-  pub column-read : (column now l : List ℕ) → now ≡ column → now ≡ readColumn (readOf s 0 .answer) column l
-  column-read column now l q = q ∙ sym (ap (λ (x : Reading). readColumn x column l) good)
-
-  pub count-read : (count now old : ℕ) → now ≡ count → now ≡ readCount (readOf s 0 .answer) count old
-  count-read count now old q = q ∙ sym (ap (λ (x : Reading). readCount x count old) good)
+  pub is-read : {A : Type 0} → (new now old : A) → now ≡ new → now ≡ readOr (readOf s 0 .answer) new old
+  is-read new now old q = q ∙ sym (ap (λ (x : Reading). readOr x new old) good)
 
 -- the place is the code with 5, else the record's
 pub place-five : (number place code : ℕ) → number ≡ 5 → code ≡ read.placeOf (reading.Refused number place code)

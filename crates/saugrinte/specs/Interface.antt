@@ -2,7 +2,7 @@
 --
 -- A reply is an answer's number with its place, and a refusal leaves every buffer as it was: by what each case of the answer
 -- is, as the crate that has it says (`AnswerCases`, `PartialCases`, `ReadingCases`, `WrittenCases`). `x` is the answer of
--- the library's function, and `l` or `old` is what the buffer held.
+-- the library's function, and `old` is what the buffer held.
 use mathlib.Core.List.{List}
 use Prim.Native.Nat.{ℕ, _<_}
 use lib.Dec.{eqb}
@@ -21,6 +21,10 @@ use Rattle.split.specs.declared.Answer.{Answer}
 use Rattle.split.specs.declared.Answer.the-variants.{Rated, Refused}
 use Rattle.saugrinte.specs.declared.Reply.{Reply}
 
+-- the version, 1.0.0: 10000, 100 and 1 times its three figures
+abbrev pub VERSION : ℕ
+VERSION = 10000
+
 abbrev pub reply : ℕ → ℕ → Reply
 reply number place = record { number = number; place = place }
 
@@ -38,10 +42,6 @@ abbrev pub SmallFigures : Answer → Type 0
 SmallFigures (Rated rating spread rounds) = (natAbs rating < 9007199254740992) × (spread < 9007199254740992)
 SmallFigures (Refused number place) = Unit {0}
 
--- a column of the split found, beside a rating
-abbrev pub columnOf : Answer → List ℕ → List ℕ → List ℕ
-columnOf x column l = answer.heldOf x column l
-
 -- ---- a partial number
 
 abbrev pub partialReply : Partial → Reply
@@ -55,11 +55,9 @@ partialIn x old = partial.figuresOf x old
 abbrev pub readReply : Reading → Reply
 readReply x = reply (reading.numberOf x) (reading.placeOf x)
 
-abbrev pub readColumn : Reading → List ℕ → List ℕ → List ℕ
-readColumn x column l = reading.heldOf x column l
-
-abbrev pub readCount : Reading → ℕ → ℕ → ℕ
-readCount x count old = reading.heldOf x count old
+-- amounts, or a split's count or column
+abbrev pub readOr {ℓ} : {A : Type ℓ} → Reading → A → A → A
+readOr x new old = reading.heldOf x new old
 
 -- ---- writing
 

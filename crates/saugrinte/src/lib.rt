@@ -1,5 +1,5 @@
-// The C interface of include/saugrinte.h. An answer holds 0, or a refusal's number with its place; what a call leaves in
-// each buffer is in specs/Interface.antt.
+// The C interface of include/saugrinte.h. An answer holds 0, or a refusal's number with its place; what a call leaves
+// in each buffer is in specs/Interface.antt.
 //
 // No public function has a `requires`.
 ghost use mathlib.Core.Path.{_≡_};
@@ -11,9 +11,11 @@ ghost use Rattle.sheet.specs.declared.Reading.the-variants.{Refused};
 ghost use Rattle.ternary.specs.Answer.{partialOf};
 ghost use Rattle.whole.specs.Whole.{wholeNumber};
 ghost use Rattle.controller.specs.Record.{recordOf};
-ghost use Rattle.split.specs.AnswerCases.{numberOf, codeOf, figuresOf};
+ghost use Rattle.split.specs.AnswerCases.{numberOf, codeOf, figuresOf, heldOf};
 ghost use Rattle.rating.specs.Rate.{splitAnswer, searchOutcome, sheetOutcome};
-ghost use Rattle.saugrinte.specs.Interface.{SmallFigures, codeIn, replyOf, columnOf, partialReply, partialIn, readReply, readColumn, readCount, writtenReply, writtenLength, splitFrom, size};
+ghost use Rattle.saugrinte.specs.Interface.{VERSION, SmallFigures, reply, codeIn, replyOf, splitFrom, size};
+ghost use Rattle.saugrinte.specs.Interface.{partialReply, partialIn, readReply, readOr};
+ghost use Rattle.saugrinte.specs.Interface.{writtenReply, writtenLength};
 use analysis::Analysis;
 use analysis::CODES;
 use controller::ControllerRecord;
@@ -25,6 +27,9 @@ use sheet::Written;
 use split::Answer;
 use ternary::Partial;
 
+// The version, 1.0.0: 10000, 100 and 1 times its three figures.
+const VERSION: u32 = 10000;
+
 // Rating, spread and rounds.
 const FIGURES: usize = 3;
 
@@ -35,20 +40,35 @@ pub struct Reply {
     pub place: u32,
 }
 
+// The library's version.
+#[no_mangle]
+pub extern "C" fn saugrinte_version() -> u32
+    ensures { λ r. ⌜ r ≡ VERSION ⌝ }
+{
+    VERSION
+}
+
+// The rating of a sheet, with figures that fit.
+fn rated(sheet: &[u8]) -> Outcome
+    ensures { λ r. ⌜ (r ≡ sheetOutcome (now (sheet .entry)) (codeOf (r .answer)))
+        × (numberOf (r .answer) ≡ 5 → FaultIn (getD (now (sheet .entry)) 0 0) (now (sheet .entry)) (codeOf (r .answer)))
+        × SmallFigures (r .answer) ⌝ }
+{
+    rating::rate_sheet(sheet)
+}
+
 // The rating by the search, with figures that fit.
 fn searched(amounts: [u32; CODES], allowance: u32) -> Outcome
-    ensures { λ r. ⌜ r ≡ searchOutcome amounts allowance (codeOf (r .answer)) ⌝ }
-    ensures { λ r. ⌜ (numberOf (r .answer) ≡ 5 → AtFault amounts (codeOf (r .answer))) ⌝ }
-    ensures { λ r. ⌜ SmallFigures (r .answer) ⌝ }
+    ensures { λ r. ⌜ (r ≡ searchOutcome amounts allowance (codeOf (r .answer)))
+        × (numberOf (r .answer) ≡ 5 → AtFault amounts (codeOf (r .answer))) × SmallFigures (r .answer) ⌝ }
 {
     rating::rate_by_search(Analysis { amounts }, allowance)
 }
 
 // The rating of a proposed split, with figures that fit.
 fn proposed(amounts: [u32; CODES], split: Split) -> Answer
-    ensures { λ r. ⌜ r ≡ splitAnswer amounts split (codeOf r) ⌝ }
-    ensures { λ r. ⌜ (numberOf r ≡ 5 → AtFault amounts (codeOf r)) ⌝ }
-    ensures { λ r. ⌜ SmallFigures r ⌝ }
+    ensures { λ r. ⌜ (r ≡ splitAnswer amounts split (codeOf r))
+        × (numberOf r ≡ 5 → AtFault amounts (codeOf r)) × SmallFigures r ⌝ }
 {
     rating::rate_split(Analysis { amounts }, split)
 }
@@ -56,8 +76,7 @@ fn proposed(amounts: [u32; CODES], split: Split) -> Answer
 // The figures of a rating; a refusal leaves them.
 fn put_figures(answer: Answer, figures: &mut [i64; FIGURES]) -> Reply
     requires { ⌜ SmallFigures answer ⌝ }
-    ensures { λ r. ⌜ r ≡ replyOf answer ⌝ }
-    ensures { λ r. ⌜ now (figures .exit) ≡ figuresOf answer (now (figures .entry)) ⌝ }
+    ensures { λ r. ⌜ (r ≡ replyOf answer) × (now (figures .exit) ≡ figuresOf answer (now (figures .entry))) ⌝ }
 {
     match answer {
         Answer::Rated {
@@ -75,42 +94,79 @@ fn put_figures(answer: Answer, figures: &mut [i64; FIGURES]) -> Reply
     }
 }
 
-// The split beside a rating; a refusal leaves the columns.
+// The split beside a rating; a refusal leaves count and columns.
 fn put_split(
     answer: Answer,
     split: Split,
+    count: &mut usize,
     systems: &mut [u8; RECORDS],
     codes: &mut [u8; RECORDS],
     parts: &mut [u32; RECORDS],
 )
-    ensures { λ _. ⌜ now (systems .exit) ≡ columnOf answer (split .systems) (now (systems .entry)) ⌝ }
-    ensures { λ _. ⌜ now (codes .exit) ≡ columnOf answer (split .codes) (now (codes .entry)) ⌝ }
-    ensures { λ _. ⌜ now (parts .exit) ≡ columnOf answer (split .amounts) (now (parts .entry)) ⌝ }
+    ensures { λ _. ⌜ (now (count .exit) ≡ heldOf answer (split .count) (now (count .entry)))
+        × (now (systems .exit) ≡ heldOf answer (split .systems) (now (systems .entry)))
+        × (now (codes .exit) ≡ heldOf answer (split .codes) (now (codes .entry)))
+        × (now (parts .exit) ≡ heldOf answer (split .amounts) (now (parts .entry))) ⌝ }
 {
+    let found_count = split.count;
+    let found_systems = split.systems;
+    let found_codes = split.codes;
+    let found_parts = split.amounts;
     if let Answer::Rated {
         rating: _,
         spread: _,
         rounds: _,
     } = answer {
-        let found_systems = split.systems;
-        let found_codes = split.codes;
-        let found_parts = split.amounts;
+        *count = found_count;
         *systems = found_systems;
         *codes = found_codes;
         *parts = found_parts;
     }
 }
 
+// A rating's figures and the split found; a refusal leaves every buffer.
+fn put_outcome(
+    x: Outcome,
+    figures: &mut [i64; FIGURES],
+    count: &mut usize,
+    systems: &mut [u8; RECORDS],
+    codes: &mut [u8; RECORDS],
+    parts: &mut [u32; RECORDS],
+) -> Reply
+    requires { ⌜ SmallFigures (x .answer) ⌝ }
+    ensures { λ r. ⌜ (r ≡ replyOf (x .answer))
+        × (now (figures .exit) ≡ figuresOf (x .answer) (now (figures .entry)))
+        × (now (count .exit) ≡ heldOf (x .answer) (x .split .count) (now (count .entry)))
+        × (now (systems .exit) ≡ heldOf (x .answer) (x .split .systems) (now (systems .entry)))
+        × (now (codes .exit) ≡ heldOf (x .answer) (x .split .codes) (now (codes .entry)))
+        × (now (parts .exit) ≡ heldOf (x .answer) (x .split .amounts) (now (parts .entry))) ⌝ }
+{
+    let answer = x.answer;
+    let split = x.split;
+    put_split(answer, split, count, systems, codes, parts);
+    put_figures(answer, figures)
+}
+
 // Rates a sheet.
 #[no_mangle]
-pub extern "C" fn saugrinte_rate(sheet: &[u8], figures: &mut [i64; FIGURES]) -> Reply
-    ensures { λ r. ⌜ r ≡ replyOf (sheetOutcome (now (sheet .entry)) (codeIn r) .answer) ⌝ }
-    ensures { λ r. ⌜ now (figures .exit) ≡ figuresOf (sheetOutcome (now (sheet .entry)) (codeIn r) .answer) (now (figures .entry)) ⌝ }
+pub extern "C" fn saugrinte_rate(
+    sheet: &[u8],
+    figures: &mut [i64; FIGURES],
+    count: &mut usize,
+    systems: &mut [u8; RECORDS],
+    codes: &mut [u8; RECORDS],
+    parts: &mut [u32; RECORDS],
+) -> Reply
+    ensures { λ r. let x = sheetOutcome (now (sheet .entry)) (codeIn r) in ⌜ (r ≡ replyOf (x .answer))
+        × (now (figures .exit) ≡ figuresOf (x .answer) (now (figures .entry)))
+        × (now (count .exit) ≡ heldOf (x .answer) (x .split .count) (now (count .entry)))
+        × (now (systems .exit) ≡ heldOf (x .answer) (x .split .systems) (now (systems .entry)))
+        × (now (codes .exit) ≡ heldOf (x .answer) (x .split .codes) (now (codes .entry)))
+        × (now (parts .exit) ≡ heldOf (x .answer) (x .split .amounts) (now (parts .entry))) ⌝ }
     ensures { λ r. ⌜ (r .number ≡ 5 → FaultIn (getD (now (sheet .entry)) 0 0) (now (sheet .entry)) (codeIn r)) ⌝ }
 {
-    let outcome = rating::rate_sheet(sheet);
-    let answer = outcome.answer;
-    put_figures(answer, figures)
+    let outcome = rated(sheet);
+    put_outcome(outcome, figures, count, systems, codes, parts)
 }
 
 // Rates an analysis by the search.
@@ -119,23 +175,39 @@ pub extern "C" fn saugrinte_search(
     amounts: &[u32; CODES],
     allowance: u32,
     figures: &mut [i64; FIGURES],
+    count: &mut usize,
     systems: &mut [u8; RECORDS],
     codes: &mut [u8; RECORDS],
     parts: &mut [u32; RECORDS],
 ) -> Reply
-    ensures { λ r. ⌜ r ≡ replyOf (searchOutcome (now (amounts .entry)) allowance (codeIn r) .answer) ⌝ }
-    ensures { λ r. ⌜ now (figures .exit) ≡ figuresOf (searchOutcome (now (amounts .entry)) allowance (codeIn r) .answer) (now (figures .entry)) ⌝ }
-    ensures { λ r. ⌜ now (systems .exit) ≡ columnOf (searchOutcome (now (amounts .entry)) allowance (codeIn r) .answer) (searchOutcome (now (amounts .entry)) allowance (codeIn r) .split .systems) (now (systems .entry)) ⌝ }
-    ensures { λ r. ⌜ now (codes .exit) ≡ columnOf (searchOutcome (now (amounts .entry)) allowance (codeIn r) .answer) (searchOutcome (now (amounts .entry)) allowance (codeIn r) .split .codes) (now (codes .entry)) ⌝ }
-    ensures { λ r. ⌜ now (parts .exit) ≡ columnOf (searchOutcome (now (amounts .entry)) allowance (codeIn r) .answer) (searchOutcome (now (amounts .entry)) allowance (codeIn r) .split .amounts) (now (parts .entry)) ⌝ }
+    ensures { λ r. let x = searchOutcome (now (amounts .entry)) allowance (codeIn r) in ⌜ (r ≡ replyOf (x .answer))
+        × (now (figures .exit) ≡ figuresOf (x .answer) (now (figures .entry)))
+        × (now (count .exit) ≡ heldOf (x .answer) (x .split .count) (now (count .entry)))
+        × (now (systems .exit) ≡ heldOf (x .answer) (x .split .systems) (now (systems .entry)))
+        × (now (codes .exit) ≡ heldOf (x .answer) (x .split .codes) (now (codes .entry)))
+        × (now (parts .exit) ≡ heldOf (x .answer) (x .split .amounts) (now (parts .entry))) ⌝ }
     ensures { λ r. ⌜ (r .number ≡ 5 → AtFault (now (amounts .entry)) (codeIn r)) ⌝ }
 {
     let gas = *amounts;
-    let outcome = searched(gas, allowance);
-    let answer = outcome.answer;
-    let split = outcome.split;
-    put_split(answer, split, systems, codes, parts);
-    put_figures(answer, figures)
+    let found = searched(gas, allowance);
+    put_outcome(found, figures, count, systems, codes, parts)
+}
+
+// The split that a count and three columns are.
+fn split_from(
+    count: usize,
+    systems: &[u8; RECORDS],
+    codes: &[u8; RECORDS],
+    parts: &[u32; RECORDS],
+) -> Split
+    ensures { λ r. ⌜ r ≡ splitFrom count (now (systems .entry)) (now (codes .entry)) (now (parts .entry)) ⌝ }
+{
+    Split {
+        count,
+        systems: *systems,
+        codes: *codes,
+        amounts: *parts,
+    }
 }
 
 // Rates an analysis with a proposed split.
@@ -148,16 +220,12 @@ pub extern "C" fn saugrinte_rate_split(
     parts: &[u32; RECORDS],
     figures: &mut [i64; FIGURES],
 ) -> Reply
-    ensures { λ r. ⌜ r ≡ replyOf (splitAnswer (now (amounts .entry)) (splitFrom count (now (systems .entry)) (now (codes .entry)) (now (parts .entry))) (codeIn r)) ⌝ }
-    ensures { λ r. ⌜ now (figures .exit) ≡ figuresOf (splitAnswer (now (amounts .entry)) (splitFrom count (now (systems .entry)) (now (codes .entry)) (now (parts .entry))) (codeIn r)) (now (figures .entry)) ⌝ }
+    ensures { λ r. let p = splitFrom count (now (systems .entry)) (now (codes .entry)) (now (parts .entry)) in
+        let x = splitAnswer (now (amounts .entry)) p (codeIn r) in ⌜ (r ≡ replyOf x)
+        × (now (figures .exit) ≡ figuresOf x (now (figures .entry))) ⌝ }
     ensures { λ r. ⌜ (r .number ≡ 5 → AtFault (now (amounts .entry)) (codeIn r)) ⌝ }
 {
-    let split = Split {
-        count,
-        systems: *systems,
-        codes: *codes,
-        amounts: *parts,
-    };
+    let split = split_from(count, systems, codes, parts);
     let gas = *amounts;
     let answer = proposed(gas, split);
     put_figures(answer, figures)
@@ -172,8 +240,8 @@ pub extern "C" fn saugrinte_partial_number(
     n3: u32,
     number: &mut i64,
 ) -> Reply
-    ensures { λ r. ⌜ r ≡ partialReply (partialOf system n1 n2 n3) ⌝ }
-    ensures { λ r. ⌜ now (number .exit) ≡ partialIn (partialOf system n1 n2 n3) (now (number .entry)) ⌝ }
+    ensures { λ r. let x = partialOf system n1 n2 n3 in ⌜ (r ≡ partialReply x)
+        × (now (number .exit) ≡ partialIn x (now (number .entry))) ⌝ }
 {
     let partial = ternary::partial_number(system, n1, n2, n3);
     match partial {
@@ -184,11 +252,15 @@ pub extern "C" fn saugrinte_partial_number(
                 place: 0,
             }
         }
-        Partial::Refused(refusal) => Reply {
-            number: refusal,
-            place: 0,
-        },
+        Partial::Refused(refusal) => refused(refusal, 0),
     }
+}
+
+// A refusal's reply.
+fn refused(number: u32, place: u32) -> Reply
+    ensures { λ r. ⌜ r ≡ reply number place ⌝ }
+{
+    Reply { number, place }
 }
 
 // Reads a sheet.
@@ -201,12 +273,12 @@ pub extern "C" fn saugrinte_read(
     codes: &mut [u8; RECORDS],
     parts: &mut [u32; RECORDS],
 ) -> Reply
-    ensures { λ r. ⌜ r ≡ readReply (readOf (now (sheet .entry)) (codeIn r) .answer) ⌝ }
-    ensures { λ r. ⌜ now (amounts .exit) ≡ readColumn (readOf (now (sheet .entry)) (codeIn r) .answer) (readOf (now (sheet .entry)) (codeIn r) .analysis .amounts) (now (amounts .entry)) ⌝ }
-    ensures { λ r. ⌜ now (count .exit) ≡ readCount (readOf (now (sheet .entry)) (codeIn r) .answer) (readOf (now (sheet .entry)) (codeIn r) .split .count) (now (count .entry)) ⌝ }
-    ensures { λ r. ⌜ now (systems .exit) ≡ readColumn (readOf (now (sheet .entry)) (codeIn r) .answer) (readOf (now (sheet .entry)) (codeIn r) .split .systems) (now (systems .entry)) ⌝ }
-    ensures { λ r. ⌜ now (codes .exit) ≡ readColumn (readOf (now (sheet .entry)) (codeIn r) .answer) (readOf (now (sheet .entry)) (codeIn r) .split .codes) (now (codes .entry)) ⌝ }
-    ensures { λ r. ⌜ now (parts .exit) ≡ readColumn (readOf (now (sheet .entry)) (codeIn r) .answer) (readOf (now (sheet .entry)) (codeIn r) .split .amounts) (now (parts .entry)) ⌝ }
+    ensures { λ r. let x = readOf (now (sheet .entry)) (codeIn r) in ⌜ (r ≡ readReply (x .answer))
+        × (now (amounts .exit) ≡ readOr (x .answer) (x .analysis .amounts) (now (amounts .entry)))
+        × (now (count .exit) ≡ readOr (x .answer) (x .split .count) (now (count .entry)))
+        × (now (systems .exit) ≡ readOr (x .answer) (x .split .systems) (now (systems .entry)))
+        × (now (codes .exit) ≡ readOr (x .answer) (x .split .codes) (now (codes .entry)))
+        × (now (parts .exit) ≡ readOr (x .answer) (x .split .amounts) (now (parts .entry))) ⌝ }
     ensures { λ r. ⌜ (r .number ≡ 5 → FaultIn (getD (now (sheet .entry)) 0 0) (now (sheet .entry)) (codeIn r)) ⌝ }
 {
     let read = reader::read(sheet);
@@ -254,18 +326,14 @@ pub extern "C" fn saugrinte_write(
     buffer: &mut [u8],
     length: &mut usize,
 ) -> Reply
-    ensures { λ r. ⌜ r ≡ writtenReply (writtenOf (now (amounts .entry)) (splitFrom count (now (systems .entry)) (now (codes .entry)) (now (parts .entry))) (size (now (buffer .entry))) (codeIn r)) ⌝ }
-    ensures { λ r. ⌜ now (buffer .exit) ≡ leftOf (now (amounts .entry)) (splitFrom count (now (systems .entry)) (now (codes .entry)) (now (parts .entry))) (now (buffer .entry)) ⌝ }
-    ensures { λ r. ⌜ now (length .exit) ≡ writtenLength (writtenOf (now (amounts .entry)) (splitFrom count (now (systems .entry)) (now (codes .entry)) (now (parts .entry))) (size (now (buffer .entry))) (codeIn r)) (now (length .entry)) ⌝ }
+    ensures { λ r. let p = splitFrom count (now (systems .entry)) (now (codes .entry)) (now (parts .entry)) in
+        let x = writtenOf (now (amounts .entry)) p (size (now (buffer .entry))) (codeIn r) in ⌜ (r ≡ writtenReply x)
+        × (now (buffer .exit) ≡ leftOf (now (amounts .entry)) p (now (buffer .entry)))
+        × (now (length .exit) ≡ writtenLength x (now (length .entry))) ⌝ }
     ensures { λ r. ⌜ (r .number ≡ 5 → AtFault (now (amounts .entry)) (codeIn r)) ⌝ }
 {
-    let split = Split {
-        count,
-        systems: *systems,
-        codes: *codes,
-        amounts: *parts,
-    };
-    let written = writer::write(Analysis { amounts: *amounts }, split, buffer);
+    let given = split_from(count, systems, codes, parts);
+    let written = writer::write(Analysis { amounts: *amounts }, given, buffer);
     match written {
         Written::Length(n) => {
             *length = n;
@@ -274,10 +342,7 @@ pub extern "C" fn saugrinte_write(
                 place: 0,
             }
         }
-        Written::Refused { number, code } => Reply {
-            number,
-            place: code,
-        },
+        Written::Refused { number, code } => refused(number, code),
     }
 }
 

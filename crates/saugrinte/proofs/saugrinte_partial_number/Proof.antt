@@ -16,14 +16,17 @@ enum-known-partial c = search needs
 enum-known-partial-2 : tie.Need-enum-known-partial-2
 enum-known-partial-2 c = search needs
 
+refused-requires : tie.Need-refused-requires
+refused-requires c κs = search needs
+
 returns : tie.Need-returns
 returns c = partial-done _ _ (sym (c .before .before .before .partial-number .ensures .0) ∙ c .before .partial .given .1) _ _
     (toZ-ofZ w64 _ (search needs))
 
 returns-2 : tie.Need-returns-2
-returns-2 c = partial-refused _ _ (sym (c .before .before .before .partial-number .ensures .0) ∙ c .before .partial2 .given .1) _
+returns-2 c = partial-refused _ _ (sym (c .before .before .before .before .partial-number .ensures .0) ∙ c .before .before .partial2 .given .1) _ (c .refused .ensures) _
 
 pub saugrinte-partial-number-spec : {M : Type 1} → statement M
 saugrinte-partial-number-spec =
     tie.close
-    (tie.spec partial-number-requires enum-known-partial enum-known-partial-2 returns returns-2)
+    (tie.spec partial-number-requires enum-known-partial enum-known-partial-2 refused-requires returns returns-2)

@@ -4,7 +4,7 @@ use native.Mathlib.Omega.{arith}
 use Prim.Native.Nat.{ℕ}
 use Rattle.sheet.specs.Read.{ReadAs}
 use Rattle.sheet.specs.declared.Sheet.{Sheet}
-use Rattle.saugrinte.proofs.Sheets.{whole, read-done, column-read, count-read, reply-refused, column-stays, count-stays, read-fault}
+use Rattle.saugrinte.proofs.Sheets.{whole, read-done, is-read, reply-refused, stays, read-fault}
 use borrow.Author.Needs.{needs}
 use Rattle.saugrinte.proofs.saugrinte_read.Statement.{statement}
 use Rattle.saugrinte.proofs.saugrinte_read.Tie as tie
@@ -25,23 +25,15 @@ returns c =
     let e = c .before .before .answer .given .1 in
     let o = c .read-refused .result in
     let q = c .read-refused .ensures in (
-      reply-refused _ _ h _ _ _ e o q,
       (
-        column-stays _ _ h _ _ _ e o q _ _,
-        (
-          count-stays _ _ h _ _ _ e o q _ _,
-          (
-            column-stays _ _ h _ _ _ e o q _ _,
-            (
-              column-stays _ _ h _ _ _ e o q _ _,
-              (
-                column-stays _ _ h _ _ _ e o q _ _,
-                read-fault _ _ h _ _ _ e o q,
-              ),
-            ),
-          ),
-        ),
+        reply-refused _ _ h _ _ _ e o q,
+        stays _ _ h _ _ _ e o q _ _,
+        stays _ _ h _ _ _ e o q _ _,
+        stays _ _ h _ _ _ e o q _ _,
+        stays _ _ h _ _ _ e o q _ _,
+        stays _ _ h _ _ _ e o q _ _,
       ),
+      read-fault _ _ h _ _ _ e o q,
     )
 
 enum-told : tie.Need-enum-told
@@ -53,23 +45,15 @@ returns-2 c =
     let h : ReadAs (c .before .before .before .before .before .before .before .before .args .sheet .now) (r .result) = record { sheet = r .ensures .0; code = r .ensures .1 } in
     let e = c .before .before .before .before .enum-told .given .1 in
     let w = whole _ _ h e in (
-      read-done _ _ h e,
       (
-        column-read _ _ h e _ _ _ (ap (λ (x : Sheet). x .analysis .amounts) w),
-        (
-          count-read _ _ h e _ _ _ (ap (λ (x : Sheet). x .split .count) w),
-          (
-            column-read _ _ h e _ _ _ (ap (λ (x : Sheet). x .split .systems) w),
-            (
-              column-read _ _ h e _ _ _ (ap (λ (x : Sheet). x .split .codes) w),
-              (
-                column-read _ _ h e _ _ _ (ap (λ (x : Sheet). x .split .amounts) w),
-                λ (z : _≡_ {A = ℕ} 0 5). absurd (omega (arith, z)),
-              ),
-            ),
-          ),
-        ),
+        read-done _ _ h e,
+        is-read _ _ h e _ _ _ (ap (λ (x : Sheet). x .analysis .amounts) w),
+        is-read _ _ h e _ _ _ (ap (λ (x : Sheet). x .split .count) w),
+        is-read _ _ h e _ _ _ (ap (λ (x : Sheet). x .split .systems) w),
+        is-read _ _ h e _ _ _ (ap (λ (x : Sheet). x .split .codes) w),
+        is-read _ _ h e _ _ _ (ap (λ (x : Sheet). x .split .amounts) w),
       ),
+      λ (z : _≡_ {A = ℕ} 0 5). absurd (omega (arith, z)),
     )
 
 pub saugrinte-read-spec : {M : Type 1} → statement M

@@ -1,0 +1,108 @@
+#!/usr/bin/env python3
+"""The header's constants against the library's sources, its definitions and the papers' words.
+
+  python3 tests/header.py
+
+Compared: the version, the sizes, the greatest allowance, each refusal with its word (README.md has document 01's
+table), each component code with its name in the register, and that the library has the functions that the header
+declares.
+"""
+import os
+import re
+import sys
+
+ROOT = os.path.join(os.path.dirname(os.path.abspath(__file__)), '..')
+RETIRED, SPLITS_ONLY = 'retired', 'splitsOnly'
+OTHER_ROOM = {'LISTED': 12, 'LONGEST_SPLIT': 21}     # what SAUGRINTE_SHEET leaves room for (requests Five and Seven)
+
+
+def text(*path):
+    with open(os.path.join(ROOT, *path), encoding='utf-8') as f:
+        return f.read()
+
+
+def fail(what):
+    sys.exit('header: ' + what)
+
+
+def same(name, *found):
+    """Every figure is there, and all are alike."""
+    if None in found or len(set(found)) != 1:
+        fail('%s differs: %s' % (name, ', '.join(map(str, found))))
+    return found[0]
+
+
+def constant(crate, name):
+    """A number that the crate's source has as `const NAME`."""
+    got = re.search(r'^(?:pub )?const %s: \w+ = ([0-9]+);' % name, text('crates', crate, 'src', 'lib.rt'), re.M)
+    return int(got.group(1)) if got else None
+
+
+def definition(crate, file, name):
+    """A number that a definition of the crate gives as `NAME = ..`."""
+    got = re.search(r'^%s = ([0-9]+)$' % name, text('crates', crate, 'specs', file), re.M)
+    return int(got.group(1)) if got else None
+
+
+def upper(words):
+    return re.sub('[^A-Z0-9]+', '_', words.upper()).strip('_')
+
+
+def sheet_bytes(sizes):
+    """The bytes of the longest sheet by the source's own sum, with these figures in place of the source's."""
+    source = text('crates', 'sheet', 'src', 'lib.rt')
+    rule = re.search(r'^pub const SHEET: usize = ([A-Z_0-9+* ]+);', source, re.M).group(1)
+    return eval(re.sub('[A-Z_]+', lambda m: str(sizes.get(m.group(), constant('sheet', m.group()))), rule))
+
+
+def main():
+    header = text('include', 'saugrinte.h')
+    macros = {n: int(v) for n, v in re.findall(r'^#define SAUGRINTE_([A-Z_]+) ([0-9]+)', header, re.M)}
+    enums = re.findall(r'enum \{(.*?)\};', header, re.S)
+    refusals, codes = ({n: int(v) for n, v in re.findall(r'SAUGRINTE_([A-Z_]+) = ([0-9]+)', body)} for body in enums)
+
+    same('the version', macros['VERSION'], constant('saugrinte', 'VERSION'),
+         definition('saugrinte', 'Interface.antt', 'VERSION'))
+    same('the size of an analysis', macros['CODES'], constant('analysis', 'CODES'),
+         definition('analysis', 'Register.antt', 'CODES'))
+    same('the room for records', macros['RECORDS'], constant('sheet', 'RECORDS'),
+         definition('sheet', 'Split.antt', 'RECORDS'), definition('split', 'Split.antt', 'RECORDS'))
+    same('the greatest allowance', macros['ROUNDS'], constant('rating', 'ROUNDS'),
+         definition('rating', 'Rate.antt', 'ROUNDS'))
+    same('the room for a sheet', macros['SHEET'], sheet_bytes(OTHER_ROOM))
+    longest = int(re.search(r'the longest today has ([0-9]+)', header).group(1))
+    same('the longest sheet', longest, sheet_bytes({}))
+    if re.search(r'\[(?!SAUGRINTE_CODES\]|SAUGRINTE_RECORDS\]|k\]|i\])', header):
+        fail('an array without its named size')
+
+    # refusals: README has document 01's table
+    words = {int(n): w for n, w in re.findall(r'^\| ([0-9]+) \| ([a-z ]+) \|', text('README.md'), re.M)}
+    if refusals.pop('DONE') != 0 or refusals != {upper(w): n for n, w in words.items()}:
+        fail('other refusals than in README.md: %s' % refusals)
+    for name, n in refusals.items():
+        if not re.search(r'SAUGRINTE_%s = %d,? +/\* %s: ' % (name, n, words[n]), header):
+            fail('refusal %d is without its word' % n)
+    if sorted(words) != list(range(1, len(words) + 1)):
+        fail('refusals are not numbered from 1')
+
+    # component codes: the register's entries, each under its name
+    register = text('crates', 'analysis', 'specs', 'Register.antt')
+    entries = re.findall(r'-- ([^\n]+)\n    entry ([0-9]+) \(?(\w+)', register)
+    wanted = {upper(name.split()[0] if status == SPLITS_ONLY else name): int(code)
+              for name, code, status in entries if status != RETIRED}
+    if codes != wanted or len(entries) != int(entries[-1][1]):
+        fail('other codes than in the register: %s' % codes)
+    if max(codes.values()) >= macros['CODES']:
+        fail('a code without a place in an analysis')
+
+    # functions
+    declared = set(re.findall(r'^\w+ (saugrinte_\w+)\(', header, re.M))
+    exported = set(re.findall(r'extern "C" fn (saugrinte_\w+)\(', text('crates', 'saugrinte', 'src', 'lib.rt')))
+    if declared != exported:
+        fail('functions of the header or of the library alone: %s' % sorted(declared ^ exported))
+    print('header: version %d, %d sizes, %d refusals, %d codes and %d functions are the library\'s' % (
+        macros['VERSION'], len(macros) - 1, len(refusals), len(codes), len(declared)))
+
+
+if __name__ == '__main__':
+    main()
