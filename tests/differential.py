@@ -1,15 +1,16 @@
 #!/usr/bin/env python3
-"""Compares a driver (tests/driver.c, linked with the library) with the reference, case by case.
+"""Compares drivers (tests/driver.c, linked with the library or the plain C program) with the reference, case by case.
 
-  python3 tests/differential.py DRIVER                  100000 sheets and what belongs to them
-  python3 tests/differential.py DRIVER --long N SEED    N sheets of another seed
-  ... --brief                                           the last line only
-  ... --jobs N                                          processes at once; as many as processors if not said
-  ... --wait                                            the driver is being built meanwhile: its cases wait for it
+  python3 tests/differential.py DRIVER..                  100000 sheets and what belongs to them
+  python3 tests/differential.py DRIVER.. --long N SEED    N sheets of another seed
+  ... --brief                                             the last line only
+  ... --jobs N                                            processes at once; as many as processors if not said
+  ... --wait                                              the drivers are being built meanwhile: cases wait for them
 
 Seeded and repeatable, whatever the number of processes. Every answer and every buffer byte is compared, guards around
 the buffers included; a found split is put back as a proposed one; the distance of ratings from the exact fraction
-stays below 40 units. Ends with 1 at the first difference and prints that case.
+stays below 40 units. Ends with 1 at the first difference and prints that case; also where, of 100000 sheets or more,
+a kind of case or a refusal's number occurred too seldom (LEAST).
 """
 import argparse
 import itertools
@@ -332,21 +333,28 @@ def call_cases(cases, seed, sheets):
     """The single calls; so many for so many sheets."""
     draw = gases.Draw(seed + 1)
     for analysis, allowance in itertools.islice(gases.search_cases(seed), sheets // 200):
+        kind = 'search, allowance ' + ('0' if allowance == 0 else 'to 4000' if allowance <= 4000 else 'above 4000')
         if draw.one_in(32):
-            analysis = at_no_code(draw, analysis)
-        cases.search('search', analysis, allowance, search(analysis, allowance))
+            kind, analysis = 'search, amount at no code', at_no_code(draw, analysis)
+        cases.search(kind, analysis, allowance, search(analysis, allowance))
     for kind, analysis, records in itertools.islice(gases.split_cases(seed), sheets // 10):
+        kind = 'rate split ' + kind
         if draw.one_in(32):
-            analysis = at_no_code(draw, analysis)
+            kind, analysis = 'rate split, amount at no code', at_no_code(draw, analysis)
         count = draw.pick((0, 1, 8, 10, 21, 22, 255, U64 - 1)) if draw.one_in(32) else 9
-        cases.split('rate split', analysis, count, records, rate_split(analysis, count, records))
+        if count != 9:
+            kind = 'rate split, another count'
+        cases.split(kind, analysis, count, records, rate_split(analysis, count, records))
     for case in itertools.islice(gases.partial_cases(seed), sheets // 5):
-        cases.partial('partial number', *case)
+        cases.partial('partial number, ' + ('%d' % case[0] if case[0] in ref.TABLE_SYSTEMS else 'no system'), *case)
     for analysis, records, room in itertools.islice(gases.writer_cases(seed), sheets // 20):
+        kind = 'write, a split' if records else 'write, no split'
         if draw.one_in(32):
-            analysis = at_no_code(draw, analysis)
+            kind, analysis = 'write, amount at no code', at_no_code(draw, analysis)
         count = draw.pick((1, 8, 10, 21, 22, 255, U64 - 1)) if draw.one_in(32) else 9 if records else 0
-        cases.write('write', analysis, count, records, room, room)
+        if count not in (0, 9):
+            kind = 'write, another count'
+        cases.write(kind, analysis, count, records, room, room)
     for analysis, records, _ in itertools.islice(gases.writer_cases(seed + 2), sheets // 500):
         need = len(ref.layout(analysis, records))
         cases.write('write, every room', analysis, 9 if records else 0, records, 0, need + 3)
@@ -398,51 +406,61 @@ def await_driver(driver):
         time.sleep(0.1)
 
 
-def run(driver, lines, *options):
+def run(driver, lines, *options, under=()):
     with tempfile.TemporaryFile() as given:
         given.write(''.join(line + '\n' for line in lines).encode())
         given.seek(0)
         try:
-            got = subprocess.run([driver, *options], stdin=given, stdout=subprocess.PIPE, text=True, timeout=SECONDS)
+            got = subprocess.run([*under, driver, *options], stdin=given, stdout=subprocess.PIPE, text=True, timeout=SECONDS)
         except subprocess.TimeoutExpired:
             raise Difference('the driver has not ended after %d seconds' % SECONDS) from None
     return got.returncode, got.stdout.split('\n')[:-1]
 
 
-def compare(driver, cases, tally):
-    """Runs the cases and ends at the first difference."""
+def compare(driver, cases, tally, *options, under=()):
+    """Runs the cases, under another program where one is named, and ends at the first difference."""
     lines = [line for _, line, _ in cases.items]
-    status, printed = run(driver, lines)
+    status, printed = run(driver, lines, *options, under=under)
     if status != 0:
-        status, printed = run(driver, lines, '--flush')
+        status, printed = run(driver, lines, '--flush', *options, under=under)
     at = 0
     for kind, line, expected in cases.items:
         for one in expected:
             if at >= len(printed):
-                raise Difference('the driver ended with status %s at this case (%s):\n  %s' % (status, kind, line))
+                raise Difference('%s ended with status %s at this case (%s):\n  %s' % (driver, status, kind, line))
             if not one.agrees(printed[at]):
-                raise Difference('%s differs\n  case      %s\n  reference %s\n  driver    %s'
-                                 % (kind, line, one, printed[at]))
+                raise Difference('%s differs (%s)\n  case      %s\n  reference %s\n  driver    %s'
+                                 % (kind, driver, line, one, printed[at]))
             tally[kind, one.number] = tally.get((kind, one.number), 0) + 1
             at += 1
     if at != len(printed) or status != 0:
-        raise Difference('the driver printed %d lines for %d, status %s' % (len(printed), at, status))
+        raise Difference('%s printed %d lines for %d, status %s' % (driver, len(printed), at, status))
+
+
+def part_cases(seed, sheets, first):
+    """The cases of one part, and the ratings compared with the exact fraction."""
+    exact, cases = Exact(seed), Cases()
+    if first:
+        kept_cases(cases, exact)
+    seldom_cases(cases, exact, seed)
+    call_cases(cases, seed, sheets)
+    for kind, sheet in itertools.islice(gases.sheets(seed, SEARCH_ONE_IN), sheets):
+        sheet_cases(cases, exact, kind, sheet)
+    return cases, exact
 
 
 def part(job):
-    """One part: (difference or None, tally, exact ratings compared, farthest)."""
-    driver, seed, sheets, first, wait = job
-    tally, exact, cases = {}, Exact(seed), Cases()
+    """One part: (difference or None, tally, exact ratings compared, farthest). The reference's answers are worked out
+    once, for all drivers; the tally is that of one of them."""
+    drivers, seed, sheets, first, wait = job
+    tally = {}
     try:
-        if first:
-            kept_cases(cases, exact)
-        seldom_cases(cases, exact, seed)
-        call_cases(cases, seed, sheets)
-        for kind, sheet in itertools.islice(gases.sheets(seed, SEARCH_ONE_IN), sheets):
-            sheet_cases(cases, exact, kind, sheet)
-        if wait:
-            await_driver(driver)
-        compare(driver, cases, tally)
+        cases, exact = part_cases(seed, sheets, first)
+        for driver in drivers:
+            if wait:
+                await_driver(driver)
+            tally = {}
+            compare(driver, cases, tally)
     except Difference as difference:
         return '%s\n  (seed %d of this part)' % (difference, seed), tally, 0, 0
     return None, tally, exact.count, float(exact.farthest)
@@ -455,16 +473,117 @@ def show(tally):
     print("(after the colon the count, before it the refusal's number, 0 for an answer)")
 
 
+# ------------------------------------------------------------ how often each kind of case must occur
+
+# Of DEFAULT_SHEETS sheets: for each kind the numbers (0 for an answer) and how often at least, about half of what the
+# seed gives; of the cases kept in tests/data all.
+LEAST = {
+    # sheets without a split
+    'search even_gas': {0: 300, 11: 5},
+    'search limit_gas': {0: 150, 11: 20},
+    'search rich_gas': {0: 40, 11: 100},
+    'search small_gas': {0: 500},
+    'search tie_gas': {0: 150},
+    'inert at a half': {0: 200},
+    'fitness tie': {0: 50},
+    'found': {0: 2000},
+    'found, put back': {0: 2000},
+    'found, put back as a sheet': {0: 2000},
+    # sheets with a split
+    'split all-zero': {8: 900},
+    'split border': {0: 900, 10: 900},
+    'split empty': {9: 1000, 10: 400},
+    'split misfit': {0: 100, 7: 1500, 10: 100},
+    'split miss': {8: 900},
+    'split miss-by-one': {8: 900},
+    'split near': {0: 1000, 10: 1500},
+    'split other-gas': {7: 60, 8: 900},
+    'split put-back': {0: 1500},
+    'split start': {10: 900},
+    'split wide': {10: 900},
+    'split wrap': {8: 1500},
+    # damaged sheets
+    'codes': {0: 80, 2: 1500, 3: 1500, 4: 3000, 5: 500, 6: 300, 7: 300, 8: 500, 11: 40},
+    'count above 11': {1: 200},
+    'flipped': {0: 40, 1: 150, 2: 300, 3: 30, 4: 150, 5: 800, 6: 300, 7: 300, 8: 600},
+    'range': {0: 80, 5: 4000, 6: 600, 7: 300, 8: 300, 11: 5},
+    'torn': {0: 200, 1: 5000, 7: 80},
+    'total': {0: 150, 5: 70, 6: 1000, 7: 80, 8: 1000, 11: 20},
+    'wild': {1: 1000, 2: 500, 3: 250, 4: 300, 5: 250},
+    # all of them read, and the good ones written again
+    'read': {0: 20000, 1: 7000, 2: 2000, 3: 2000, 4: 4000, 5: 6000, 6: 2500},
+    'write back': {0: 20000},
+    # single calls
+    'search, allowance 0': {11: 30},
+    'search, allowance above 4000': {0: 40, 11: 5},
+    'search, allowance to 4000': {0: 60, 5: 3, 6: 2, 11: 60},
+    'search, amount at no code': {5: 5},
+    'rate split all-zero': {8: 200},
+    'rate split border': {0: 200, 10: 200},
+    'rate split empty': {9: 300, 10: 100},
+    'rate split misfit': {0: 30, 7: 400, 10: 30},
+    'rate split miss': {8: 200},
+    'rate split miss-by-one': {8: 200},
+    'rate split near': {0: 300, 5: 20, 6: 10, 10: 300},
+    'rate split other-gas': {7: 10, 8: 200},
+    'rate split put-back': {0: 400},
+    'rate split start': {10: 200},
+    'rate split wide': {10: 200},
+    'rate split wrap': {8: 400},
+    'rate split, amount at no code': {5: 150},
+    'rate split, another count': {7: 100},
+    'partial number, 2': {0: 1000, 12: 400},
+    'partial number, 4': {0: 1000, 12: 400},
+    'partial number, 7': {0: 1000, 12: 400},
+    'partial number, 8': {0: 1000, 12: 400},
+    'partial number, 20': {0: 1000, 12: 400},
+    'partial number, no system': {13: 1000},
+    'write, no split': {0: 250, 5: 40, 6: 20, 14: 200},
+    'write, a split': {0: 700, 5: 100, 6: 70, 14: 800},
+    'write, amount at no code': {5: 70},
+    'write, another count': {1: 70},
+    'write, every room': {0: 300, 5: 900, 6: 400, 14: 7000},
+    'controller': {0: 5000},
+    'whole number': {0: 2500},
+    # kept in tests/data
+    'spread at the limit': {0: 4, 10: 4},
+    'kept: ends-at-500000': {0: 21, 11: 3},
+    'kept: needs-more-than-4000': {11: 32},
+    'kept: needs-stride-1': {0: 56, 11: 8},
+    'kept: passes-500001': {0: 28, 11: 4},
+    'kept: would-empty': {11: 24},
+}
+# Each number from 0 to 14, of all kinds together; and ratings compared with the exact fraction.
+LEAST_NUMBERS = (70000, 15000, 4000, 4000, 8000, 10000, 6000, 3000, 9000, 1500, 6000, 400, 2000, 1000, 8000)
+LEAST_EXACT = 3000
+
+
+def too_few(tally, compared):
+    """A line for each kind of case, or number, that occurred less often than LEAST and LEAST_NUMBERS say."""
+    for kind in sorted({k for k, _ in tally} - set(LEAST)):
+        yield '%s: LEAST has no such kind' % kind
+    for kind, numbers in LEAST.items():
+        for number, least in numbers.items():
+            if tally.get((kind, number), 0) < least:
+                yield '%s, number %d: %d times, not %d' % (kind, number, tally.get((kind, number), 0), least)
+    for number, least in enumerate(LEAST_NUMBERS):
+        times = sum(n for (_, other), n in tally.items() if other == number)
+        if times < least:
+            yield 'number %d: %d times, not %d' % (number, times, least)
+    if compared < LEAST_EXACT:
+        yield 'ratings compared with the exact fraction: %d, not %d' % (compared, LEAST_EXACT)
+
+
 def main():
     parser = argparse.ArgumentParser()
-    parser.add_argument('driver')
+    parser.add_argument('drivers', metavar='DRIVER', nargs='+')
     parser.add_argument('--long', nargs=2, type=int, metavar=('N', 'SEED'))
     parser.add_argument('--brief', action='store_true')
     parser.add_argument('--jobs', type=int, default=os.cpu_count() or 1)
     parser.add_argument('--wait', action='store_true')
     options = parser.parse_args()
     sheets, seed = options.long or (DEFAULT_SHEETS, DEFAULT_SEED)
-    jobs = [(options.driver, seed * 100000 + i, min(PART, sheets - i * PART), i == 0, options.wait)
+    jobs = [(options.drivers, seed * 100000 + i, min(PART, sheets - i * PART), i == 0, options.wait)
             for i in range(-(-sheets // PART))]
     begin, tally, compared, farthest = time.time(), {}, 0, 0
     with multiprocessing.Pool(options.jobs) as pool:
@@ -476,8 +595,12 @@ def main():
             compared, farthest = compared + exact, max(farthest, far)
     if not options.brief:
         show(tally)
-    print('differential: %d sheets of seed %d, %d calls in all, no difference; %d ratings at most %.2f units from exact; '
-          '%.0f s' % (sheets, seed, sum(tally.values()), compared, farthest, time.time() - begin))
+    missed = list(too_few(tally, compared)) if sheets >= DEFAULT_SHEETS else []
+    if missed:
+        sys.exit('differential: cases that occurred too seldom\n  ' + '\n  '.join(missed))
+    print('differential: %d sheets of seed %d, %d calls in all of each of %d drivers, no difference; %d ratings at most '
+          '%.2f units from exact; %.0f s'
+          % (sheets, seed, sum(tally.values()), len(options.drivers), compared, farthest, time.time() - begin))
 
 
 if __name__ == '__main__':

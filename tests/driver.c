@@ -10,12 +10,15 @@
      controller RATING SPREAD
      whole      RATING
      version                                             (the header's, then the library's)
+     touch      LENGTH AT                                (calls nothing: reads byte AT of LENGTH bytes that are lent)
    AMOUNTS is 16 times four bytes, high byte first; RECORDS up to 21 times system, code and four bytes, and the places
    left over hold FILL.
 
    An answer is number, place, then every buffer of the call in base sixteen, in the header's order: first filled
    with FILL, GUARD bytes before and after it included. Numbers in buffers stand high byte first. With --flush each
-   line is printed at once, so that the last one shows where a call did not return. */
+   line is printed at once, so that the last one shows where a call did not return. With --exact every buffer that is
+   lent, to read or to write, is a block of just its size, so that a memory checker sees a step beyond it; the guards
+   are then printed as FILL. */
 #include <stddef.h>
 #include <stdio.h>
 #include <stdlib.h>
@@ -35,9 +38,12 @@ _Static_assert(offsetof(saugrinte_figures, rounds) == 2 * sizeof(int64_t), "then
 _Static_assert(sizeof(saugrinte_answer) == 8 && offsetof(saugrinte_answer, place) == 4, "number and place");
 _Static_assert(sizeof(saugrinte_record) == 16 && offsetof(saugrinte_record, spread) == 8, "two doubles");
 
+static size_t guard = GUARD;            /* 0 with --exact */
+
 /* A buffer with its guards. */
 typedef struct {
     size_t size;
+    int fill;
     uint8_t *all;
 } region;
 
@@ -47,9 +53,10 @@ static void fail(const char *why, const char *line)
     exit(2);
 }
 
+/* A block of just this size; also of none, where malloc gives a pointer that may not be read. */
 static void *reserve(size_t size)
 {
-    void *got = malloc(size ? size : 1);
+    void *got = malloc(size);
     if (!got)
         fail("no memory", "");
     return got;
@@ -57,14 +64,14 @@ static void *reserve(size_t size)
 
 static region filled(size_t size, int fill)
 {
-    region r = { size, reserve(size + 2 * GUARD) };
-    memset(r.all, fill, size + 2 * GUARD);
+    region r = { size, fill, reserve(size + 2 * guard) };
+    memset(r.all, fill, size + 2 * guard);
     return r;
 }
 
 static void *at(region r)
 {
-    return r.all + GUARD;
+    return r.all + guard;
 }
 
 static void put_byte(uint8_t byte)
@@ -79,13 +86,27 @@ static void put(region r, size_t width)
 {
     putchar(' ');
     for (size_t i = 0; i < GUARD; i++)
-        put_byte(r.all[i]);
+        put_byte(guard ? r.all[i] : r.fill);
     for (size_t i = 0; i < r.size; i += width)
         for (size_t j = width; j > 0; j--)
-            put_byte(r.all[GUARD + i + j - 1]);
+            put_byte(r.all[guard + i + j - 1]);
     for (size_t i = 0; i < GUARD; i++)
-        put_byte(r.all[GUARD + r.size + i]);
+        put_byte(guard ? r.all[guard + r.size + i] : r.fill);
     free(r.all);
+}
+
+/* Lends a call what it only reads: a copy in a block of just its size. */
+static void *lend(const void *from, size_t size)
+{
+    return memcpy(reserve(size), from, size);
+}
+
+/* What was lent must stand as it was. */
+static void give_back(void *lent, const void *from, size_t size)
+{
+    if (memcmp(lent, from, size))
+        printf(" INPUT CHANGED");
+    free(lent);
 }
 
 static void put_answer(saugrinte_answer answer)
@@ -128,7 +149,6 @@ static int digit(char c)
     return 0;
 }
 
-/* Bytes in a block of just their size, so that a memory checker sees a read past it. */
 static uint8_t *bytes(size_t *length)
 {
     char *w = word();
@@ -184,21 +204,34 @@ typedef struct {
     records split;
 } gas;
 
-/* A gas from the line, and a copy of all its bytes. */
-static void gas_words(gas *g, gas *before, int fill)
+static void gas_words(gas *g, int fill)
 {
     memset(g, 0, sizeof *g);
     g->count = (size_t)number();
     amounts_word(g->amounts);
     g->split = records_word(fill);
-    memcpy(before, g, sizeof *g);
 }
 
-/* What a call was given must stand as it was. */
-static void same(const void *now, const void *before, size_t size)
+/* The arrays of a gas as they are lent. */
+typedef struct {
+    uint32_t *amounts;
+    uint8_t *systems, *codes;
+    uint32_t *parts;
+} lent_gas;
+
+static lent_gas lend_gas(const gas *g)
 {
-    if (size && memcmp(now, before, size))
-        printf(" INPUT CHANGED");
+    lent_gas l = { lend(g->amounts, sizeof g->amounts), lend(g->split.systems, sizeof g->split.systems),
+                   lend(g->split.codes, sizeof g->split.codes), lend(g->split.parts, sizeof g->split.parts) };
+    return l;
+}
+
+static void give_back_gas(lent_gas l, const gas *g)
+{
+    give_back(l.amounts, g->amounts, sizeof g->amounts);
+    give_back(l.systems, g->split.systems, sizeof g->split.systems);
+    give_back(l.codes, g->split.codes, sizeof g->split.codes);
+    give_back(l.parts, g->split.parts, sizeof g->split.parts);
 }
 
 /* The buffers of a split, and their printing. */
@@ -227,74 +260,71 @@ static void rate(void)
 {
     int fill = fill_byte();
     size_t length;
-    uint8_t *sheet = bytes(&length), *kept = reserve(length);
-    memcpy(kept, sheet, length);
+    uint8_t *sheet = bytes(&length), *lent = lend(sheet, length);
     region figures = filled(sizeof(saugrinte_figures), fill);
     columns c = filled_columns(fill);
-    put_answer(saugrinte_rate(sheet, length, at(figures), at(c.count), at(c.systems), at(c.codes), at(c.parts)));
+    put_answer(saugrinte_rate(lent, length, at(figures), at(c.count), at(c.systems), at(c.codes), at(c.parts)));
     put(figures, 8);
     put_columns(c);
-    same(sheet, kept, length);
+    give_back(lent, sheet, length);
     free(sheet);
-    free(kept);
 }
 
 static void read_sheet(void)
 {
     int fill = fill_byte();
     size_t length;
-    uint8_t *sheet = bytes(&length), *kept = reserve(length);
-    memcpy(kept, sheet, length);
+    uint8_t *sheet = bytes(&length), *lent = lend(sheet, length);
     region amounts = filled(4 * CODES, fill);
     columns c = filled_columns(fill);
-    put_answer(saugrinte_read(sheet, length, at(amounts), at(c.count), at(c.systems), at(c.codes), at(c.parts)));
+    put_answer(saugrinte_read(lent, length, at(amounts), at(c.count), at(c.systems), at(c.codes), at(c.parts)));
     put(amounts, 4);
     put_columns(c);
-    same(sheet, kept, length);
+    give_back(lent, sheet, length);
     free(sheet);
-    free(kept);
 }
 
 static void search(void)
 {
     int fill = fill_byte();
-    uint32_t allowance = (uint32_t)number(), amounts[CODES], kept[CODES];
+    uint32_t allowance = (uint32_t)number(), amounts[CODES];
     amounts_word(amounts);
-    memcpy(kept, amounts, sizeof kept);
+    uint32_t *lent = lend(amounts, sizeof amounts);
     region figures = filled(sizeof(saugrinte_figures), fill);
     columns c = filled_columns(fill);
-    put_answer(saugrinte_search(amounts, allowance, at(figures), at(c.count), at(c.systems), at(c.codes), at(c.parts)));
+    put_answer(saugrinte_search(lent, allowance, at(figures), at(c.count), at(c.systems), at(c.codes), at(c.parts)));
     put(figures, 8);
     put_columns(c);
-    same(amounts, kept, sizeof kept);
+    give_back(lent, amounts, sizeof amounts);
 }
 
 static void split(void)
 {
     int fill = fill_byte();
-    gas g, before;
-    gas_words(&g, &before, fill);
+    gas g;
+    gas_words(&g, fill);
+    lent_gas l = lend_gas(&g);
     region figures = filled(sizeof(saugrinte_figures), fill);
-    put_answer(saugrinte_rate_split(g.amounts, g.count, g.split.systems, g.split.codes, g.split.parts, at(figures)));
+    put_answer(saugrinte_rate_split(l.amounts, g.count, l.systems, l.codes, l.parts, at(figures)));
     put(figures, 8);
-    same(&g, &before, sizeof g);
+    give_back_gas(l, &g);
 }
 
 static void write_sheet(void)
 {
     int fill = fill_byte();
-    gas g, before;
-    gas_words(&g, &before, fill);
+    gas g;
+    gas_words(&g, fill);
     size_t low = (size_t)number(), high = (size_t)number();
     if (high > ROOM)
         fail("too large a room", line);
     for (size_t room = low; room <= high; room++) {
+        lent_gas l = lend_gas(&g);
         region buffer = filled(room, fill), length = filled(sizeof(size_t), fill);
-        put_answer(saugrinte_write(g.amounts, g.count, g.split.systems, g.split.codes, g.split.parts, at(buffer), room,
-                                   at(length)));
+        put_answer(saugrinte_write(l.amounts, g.count, l.systems, l.codes, l.parts, at(buffer), room, at(length)));
         put(buffer, 1);
         put(length, sizeof(size_t));
-        same(&g, &before, sizeof g);
+        give_back_gas(l, &g);
         if (room < high)
             putchar('\n');
     }
@@ -330,15 +360,30 @@ static void version(void)
     printf("%lu %lu", (unsigned long)SAUGRINTE_VERSION, (unsigned long)saugrinte_version());
 }
 
+/* Whether a memory checker sees a step beyond what is lent can be tried with this. */
+static void touch(void)
+{
+    size_t length = (size_t)number(), step = (size_t)number();
+    volatile uint8_t *lent = memset(reserve(length), 0, length);
+    (void)lent[step];
+    free((void *)lent);
+    putchar('0');
+}
+
 int main(int count, char **words)
 {
     static const struct { const char *name; void (*call)(void); } calls[] = {
         { "rate", rate }, { "read", read_sheet }, { "search", search }, { "split", split },
         { "write", write_sheet }, { "partial", partial }, { "controller", controller }, { "whole", whole },
-        { "version", version },
+        { "version", version }, { "touch", touch },
     };
-    if (count > 1 && !strcmp(words[1], "--flush"))
-        setvbuf(stdout, NULL, _IOLBF, 0);
+    for (int i = 1; i < count; i++)
+        if (!strcmp(words[i], "--flush"))
+            setvbuf(stdout, NULL, _IOLBF, 0);
+        else if (!strcmp(words[i], "--exact"))
+            guard = 0;
+        else
+            fail("no such option", words[i]);
     while (fgets(line, sizeof line, stdin)) {
         if (!strchr(line, '\n'))
             fail("a line is too long", line);

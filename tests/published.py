@@ -4,16 +4,20 @@ number and the difference beside each.
 
   python3 tests/published.py DRIVER [--brief] [--wait]       --wait: the driver is being built meanwhile
 
-A difference from a published number is no failure: the papers solve for equal partial numbers, and the search ends
-within 0.05. A difference between driver and reference ends with 1, as does a figure that the scope fixes.
+A small difference from a published number is no failure: the papers solve for equal partial numbers, and the search
+ends within 0.05. A difference of 1 or more ends with 1, as does one between driver and reference, a figure that the
+scope fixes and is another, and fewer examples than there are.
 """
 import os
 import sys
+from decimal import Decimal
 
 import differential as d
 from differential import ref
 
 DATA = os.path.join(d.HERE, 'data')
+BOUND = 1                   # each difference from a published number is smaller
+GASES, COMPARED = 27, 13    # examples at least, and those of them with a published number that are rated
 
 
 def lines(name):
@@ -109,14 +113,19 @@ def main():
             sys.exit('published: %s' % difference)
     count = fixed(driver)
     answers = dict(line.split(' ', 1) for line in lines('published-answers.txt'))
-    cases, table, largest = d.Cases(), [], 0.0
+    cases, table, differences = d.Cases(), [], []
     for name, analysis, published in examples():
         result = example_cases(cases, analysis)
         if ref.display(result).strip() != answers[name]:
             sys.exit('published: published-answers.txt has another answer for ' + name)
         table.append(show(name, published, result))
         if published != '-' and not isinstance(result, ref.Refusal):
-            largest = max(largest, abs(result.rating / ref.UNITS - float(published)))
+            differences.append(abs(Decimal(result.rating) / ref.UNITS - Decimal(published)))
+            if differences[-1] >= BOUND:
+                sys.exit('published: %s is %s from the published number' % (name, differences[-1]))
+    if len(table) < GASES or len(differences) < COMPARED:
+        sys.exit('published: %d examples and %d published numbers, not %d and %d'
+                 % (len(table), len(differences), GASES, COMPARED))
     tally = {}
     try:
         d.compare(driver, cases, tally)
@@ -127,7 +136,7 @@ def main():
             'gas', 'published', 'ours', 'difference', 'whole', 'spread', 'rounds', 'systems'))
         print('\n'.join(table))
     print('published: %d gases and %d fixed figures, %d calls, driver and reference alike; at most %.2f from a '
-          'published number' % (len(table), count, sum(tally.values()) + count, largest))
+          'published number' % (len(table), count, sum(tally.values()) + count, max(differences)))
 
 
 if __name__ == '__main__':

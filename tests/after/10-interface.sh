@@ -1,13 +1,14 @@
 #!/usr/bin/env bash
 # The C interface: builds the library's archive, compiles the driver and the example against it with the header, and
-# compares the header's constants with the sources, its version with the library's, and what the example prints. SAUGRINTE_LIB names another archive or a C file to take in the archive's place.
-# The driver gets its name once it is whole: the other tests wait for it, or for a file `failed`.
+# compares the header's constants with the sources, its version with the library's, and what the example prints.
+# SAUGRINTE_LIB names another archive or a C file to take in the archive's place. The driver gets its name once it is
+# whole: the other tests wait for it, or for a file `failed`. So does a second driver, `plain`, of the plain C program.
 set -euo pipefail
 cd "$(dirname "$0")/../.."
 
 out=target/interface
 mkdir -p "$out"
-rm -f "$out/failed" "$out/driver"
+rm -f "$out/failed" "$out/driver" "$out/plain"
 trap 'status=$?; [ "$status" -eq 0 ] || touch "$out/failed"; exit "$status"' EXIT
 lib=${SAUGRINTE_LIB:-target/staticlib/libsaugrinte.a}
 if [ -z "${SAUGRINTE_LIB:-}" ]; then
@@ -17,14 +18,14 @@ fi
 warnings='-std=c11 -Wall -Wextra -Werror'
 gcc -O3 $warnings -Iinclude tests/driver.c "$lib" -o "$out/driver.new"
 mv "$out/driver.new" "$out/driver"
+gcc -O3 $warnings -Iinclude tests/driver.c tests/plain/saugrinte.c -o "$out/plain.new"
+mv "$out/plain.new" "$out/plain"
 gcc -O3 $warnings -Iinclude examples/rate.c "$lib" -o "$out/rate-example"
-echo '#include "saugrinte.h"' | gcc -x c++ -fsyntax-only -Wall -Wextra -Werror -Iinclude - 2>"$out/header.log" \
-  || { grep -q 'cc1plus' "$out/header.log" || { cat "$out/header.log"; exit 1; }
-       echo 'interface: no C++ compiler here, so the header was not tried with one'; }
+echo '#include "saugrinte.h"' | g++ -x c++ -fsyntax-only -Wall -Wextra -Werror -Iinclude -
 
 python3 tests/header.py
 said=$(echo version | "$out/driver")
-[ "${said% *}" = "${said#* }" ] || { echo "interface: versions of the header and of the library: $said"; exit 1; }
+[ "$said" = "${said#* } ${said#* }" ] || { echo "interface: versions of the header and of the library: $said"; exit 1; }
 "$out/rate-example" >"$out/rate.out"
 diff examples/rate.out "$out/rate.out" || { echo "interface: examples/rate.c prints something else than rate.out"; exit 1; }
-echo "interface: $lib, header, driver and example stand; the example prints examples/rate.out"
+echo "interface: $lib, header, drivers and example stand; the example prints examples/rate.out"

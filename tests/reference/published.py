@@ -2,13 +2,17 @@
 
 published.py          prints the tables; compares tests/data/published.txt and
                       published-answers.txt with what is made here
+published.py --brief  the same, and prints the last line only
 published.py --write  writes the two data files
 
-A difference from a published number is shown, and is no failure: 000 and 001
-solve for equal partial numbers, document 01 stops at 0.05.  Differences of 1
-or more, a changed refusal or a wrong choice fail.
+A small difference from a published number is shown, and is no failure: 000
+and 001 solve for equal partial numbers, document 01 stops at 0.05.
+Differences of 1 or more, a changed refusal or a wrong choice fail, as does a
+figure on the way that is farther away than stands beside it.
 """
 
+import contextlib
+import io
 import os
 import sys
 from decimal import Decimal
@@ -160,6 +164,8 @@ TIED = {"tie-me": (1, 0, 0, 0), "tie-ep": (0, 1, 0, 0), "tie-eb": (0, 1, 0, 0),
 
 
 def show_gases():
+    """The largest difference from a published number, and how many."""
+    differences = []
     print("%-16s %11s %9s %8s %5s %8s %6s  %s"
           % ("gas", "published", "ours", "diff", "whole", "spread", "rounds",
              "systems"))
@@ -186,18 +192,22 @@ def show_gases():
         difference = "-"
         if number != "-":
             difference = "%+.4f" % (ours - Decimal(number))
-            assert abs(ours - Decimal(number)) < 1, name
+            differences.append(abs(ours - Decimal(number)))
+            assert differences[-1] < 1, name
         print("%-16s %11s %9.4f %8s %5d %8.4f %6d  %s"
               % (name, number, ours, difference, got.whole,
                  Decimal(got.spread) / ref.UNITS, got.rounds, systems))
+    return max(differences), len(differences)
 
 
 def show_steps():
-    """Published intermediate figures beside ours."""
+    """Published intermediate figures beside ours; how many."""
+    shown = []
     print("\n%-44s %10s %10s" % ("step", "published", "ours"))
 
     def line(what, published, ours, within):
         assert abs(Decimal(published) - ours) <= Decimal(within), what
+        shown.append(what)
         print("%-44s %10s %10.4f" % (what, published, ours))
 
     def units(x):
@@ -246,6 +256,7 @@ def show_steps():
     ):
         line("%s, system %d at the published split" % (name, system),
              published, units(ref.partial_number(system, *n)), "0.01")
+    return len(shown)
 
 
 def gases_text():
@@ -271,11 +282,18 @@ def main(arguments):
             with open(path, "w") as f:
                 f.write(text)
         return
-    show_gases()
-    show_steps()
+    tables = io.StringIO()
+    with contextlib.redirect_stdout(tables):
+        largest, numbers = show_gases()
+        steps = show_steps()
+    if arguments != ["--brief"]:
+        print(tables.getvalue(), end="")
     for path, text in files:
         with open(path) as f:
             assert f.read() == text, "data file differs: " + path
+    print("reference: %d published numbers, at most %.2f away; %d figures on "
+          "the way; %d gases as in tests/data"
+          % (numbers, largest, steps, len(gases())))
 
 
 if __name__ == "__main__":
