@@ -22,6 +22,10 @@ echo '#include "saugrinte.h"' | gcc -x c++ -fsyntax-only -Wall -Wextra -Werror -
   || { grep -q 'cc1plus' "$out/header.log" || { cat "$out/header.log"; exit 1; }
        echo 'interface: no C++ compiler here, so the header was not tried with one'; }
 
+if [ -z "${SAUGRINTE_LIB:-}" ]; then
+  needs=$(nm -u "$lib" | sed -n 's/^ *U //p' | sort -u | tr '\n' ' ')
+  [ "$needs" = 'memcpy ' ] || { echo "interface: the archive needs $needs, the header says memcpy"; exit 1; }
+fi
 python3 tests/header.py
 said=$(echo version | "$out/driver")
 [ "${said% *}" = "${said#* }" ] || { echo "interface: versions of the header and of the library: $said"; exit 1; }
