@@ -17,10 +17,15 @@
    of up to 21 records, sheets of up to 188 bytes), so a caller takes a split's records by its count and a sheet by its
    length.
 
-   The functions keep nothing between calls, so several threads may call them at once. They use no heap and no floating
-   point but in saugrinte_controller, and call nothing but memcpy and memset. No pointer may be null, not even with a
-   length, room or count of 0; an array is given whole, whatever the count says; and no buffer that a call writes may
-   overlap another argument. */
+   The functions keep nothing between calls, so several threads may call them at once. They use no heap, no floating
+   point but in saugrinte_controller, and of a C library memcpy alone. No pointer may be null, not even with a length,
+   room or count of 0; an array is given whole, whatever the count says; and no buffer that a call writes may overlap
+   another argument.
+
+   Platform: the archive is for x86-64 Linux with its usual calling convention; the toolchain makes no other.
+   Stack, measured: saugrinte_rate and saugrinte_search 4 KiB, saugrinte_rate_split 2 KiB, all others 1 KiB at most.
+   Longest call, measured on an Intel Xeon (family 6, model 173): 1.5 ms for saugrinte_rate and saugrinte_search, of a
+   gas whose search uses all 4000 rounds; all others 1 microsecond. tests/bench/limits.c measures both. */
 #ifndef SAUGRINTE_H
 #define SAUGRINTE_H
 

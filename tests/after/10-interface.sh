@@ -23,6 +23,10 @@ mv "$out/plain.new" "$out/plain"
 gcc -O3 $warnings -Iinclude examples/rate.c "$lib" -o "$out/rate-example"
 echo '#include "saugrinte.h"' | g++ -x c++ -fsyntax-only -Wall -Wextra -Werror -Iinclude -
 
+if [ -z "${SAUGRINTE_LIB:-}" ]; then
+  needs=$(nm -u "$lib" | sed -n 's/^ *U //p' | sort -u | tr '\n' ' ')
+  [ "$needs" = 'memcpy ' ] || { echo "interface: the archive needs $needs, the header says memcpy"; exit 1; }
+fi
 python3 tests/header.py
 said=$(echo version | "$out/driver")
 [ "$said" = "${said#* } ${said#* }" ] || { echo "interface: versions of the header and of the library: $said"; exit 1; }
