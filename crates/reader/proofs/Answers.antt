@@ -15,46 +15,51 @@ use Rattle.analysis.specs.CheckedCases.{codeOf}
 use Rattle.analysis.specs.Check.{refusalOf, answerOf, Checking, AtFault}
 use Rattle.section.specs.declared.Section.{Section}
 use Rattle.section.specs.declared.Section.the-variants as found
-use Rattle.section.specs.Section.{sectionAt}
+use Rattle.section.specs.declared.Walked.{Walked}
+use Rattle.section.specs.Walk.{walkOf}
 use Rattle.sheet.specs.declared.Reading.the-variants.{Read, Refused}
 use Rattle.sheet.specs.declared.Sections.the-variants.{Torn, Both}
 use Rattle.sheet.specs.declared.Sheet.{Sheet}
 use Rattle.sheet.specs.Components.{refusalBy, codeRefusal, codesReading}
 use Rattle.sheet.specs.Split.{allowedCount}
-use Rattle.sheet.specs.Sheet.{withSplit, sectionsOf}
+use Rattle.sheet.specs.Sheet.{LISTED, withSplit, withComponents, judged, sectionsOf}
 use Rattle.sheet.specs.Read.{amountsOf, amountsRefusal, refusedSheet, contentOf, readOf, FaultIn, ReadAs}
 use Rattle.sheet.specs.Cases.{never, sectioned, read-torn, read-codes, read-amounts, read-good, amounts-zero, amounts-checked}
 use Rattle.reader.specs.Find.{ZeroRecord, AmountsRefused}
 
 -- ---- the two sections
 
-module _ (s : List ℕ) where
-  pub first-torn : sectionAt s 0 5 ≡ found.Torn → sectionsOf s ≡ Torn
+module _ (s : List ℕ) (w : Walked) (walked : w ≡ walkOf s 5 6) where
+  by-walk : sectionsOf s ≡ judged w
   unfolding sectionsOf
-  first-torn e = rw e
+  by-walk = ap judged (sym walked)
 
-  module _ (n f end : ℕ) (e : sectionAt s 0 5 ≡ found.Records n f end) where
-    pub too-many : 11 < n → sectionsOf s ≡ Torn
-    unfolding sectionsOf
-    too-many h = rw (e, lt-leb n 11 h)
+  pub first-torn : w .first ≡ found.Torn → sectionsOf s ≡ Torn
+  first-torn e = by-walk ∙ ap (λ (x : Section). withComponents x (w .second) (w .left)) e
 
-    module _ (few : n ≤ 11) where
-      on : sectionsOf s ≡ withSplit s n (sectionAt s end 6)
-      unfolding sectionsOf
-      on = rw (e, le-leb n 11 few)
+  module _ (n f end : ℕ) (e : w .first ≡ found.Records n f end) where
+    counted : sectionsOf s ≡ ifElse (leb n LISTED) (withSplit n (w .second) (w .left)) Torn
+    counted = by-walk ∙ ap (λ (x : Section). withComponents x (w .second) (w .left)) e
 
-      pub second-torn : sectionAt s end 6 ≡ found.Torn → sectionsOf s ≡ Torn
-      second-torn d = on ∙ ap (λ (x : Section). withSplit s n x) d
+    pub too-many : LISTED < n → sectionsOf s ≡ Torn
+    too-many h = counted ∙ rw (lt-leb n LISTED h)
 
-      module _ (m first last : ℕ) (d : sectionAt s end 6 ≡ found.Records m first last) where
+    module _ (few : n ≤ LISTED) where
+      on : {x : Section} → w .second ≡ x → sectionsOf s ≡ withSplit n x (w .left)
+      on d = counted ∙ rw (le-leb n LISTED few) (ap (λ (x : Section). withSplit n x (w .left)) d)
+
+      pub second-torn : w .second ≡ found.Torn → sectionsOf s ≡ Torn
+      second-torn d = on d
+
+      module _ (m first last : ℕ) (d : w .second ≡ found.Records m first last) where
         pub not-allowed : allowedCount m ≡ false → sectionsOf s ≡ Torn
-        not-allowed h = on ∙ ap (λ (x : Section). withSplit s n x) d ∙ rw h
+        not-allowed h = on d ∙ rw h
 
-        pub left-over : allowedCount m ≡ true → (last ≡ length s → ⊥) → sectionsOf s ≡ Torn
-        left-over h k = on ∙ ap (λ (x : Section). withSplit s n x) d ∙ rw (h, ne-eqb last (length s) k)
+        pub left-over : allowedCount m ≡ true → w .left ≡ true → sectionsOf s ≡ Torn
+        left-over h k = on d ∙ rw (h, k)
 
-        pub two-sections : allowedCount m ≡ true → last ≡ length s → sectionsOf s ≡ Both n m first
-        two-sections h k = on ∙ ap (λ (x : Section). withSplit s n x) d ∙ rw (h, eq-eqb last (length s) k)
+        pub two-sections : allowedCount m ≡ true → w .left ≡ false → sectionsOf s ≡ Both n m first
+        two-sections h k = on d ∙ rw (h, k)
 
 -- ---- the amounts
 

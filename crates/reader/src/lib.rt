@@ -38,15 +38,16 @@ fn amount_at(s: &[u8], at: usize) -> u32
     join(s[at], s[at + 1], s[at + 2], s[at + 3])
 }
 
-// The two sections, the second beginning where the first ends, and nothing after it.
+// The two sections that the sheet is walked over in, their counts allowed, and nothing after them.
 fn sections(s: &[u8]) -> Sections
     ensures { λ r. ⌜ r ≡ sectionsOf (now (s .entry)) ⌝ }
 {
-    let components = section::peek(s, 0, COMPONENT_BYTES as u8);
+    let walked = section::walk(s, COMPONENT_BYTES as u8, RECORD_BYTES as u8);
+    let components = walked.first;
     let Section::Records {
         count: n,
         first: _,
-        end,
+        end: _,
     } = components
     else {
         return Sections::Torn;
@@ -54,11 +55,11 @@ fn sections(s: &[u8]) -> Sections
     if LISTED < n {
         return Sections::Torn;
     }
-    let split = section::peek(s, end, RECORD_BYTES as u8);
+    let split = walked.second;
     let Section::Records {
         count: m,
         first,
-        end: last,
+        end: _,
     } = split
     else {
         return Sections::Torn;
@@ -67,13 +68,14 @@ fn sections(s: &[u8]) -> Sections
     if !allowed {
         return Sections::Torn;
     }
-    if last != s.len() {
-        return Sections::Torn;
-    }
-    Sections::Both {
-        components: n,
-        records: m,
-        first,
+    if walked.left {
+        Sections::Torn
+    } else {
+        Sections::Both {
+            components: n,
+            records: m,
+            first,
+        }
     }
 }
 

@@ -1,9 +1,11 @@
--- The two sections of the sheet 01 09 00 00 00 64 00, and what follows them. Assumes nothing.
+-- The two sections of the sheet 01 09 00 00 00 64 00, what follows them, and the walk over it. Assumes nothing.
 use mathlib.Core.Path.{_≡_, refl}
-use mathlib.Core.List.{List, [], _∷_}
+use mathlib.Core.Bool.{true, false}
+use mathlib.Core.List.{List, [], _∷_, _++_}
 use Prim.Native.Nat.{ℕ}
 use Rattle.section.specs.declared.Section.the-variants.{Records, Torn}
 use Rattle.section.specs.Section.{endAt, tornOr, sectionAt}
+use Rattle.section.specs.Walk.{walkOf}
 
 abbrev sheet : List ℕ
 sheet = 1 ∷ 9 ∷ 0 ∷ 0 ∷ 0 ∷ 100 ∷ 0 ∷ []
@@ -24,3 +26,16 @@ beyond = refl
 too-few : sectionAt sheet 0 7 ≡ Torn
 unfolding endAt tornOr sectionAt
 too-few = refl
+
+-- the walk finds both and nothing after them; a byte more is left; a byte less is too few
+walked : walkOf sheet 5 6 ≡ record { first = Records 1 1 6; second = Records 0 7 7; left = false }
+unfolding endAt tornOr sectionAt
+walked = refl
+
+one-more : walkOf (sheet ++ (0 ∷ [])) 5 6 ≡ record { first = Records 1 1 6; second = Records 0 7 7; left = true }
+unfolding endAt tornOr sectionAt
+one-more = refl
+
+one-less : walkOf (1 ∷ 9 ∷ 0 ∷ 0 ∷ 0 ∷ 100 ∷ []) 5 6 ≡ record { first = Records 1 1 6; second = Torn; left = false }
+unfolding endAt tornOr sectionAt
+one-less = refl

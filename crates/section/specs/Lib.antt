@@ -1,3 +1,4 @@
 pub mod Section
+pub mod Walk
 pub mod Laws
 pub mod Examples

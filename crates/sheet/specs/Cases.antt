@@ -6,12 +6,13 @@ use Prim.Native.Nat.{ℕ, zero, suc, _+_, _-_, _*_, _≤_, _<_}
 use native.Mathlib.Omega.{arith}
 use lib.ListN.{length, getD, drop, length-append}
 use lib.Dec.{eqb, leb}
-use borrow.Author.Tests.{eq-eqb, ne-eqb, le-leb, lt-leb, leb-true, leb-false, eqb-true, eqb-false}
+use borrow.Author.Tests.{eq-eqb, ne-eqb, le-leb, lt-leb, le-ltb, leb-true, leb-false, ltb-false, eqb-true, eqb-false}
 use Rattle.analysis.specs.Register.{CODES, unknown, register, statusIn, statusOf, ifElse}
 use Rattle.analysis.specs.Check.{refusalOf}
 use Rattle.section.specs.declared.Section.{Section}
 use Rattle.section.specs.declared.Section.the-variants as found
 use Rattle.section.specs.Section.{endAt, sectionAt}
+use Rattle.section.specs.Walk.{standsAfter, movedAt, leftAt}
 use Rattle.section.specs.Laws.{section-found, section-records}
 use Rattle.sheet.specs.declared.Reading.{Reading}
 use Rattle.sheet.specs.declared.Reading.the-variants.{Read, Refused}
@@ -58,34 +59,46 @@ pub record Sectioned (s : List ℕ) (n m first : ℕ) : Type 0 where
   pub size : length s ≡ 2 + COMPONENT_BYTES * n + RECORD_BYTES * m
 
 module _ (s : List ℕ) where
-  -- the second section, by cases
-  second-back : (n at : ℕ) (x : Section) → sectionAt s at 6 ≡ x → {k m first : ℕ} → withSplit s n x ≡ Both k m first
+  -- the second section and what follows it, by cases
+  second-back : (n at : ℕ) (x : Section) → sectionAt s at 6 ≡ x → {k m first : ℕ} → withSplit n x (leftAt s (standsAfter at x)) ≡ Both k m first
       → (k ≡ n) × (m ≡ getD s at 0) × (first ≡ at + 1) × (allowedCount m ≡ true) × (length s ≡ at + 1 + m * 6)
   unfolding endAt
   second-back n at found.Torn e h = let z : _≡_ {A = ℕ} 0 1 = cc in (absurd (never z), absurd (never z), absurd (never z), absurd (never z), absurd (never z))
-  second-back n at (found.Records m' first' end) e {k} {m} {first} h = go (allowedCount m') (eqb end (length s)) refl refl h
+  second-back n at (found.Records m' first' end) e {k} {m} {first} h = go (allowedCount m') (leftAt s end) refl refl
     where
-      go : (t u : Bool) → allowedCount m' ≡ t → eqb end (length s) ≡ u → ifElse t (ifElse u (Both n m' first') Torn) Torn ≡ Both k m first
+      go : (t u : Bool) → allowedCount m' ≡ t → leftAt s end ≡ u
           → (k ≡ n) × (m ≡ getD s at 0) × (first ≡ at + 1) × (allowedCount m ≡ true) × (length s ≡ at + 1 + m * 6)
-      go true true a b h =
+      go true false a b =
+          let w = rw (a, b) at h in
           let f = section-found s at 6 e in
           let p : m' ≡ m = cc in
           let q : first' ≡ first = cc in
           let r : n ≡ k = cc in
-          let d = eqb-true end (length s) b in
+          let d = ltb-false end (length s) b in
           let o = f .ends in
           let c = f .counted in
           let g = f .begins in
+          let l = f .within in
           (sym r, omega arith, omega arith, subst (λ (x : ℕ). allowedCount x ≡ true) p a, omega arith)
-      go true false a b h = let z : _≡_ {A = ℕ} 0 1 = cc in (absurd (never z), absurd (never z), absurd (never z), absurd (never z), absurd (never z))
-      go false u a b h = let z : _≡_ {A = ℕ} 0 1 = cc in (absurd (never z), absurd (never z), absurd (never z), absurd (never z), absurd (never z))
+      go true true a b =
+          let w = rw (a, b) at h in
+          let z : _≡_ {A = ℕ} 0 1 = cc in (absurd (never z), absurd (never z), absurd (never z), absurd (never z), absurd (never z))
+      go false u a b =
+          let w = rw a at h in
+          let z : _≡_ {A = ℕ} 0 1 = cc in (absurd (never z), absurd (never z), absurd (never z), absurd (never z), absurd (never z))
 
-  first-back : (x : Section) → sectionAt s 0 5 ≡ x → {n m first : ℕ} → withComponents s x ≡ Both n m first → Sectioned s n m first
+  -- the sections of a sheet whose first one is `x`
+  abbrev after : Section → Sections
+  after x =
+      let second = sectionAt s (standsAfter 0 x) 6 in
+      withComponents x second (leftAt s (standsAfter (standsAfter 0 x) second))
+
+  first-back : (x : Section) → sectionAt s 0 5 ≡ x → {n m first : ℕ} → after x ≡ Both n m first → Sectioned s n m first
   unfolding endAt
   first-back found.Torn e h = let z : _≡_ {A = ℕ} 0 1 = cc in absurd (never z)
   first-back (found.Records n' first' end) e {n} {m} {first} h = go (leb n' LISTED) refl h
     where
-      go : (t : Bool) → leb n' LISTED ≡ t → ifElse t (withSplit s n' (sectionAt s end 6)) Torn ≡ Both n m first → Sectioned s n m first
+      go : (t : Bool) → leb n' LISTED ≡ t → ifElse t (withSplit n' (sectionAt s end 6) (leftAt s (movedAt s end 6))) Torn ≡ Both n m first → Sectioned s n m first
       go true a h =
           let f = section-found s 0 5 e in
           let g = second-back n' end (sectionAt s end 6) refl h in
@@ -115,15 +128,15 @@ module _ (s : List ℕ) where
       let i : 0 + 1 + getD s 0 0 * 5 ≡ 1 + 5 * n = omega arith in
       let o : 1 + 5 * n + 1 + getD s (1 + 5 * n) 0 * 6 ≡ length s = omega arith in
       let j : 1 + 5 * n + 1 ≡ 2 + 5 * n = omega arith in
-      ap (λ (x : Section). withComponents s x) (section-records s 0 5 (omega arith))
-      ∙ ap (λ (k : ℕ). withComponents s (found.Records (getD s 0 0) 1 k)) i
-      ∙ ap (λ (k : ℕ). withComponents s (found.Records k 1 (1 + 5 * n))) en
-      ∙ ap (λ (t : Bool). ifElse t (withSplit s n (sectionAt s (1 + 5 * n) 6)) Torn) (le-leb n LISTED few)
-      ∙ ap (λ (x : Section). withSplit s n x) (section-records s (1 + 5 * n) 6 (omega arith))
-      ∙ ap (λ (k : ℕ). withSplit s n (found.Records (getD s (1 + 5 * n) 0) (1 + 5 * n + 1) k)) o
-      ∙ ap (λ (k : ℕ). withSplit s n (found.Records k (1 + 5 * n + 1) (length s))) em
-      ∙ ap (λ (k : ℕ). withSplit s n (found.Records m k (length s))) j
-      ∙ rw (allowed, eq-eqb (length s) (length s) refl)
+      ap after (section-records s 0 5 (omega arith))
+      ∙ ap (λ (k : ℕ). after (found.Records (getD s 0 0) 1 k)) i
+      ∙ ap (λ (k : ℕ). after (found.Records k 1 (1 + 5 * n))) en
+      ∙ ap (λ (t : Bool). ifElse t (withSplit n (sectionAt s (1 + 5 * n) 6) (leftAt s (movedAt s (1 + 5 * n) 6))) Torn) (le-leb n LISTED few)
+      ∙ ap (λ (x : Section). withSplit n x (leftAt s (standsAfter (1 + 5 * n) x))) (section-records s (1 + 5 * n) 6 (omega arith))
+      ∙ ap (λ (k : ℕ). withSplit n (found.Records (getD s (1 + 5 * n) 0) (1 + 5 * n + 1) k) (leftAt s k)) o
+      ∙ ap (λ (k : ℕ). withSplit n (found.Records k (1 + 5 * n + 1) (length s)) (leftAt s (length s))) em
+      ∙ ap (λ (k : ℕ). withSplit n (found.Records m k (length s)) (leftAt s (length s))) j
+      ∙ rw (allowed, le-ltb (length s) (length s) (omega arith))
 
 -- ---- reading
 

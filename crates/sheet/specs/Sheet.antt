@@ -1,12 +1,13 @@
 -- The sheet (document 01, "The register and the sheet"): its bytes, and its two sections. Assumes nothing.
 use Prim.Native.Nat.{ℕ, _+_, _*_}
+use mathlib.Core.Bool.{Bool}
 use mathlib.Core.List.{List, _∷_, _++_}
-use lib.ListN.{length}
-use lib.Dec.{leb, eqb}
+use lib.Dec.{leb}
 use Rattle.analysis.specs.Register.{ifElse}
 use Rattle.section.specs.declared.Section.{Section}
 use Rattle.section.specs.declared.Section.the-variants as found
-use Rattle.section.specs.Section.{sectionAt}
+use Rattle.section.specs.declared.Walked.{Walked}
+use Rattle.section.specs.Walk.{walkOf}
 use Rattle.sheet.specs.declared.Split.{Split}
 use Rattle.sheet.specs.declared.Sections.{Sections}
 use Rattle.sheet.specs.declared.Sections.the-variants.{Torn, Both}
@@ -27,15 +28,16 @@ SHEET = 2 + COMPONENT_BYTES * LISTED + RECORD_BYTES * LONGEST_SPLIT
 
 -- section by section: the components at the start, the split's records where those end, and nothing after the split; torn
 -- where a count is not allowed, bytes are missing or bytes are left over
-abbrev pub withSplit : List ℕ → ℕ → Section → Sections
-withSplit s n found.Torn = Torn
-withSplit s n (found.Records m first end) =
-    ifElse (allowedCount m) (ifElse (eqb end (length s)) (Both n m first) Torn) Torn
+abbrev pub withSplit : ℕ → Section → Bool → Sections
+withSplit n found.Torn left = Torn
+withSplit n (found.Records m first end) left = ifElse (allowedCount m) (ifElse left Torn (Both n m first)) Torn
 
-abbrev pub withComponents : List ℕ → Section → Sections
-withComponents s found.Torn = Torn
-withComponents s (found.Records n first end) =
-    ifElse (leb n LISTED) (withSplit s n (sectionAt s end RECORD_BYTES)) Torn
+abbrev pub withComponents : Section → Section → Bool → Sections
+withComponents found.Torn split left = Torn
+withComponents (found.Records n first end) split left = ifElse (leb n LISTED) (withSplit n split left) Torn
+
+abbrev pub judged : Walked → Sections
+judged w = withComponents (w .first) (w .second) (w .left)
 
 unfoldable pub sectionsOf : List ℕ → Sections
-sectionsOf s = withComponents s (sectionAt s 0 COMPONENT_BYTES)
+sectionsOf s = judged (walkOf s COMPONENT_BYTES RECORD_BYTES)

@@ -1,13 +1,18 @@
 -- `sheet::allowed_count` meets its contract. Assumes nothing.
-use Prim.Native.Nat.{_-_}
+use mathlib.Core.Path.{_≡_, sym}
+use mathlib.Core.Bool.{true}
+use Prim.Native.Nat.{ℕ, _-_}
 use Rattle.sheet.specs.Split.{allowedCount}
 use borrow.Author.Tests.{eq-eqb, ne-eqb}
 use Rattle.sheet.proofs.allowed_count.Statement.{statement}
 use Rattle.sheet.proofs.allowed_count.Tie as tie
 
-returns : tie.Need-returns
+none : (m : ℕ) → m ≡ 0 → allowedCount m ≡ true
 unfolding allowedCount
-returns c = rw (eq-eqb _ _ (c .if1 .taken))
+none m e = rw (eq-eqb m 0 e)
+
+returns : tie.Need-returns
+returns c = sym (none _ (c .if1 .taken))
 
 returns-2 : tie.Need-returns-2
 unfolding allowedCount
