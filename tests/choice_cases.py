@@ -10,6 +10,7 @@ import os
 import re
 import sys
 from fractions import Fraction
+from itertools import product
 
 METHANE, ETHANE, PROPANE, BUTANE = range(4)
 SYSTEMS = {
@@ -40,15 +41,27 @@ def fitness(mixture, system):
     return sum(Fraction(mixture[c] * 100, SUMS[c]) for c in SYSTEMS[system])
 
 
-def chosen(mixture):
+def chosen_by(fit, sequence):
     taken = []
     for wanted in (1, 2):
-        for c in SEQUENCE:
+        for c in sequence:
             if sum(c in SYSTEMS[s] for s in taken) < wanted:
                 free = [s for s in sorted(SYSTEMS) if c in SYSTEMS[s] and s not in taken]
-                most = max(fitness(mixture, s) for s in free)
-                taken.append(min(s for s in free if fitness(mixture, s) == most))
+                most = max(fit(s) for s in free)
+                taken.append(min(s for s in free if fit(s) == most))
     return sorted(taken)
+
+
+def chosen(mixture):
+    return chosen_by(lambda s: fitness(mixture, s), SEQUENCE)
+
+
+def sequences_that_matter():
+    """The lists of four components, one named twice or not, that choose otherwise for some ranking of the systems."""
+    ranks = [dict(zip(sorted(SYSTEMS), r)).get for r in product(range(4), repeat=4)]
+    expected = [chosen_by(rank, SEQUENCE) for rank in ranks]
+    return [sequence for sequence in product(range(4), repeat=4)
+            if [chosen_by(rank, sequence) for rank in ranks] != expected]
 
 
 def gas(*amounts):
@@ -82,6 +95,9 @@ def lines():
 def main():
     assert simplified(TABLE_A1) == (979229, 16803, 2438, 1530)
     assert [chosen(m) for m in MIXTURES[:4]] == [[4, 7, 8]] * 3 + [[2, 7, 8]]
+    # no order of the components, nor one with a component left out, chooses otherwise; only one with two left out
+    matter = sequences_that_matter()
+    assert all(len(set(sequence)) < 3 for sequence in matter) and (PROPANE, ETHANE, PROPANE, ETHANE) in matter
     if sys.argv[1:] != ["--check"]:
         sys.stdout.writelines(lines())
         return

@@ -35,5 +35,6 @@ pub mod Records
 pub mod Proposed
 pub mod PutBack
 pub mod Example
+pub mod Cases
 pub mod Downs
 pub mod Candidates

@@ -22,6 +22,15 @@ IsRated (Refused n p) = ⊥
 
 -- ---- the answer by cases
 
+verdict-8 : (b e w : Bool) (r : Answer) → b ≡ false → verdict b e w r ≡ Refused 8 0
+verdict-8 b e w r h = ap (λ (x : Bool). verdict x e w r) h
+
+verdict-9 : (b e w : Bool) (r : Answer) → b ≡ true → e ≡ true → verdict b e w r ≡ Refused 9 0
+verdict-9 b e w r h i = ap₂ (λ (x y : Bool). verdict x y w r) h i
+
+verdict-last : (b e w v : Bool) (r : Answer) → b ≡ true → e ≡ false → w ≡ v → verdict b e w r ≡ verdict true false v r
+verdict-last b e w v r h i j = ap₂ (λ (x y : Bool). verdict x y w r) h i ∙ ap (λ (z : Bool). verdict true false z r) j
+
 module _ (limit : ℕ) (ch : List ℕ) (k : ℕ) (mix a : List ℕ) (n1 : ℕ) where
   abbrev spread : ℕ
   spread = spreadOf (numberAt ch a) k
@@ -31,19 +40,19 @@ module _ (limit : ℕ) (ch : List ℕ) (k : ℕ) (mix a : List ℕ) (n1 : ℕ) w
 
   pub proposed-unsummed : resums mix k a ≡ false → proposedOf limit ch k mix a n1 ≡ Refused 8 0
   unfolding proposedOf
-  proposed-unsummed h = ap (λ (b : Bool). verdict b (someEmpty ch k a) (ltb limit spread) rated) h
+  proposed-unsummed h = verdict-8 (resums mix k a) (someEmpty ch k a) _ rated h
 
   pub proposed-empty : resums mix k a ≡ true → someEmpty ch k a ≡ true → proposedOf limit ch k mix a n1 ≡ Refused 9 0
   unfolding proposedOf
-  proposed-empty h e = ap₂ (λ (b c : Bool). verdict b c (ltb limit spread) rated) h e
+  proposed-empty h e = verdict-9 (resums mix k a) (someEmpty ch k a) _ rated h e
 
   pub proposed-wide : resums mix k a ≡ true → someEmpty ch k a ≡ false → ltb limit spread ≡ true → proposedOf limit ch k mix a n1 ≡ Refused 10 0
   unfolding proposedOf
-  proposed-wide h e w = ap₂ (λ (b c : Bool). verdict b c (ltb limit spread) rated) h e ∙ ap (λ (b : Bool). verdict true false b rated) w
+  proposed-wide h e w = verdict-last (resums mix k a) (someEmpty ch k a) (ltb limit spread) true rated h e w
 
   pub proposed-rated : resums mix k a ≡ true → someEmpty ch k a ≡ false → ltb limit spread ≡ false → proposedOf limit ch k mix a n1 ≡ Rated (ratingOf ch k a n1) (spreadOf (numberAt ch a) k) 0
   unfolding proposedOf
-  proposed-rated h e w = ap₂ (λ (b c : Bool). verdict b c (ltb limit spread) rated) h e ∙ ap (λ (b : Bool). verdict true false b rated) w
+  proposed-rated h e w = verdict-last (resums mix k a) (someEmpty ch k a) (ltb limit spread) false rated h e w
 
   -- ---- rated exactly when
 

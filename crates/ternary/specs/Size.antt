@@ -4,12 +4,17 @@ use mathlib.Core.List.{List, [], _∷_}
 use Prim.Native.Nat.{ℕ, zero, suc, _+_, _≤_, zero-le}
 use native.Mathlib.Nat as N
 use native.Mathlib.Omega.{arith}
-use lib.IntN.{ℤ, pos, natAbs, _*ℤ_}
+use lib.IntN.{ℤ, pos, negℤ, natAbs, _*ℤ_}
 use lib.Signed.{quotZ}
 use lib.ListN.{getD}
 use Rattle.integer.specs.Ring.{natAbs-+, share-le}
 use Rattle.ternary.specs.WorkingRule.{stepZ, horner, coefs, sumAbs, worked, rowsOf}
 
+-- a step drops its fraction towards zero, above it and below it
+pub step-cut : (stepZ (pos 3) 1 2 (pos 0) ≡ pos 1) × (stepZ (negℤ (pos 3)) 1 2 (pos 0) ≡ negℤ (pos 1))
+step-cut = (refl, refl)
+
+-- so it is no larger than what it was made from
 pub step-le : (w : ℤ) {n d : ℕ} (c : ℤ) → n ≤ d → natAbs (stepZ w n d c) ≤ natAbs w + natAbs c
 step-le w {n} {d} c h = omega (arith, natAbs-+ (quotZ (w *ℤ pos n) (pos d)) c, share-le w h)
 

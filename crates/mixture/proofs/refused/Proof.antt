@@ -1,0 +1,10 @@
+-- `mixture::refused` meets its contract. Assumes nothing.
+use mathlib.Core.Path.{refl}
+use Rattle.mixture.proofs.refused.Statement.{statement}
+use Rattle.mixture.proofs.refused.Tie as tie
+
+returns : tie.Need-returns
+returns c = (refl, refl, refl)
+
+pub refused-spec : {M : Type 1} → statement M
+refused-spec = tie.close (tie.spec returns)
