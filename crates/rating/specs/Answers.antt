@@ -19,13 +19,15 @@ use Rattle.split.specs.Tables.{getD-table}
 use Rattle.split.specs.Split.{RECORDS, cellsOf}
 use Rattle.split.specs.Rating.{ratingOf, proposedOf}
 use Rattle.split.specs.Rated.{IsRated, rated-is}
-use Rattle.split.specs.Search.{LEVEL}
+use Rattle.split.specs.Start.{startOf}
+use Rattle.split.specs.Search.{LEVEL, searchOf}
+use Rattle.split.specs.Runs.{result-fit}
 use Rattle.split.specs.Finds.{Balance, input-fits, find-search, find-balanced}
 use Rattle.split.specs.PutBack.{put-back-records}
 use Rattle.split.specs.declared.Answer.{Answer}
 use Rattle.split.specs.declared.Answer.the-variants.{Rated, Refused}
 use Rattle.split.specs.declared.Search.{Search}
-use Rattle.split.specs.declared.Search.the-variants.{Balanced, Unbalanced}
+use Rattle.split.specs.declared.Search.the-variants.{Balanced, Unbalanced, Unfit}
 use Rattle.split.specs.declared.Found.{Found}
 use Rattle.rating.specs.Records.{systemAt, codeAt, systemsOf, codesOf, matchesAt, fitsOf}
 use Rattle.rating.specs.Rate.{LIMIT, ROUNDS, mixOf, systemsFor, countFor, checkedBy, splitBy, splitAnswer, recordsOf, outcome, foundBy, foundOutcome, searched, searchOutcome}
@@ -80,6 +82,11 @@ rated-zero a p code w s r is =
 
 -- ---- the search
 
+-- it ends balanced or unbalanced
+pub never-unfit : (a : List ℕ) (allowance : ℕ) → searched a allowance .search ≡ Unfit → ⊥
+unfolding searchOf
+never-unfit a allowance = result-fit (systemsFor a) (countFor a) LIMIT (min allowance ROUNDS) _ (startOf (mixOf a) (systemsFor a) (countFor a)) LEVEL 0
+
 -- a rating by the search: the analysis is in range, and the search came to a balance
 pub search-rated : (a : List ℕ) (allowance code : ℕ) (w : ℤ) (s r : ℕ) → searchOutcome a allowance code .answer ≡ Rated w s r
     → (refusalOf a ≡ 0) × (searched a allowance .search ≡ Balanced s r)
@@ -98,6 +105,7 @@ search-rated a allowance code w s r is = go (eqb (refusalOf a) 0) (searched a al
         × (by b x .split ≡ recordsOf (systemsFor a) (countFor a) (searched a allowance .cells))
     go true (Balanced s′ r′) e f h = (eqb-true (refusalOf a) 0 e, cc, cc, refl)
     go true Unbalanced e f h = absurd (subst IsRated (sym h) tt)
+    go true Unfit e f h = absurd (subst IsRated (sym h) tt)
     go false x e f h = absurd (subst IsRated (sym h) tt)
 
 -- what a balance is: a split that re-sums, with no system empty, and its spread within the limit

@@ -31,9 +31,10 @@ use Rattle.split.specs.Rated.{IsRated}
 use Rattle.split.specs.declared.Answer.{Answer}
 use Rattle.split.specs.declared.Answer.the-variants.{Rated, Refused}
 use Rattle.split.specs.declared.Search.{Search}
-use Rattle.split.specs.declared.Search.the-variants.{Balanced, Unbalanced}
+use Rattle.split.specs.declared.Search.the-variants.{Balanced, Unbalanced, Unfit}
 use Rattle.rating.specs.Records.{fitsOf}
 use Rattle.rating.specs.Rate.{LIMIT, ROUNDS, mixOf, systemsFor, countFor, splitBy, splitAnswer, foundBy, foundOutcome, searched, searchOutcome, outcome, readBy, sheetOutcome, numberOf}
+use Rattle.rating.specs.Answers.{never-unfit}
 
 -- a rating, or a refusal with a number from `low` to `high`
 abbrev pub RatedOr : ℕ → ℕ → Answer → Type 0
@@ -55,13 +56,15 @@ not-five (Refused n p) (inr b) e = omega (arith, b .0)
 
 -- ---- by the search, of an analysis in range: a rating or 11
 
-found-ends : (ch : List ℕ) (k n1 : ℕ) (a : List ℕ) (x : Search) → IsRated (foundBy ch k n1 a x .answer) ⊎ (foundBy ch k n1 a x .answer ≡ Refused 11 0)
-found-ends ch k n1 a (Balanced s r) = inl tt
-found-ends ch k n1 a Unbalanced = inr refl
+found-ends : (ch : List ℕ) (k n1 : ℕ) (a : List ℕ) (x : Search) → (x ≡ Unfit → ⊥)
+    → IsRated (foundBy ch k n1 a x .answer) ⊎ (foundBy ch k n1 a x .answer ≡ Refused 11 0)
+found-ends ch k n1 a (Balanced s r) h = inl tt
+found-ends ch k n1 a Unbalanced h = inr refl
+found-ends ch k n1 a Unfit h = absurd (h refl)
 
 pub search-ends : (a : List ℕ) (allowance code : ℕ) → refusalOf a ≡ 0 → IsRated (searchOutcome a allowance code .answer) ⊎ (searchOutcome a allowance code .answer ≡ Refused 11 0)
 unfolding searchOutcome foundOutcome
-search-ends a allowance code h = rw h (found-ends _ _ _ _ (searched a allowance .search))
+search-ends a allowance code h = rw h (found-ends _ _ _ _ (searched a allowance .search) (never-unfit a allowance))
 
 -- ---- a proposed split of an analysis in range: a rating or 7 to 10
 
