@@ -166,7 +166,7 @@ fn weighed(limit: u64, choice: Choice, cells: [u32; CELLS], n1: u32) -> Answer
     rated(limit, &v, &p, choice.count, n1)
 }
 
-// Whether n1 and the mixture have a million parts at most and the chosen systems are candidates that there is room for.
+// Whether n1 and the mixture's parts are at most a million, and the chosen systems candidates that there is room for.
 fn fits(mix: [u32; COMPONENTS], choice: Choice, n1: u32) -> bool
     ensures { λ r. ⌜ r ≡ proposalFit mix (choice .systems) (choice .count) n1 ⌝ }
 {

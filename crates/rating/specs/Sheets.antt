@@ -7,7 +7,7 @@ use Prim.Native.Nat.{ℕ, zero, suc, _+_, _≤_}
 use native.Mathlib.Omega.{arith}
 use lib.Dec.{eqb, leb, ltb}
 use lib.ListN.{getD, length, length-set}
-use borrow.Author.Tests.{eqb-false}
+use borrow.Author.Tests.{eqb-false, ne-eqb}
 use Rattle.analysis.specs.Register.{Status, live, retired, splitsOnly, unknown, statusOf, ifElse}
 use Rattle.analysis.specs.Check.{refusalBy, refusalOf, allInRange, totalFits, totalOf}
 use Rattle.sheet.specs.Bytes.{numberAt}
@@ -190,6 +190,18 @@ accepted-ends s code h e =
     let f = ap (λ (x : Reading). readBy x (readOf s code .analysis .amounts) (readOf s code .split) code .answer) h
     ∙ ap (λ (n : ℕ). ifElse (eqb n 0) (searchOutcome (readOf s code .analysis .amounts) ROUNDS code) (outcome (splitAnswer (readOf s code .analysis .amounts) (readOf s code .split) code) noSplit) .answer) e in
     subst (λ (x : Answer). IsRated x ⊎ (x ≡ Refused 11 0)) (sym f) (search-ends (readOf s code .analysis .amounts) ROUNDS code (read-passed s code h))
+
+-- accepted, with a split of its own: as that split is answered
+pub accepted-own : (s : List ℕ) (code : ℕ)
+    → readOf s code .answer ≡ reading.Read → (readOf s code .split .count ≡ 0 → ⊥)
+    → sheetOutcome s code .answer ≡ splitAnswer (readOf s code .analysis .amounts) (readOf s code .split) code
+unfolding sheetOutcome
+accepted-own s code h n =
+    let a = readOf s code .analysis .amounts in
+    let p = readOf s code .split in
+    let own = outcome (splitAnswer a p code) noSplit in
+    ap (λ (x : Reading). readBy x a p code .answer) h
+    ∙ ap (λ (t : Bool). ifElse t (searchOutcome a ROUNDS code) own .answer) (ne-eqb (p .count) 0 n)
 
 either : (x : Answer) → IsRated x ⊎ (x ≡ Refused 11 0) → RatedOr 1 11 x
 either x (inl r) = inl r

@@ -28,7 +28,7 @@ fn nothing() -> Found
 }
 
 // The search from a mixture and its chosen systems, with a limit of the spread, the level of the first stride and an
-// allowance of rounds: the last split, and its spread and rounds where it is balanced. Input that has no start is unfit.
+// allowance of rounds: the last split, and its spread and rounds where it is balanced. Input without a start is unfit.
 pub fn find(
     mix: [u32; COMPONENTS],
     choice: Choice,

@@ -55,7 +55,8 @@ module _ (mix ch : List ℕ) (k n1 : ℕ) where
   proposal-fits p = rw (le-leb n1 1000000 (p .inert), mixture-fits mix (p .few)) (chosen-fits ch k (p .chosen))
 
   module _ (limit : ℕ) (a : List ℕ) where
-    pub answer-proposed : Proposal mix ch k n1 → answerOf limit ch k mix a n1 ≡ Answered (proposedOf limit ch k mix a n1)
+    pub answer-proposed : Proposal mix ch k n1
+        → answerOf limit ch k mix a n1 ≡ Answered (proposedOf limit ch k mix a n1)
     unfolding answerOf
     answer-proposed p = rw (proposal-fits p, answerOf)
 
@@ -73,7 +74,8 @@ module _ (mix ch : List ℕ) (k n1 : ℕ) where
             let same = sym (answer-proposed (proposal-of e)) ∙ u in
             absurd (let w : _≡_ {A = ℕ} 0 1 = cc in omega arith)
 
-    pub answer-unsummed : Proposal mix ch k n1 → resums mix k a ≡ false → answerOf limit ch k mix a n1 ≡ Answered (Refused 8 0)
+    pub answer-unsummed : Proposal mix ch k n1 → resums mix k a ≡ false
+        → answerOf limit ch k mix a n1 ≡ Answered (Refused 8 0)
     answer-unsummed p h = answer-proposed p ∙ ap Answered (proposed-unsummed limit ch k mix a n1 h)
 
     pub answer-empty : Proposal mix ch k n1 → resums mix k a ≡ true → someEmpty ch k a ≡ true
