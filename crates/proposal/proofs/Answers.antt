@@ -15,12 +15,12 @@ use Rattle.split.specs.Folds.{sum-same, greatest-same, least-same}
 use Rattle.split.specs.Split.{CELLS, partsOf, numberAt, both, Stock}
 use Rattle.split.specs.Rating.{resums, someEmpty, spreadOf, weightedOf, meanOf, inertNumber, ratingOf}
 use Rattle.split.specs.Find.{chosenFit, mixtureFit}
-use Rattle.split.specs.Members.{both-left, both-right}
 use Rattle.split.specs.Sums.{resummed, parts-le}
 use Rattle.split.specs.Fits.{resums-yes, no-empty}
-use Rattle.split.specs.Proposed.{proposalFit, answerOf, ratedOf, Proposal, proposal-of, answer-misfit, answer-unsummed, answer-empty, answer-rated}
+use Rattle.split.specs.Proposed.{proposalFit, answerOf, ratedOf, Proposal, proposal-of, answer-unfit, answer-unsummed, answer-empty, answer-rated}
 use Rattle.split.specs.declared.Answer.{Answer}
 use Rattle.split.specs.declared.Answer.the-variants.{Rated, Refused}
+use Rattle.split.specs.declared.Proposed.the-variants.{Answered, Unfit}
 use Rattle.rows.specs.Rows.{listed, rowsOf}
 use Rattle.rows.specs.Carried.{Held}
 use Rattle.rows.specs.Laws.{unfit-empty, fit-held, parts-of}
@@ -72,52 +72,42 @@ module _ (limit : ℕ) (ch : List ℕ) (k : ℕ) (a : List ℕ) (n1 : ℕ) (st :
     unfolding weighedOf
     rated-weighed x u = u ∙ rated-same ∙ sym (rw (no-empty ch k a (held .sound .some), weighedOf))
 
+-- ---- the tests of the input
+
+module _ (mix ch : List ℕ) (k n1 : ℕ) where
+  pub much-inert : 1000000 < n1 → false ≡ proposalFit mix ch k n1
+  unfolding proposalFit
+  much-inert h = sym (rw (lt-leb n1 1000000 h))
+
+  pub inert-fits : n1 ≤ 1000000 → (b : Bool) → b ≡ both (mixtureFit mix) (chosenFit ch k) → b ≡ proposalFit mix ch k n1
+  unfolding proposalFit
+  inert-fits h b e = e ∙ sym (rw (le-leb n1 1000000 h))
+
 -- ---- the answer
 
-module _ (limit : ℕ) (ch : List ℕ) (k : ℕ) (mix a : List ℕ) (n1 : ℕ) (b : Bool) (p : b ≡ both (mixtureFit mix) (chosenFit ch k)) where
-  fits-not : both (mixtureFit mix) (chosenFit ch k) ≡ false → proposalFit mix ch k n1 ≡ false
-  unfolding proposalFit
-  fits-not e = go (mixtureFit mix) (chosenFit ch k) refl refl
-    where
-      clash : true ≡ false → _≡_ {A = ℕ} 1 0
-      clash u = ap (λ x. elim x [ true ↦ 1 | false ↦ 0 ]) u
-
-      go : (x y : Bool) → mixtureFit mix ≡ x → chosenFit ch k ≡ y → both (chosenFit ch k) (both (mixtureFit mix) (leb n1 1000000)) ≡ false
-      go x false f g = rw g
-      go false true f g = rw (g, f)
-      go true true f g = absurd (let w : 1 ≡ 0 = clash (rw (f, g) at e) in omega arith)
-
-  pub misfit : not b ≡ true → Refused 7 0 ≡ answerOf limit ch k mix a n1
-  misfit h = sym (answer-misfit mix ch k n1 limit a (fits-not (sym p ∙ not-true b h)))
+module _ (mix ch : List ℕ) (k n1 : ℕ) (b : Bool) (p : b ≡ proposalFit mix ch k n1) where
+  pub unfit : (limit : ℕ) (a : List ℕ) → not b ≡ true → Unfit ≡ answerOf limit ch k mix a n1
+  unfit limit a h = sym (answer-unfit mix ch k n1 limit a (sym p ∙ not-true b h))
 
   module _ (l : not b ≡ false) where
-    both-fit : both (mixtureFit mix) (chosenFit ch k) ≡ true
-    both-fit = sym p ∙ not-false b l
+    pub proposal : Proposal mix ch k n1
+    proposal = proposal-of mix ch k n1 (sym p ∙ not-false b l)
 
-    pub much-inert : 1000000 < n1 → Refused 7 0 ≡ answerOf limit ch k mix a n1
-    unfolding proposalFit
-    much-inert h = sym (answer-misfit mix ch k n1 limit a (rw (both-right (mixtureFit mix) _ both-fit, both-left (mixtureFit mix) _ both-fit) (lt-leb n1 1000000 h)))
+    module _ (a : List ℕ) (d : Bool) (q : d ≡ resums mix k a) where
+      pub unsummed : (limit : ℕ) → not d ≡ true → (x : Answer) → x ≡ Refused 8 0 → Answered x ≡ answerOf limit ch k mix a n1
+      unsummed limit h x u = ap Answered u ∙ sym (answer-unsummed mix ch k n1 limit a proposal (sym q ∙ not-true d h))
 
-    module _ (m : n1 ≤ 1000000) where
-      pub proposal : Proposal mix ch k n1
-      unfolding proposalFit
-      proposal = proposal-of mix ch k n1 (rw (both-right (mixtureFit mix) _ both-fit, both-left (mixtureFit mix) _ both-fit) (le-leb n1 1000000 m))
+      module _ (y : not d ≡ false) where
+        yes : resums mix k a ≡ true
+        yes = sym q ∙ not-false d y
 
-      module _ (d : Bool) (q : d ≡ resums mix k a) where
-        pub unsummed : not d ≡ true → Refused 8 0 ≡ answerOf limit ch k mix a n1
-        unsummed h = sym (answer-unsummed mix ch k n1 limit a proposal (sym q ∙ not-true d h))
+        pub stock : length a ≡ CELLS → Stock ch k a
+        stock long = record { chosen = proposal .chosen; long = long; few = rw (resummed mix k a (resums-yes mix k a yes)) (proposal .few) }
 
-        module _ (y : not d ≡ false) where
-          yes : resums mix k a ≡ true
-          yes = sym q ∙ not-false d y
-
-          pub stock : length a ≡ CELLS → Stock ch k a
-          stock long = record { chosen = proposal .chosen; long = long; few = rw (resummed mix k a (resums-yes mix k a yes)) (proposal .few) }
-
-          pub answered : (x : Answer) → x ≡ weighedOf limit ch k a n1 → x ≡ answerOf limit ch k mix a n1
-          unfolding weighedOf
-          answered x u = u ∙ go (someEmpty ch k a) refl
-            where
-              go : (e : Bool) → someEmpty ch k a ≡ e → weighedOf limit ch k a n1 ≡ answerOf limit ch k mix a n1
-              go true e = rw (e, weighedOf) (sym (answer-empty mix ch k n1 limit a proposal yes e))
-              go false e = rw (e, weighedOf) (sym (answer-rated mix ch k n1 limit a proposal yes e))
+        pub answered : (limit : ℕ) (x : Answer) → x ≡ weighedOf limit ch k a n1 → Answered x ≡ answerOf limit ch k mix a n1
+        unfolding weighedOf
+        answered limit x u = ap Answered u ∙ go (someEmpty ch k a) refl
+          where
+            go : (e : Bool) → someEmpty ch k a ≡ e → Answered (weighedOf limit ch k a n1) ≡ answerOf limit ch k mix a n1
+            go true e = rw (e, weighedOf) (sym (answer-empty mix ch k n1 limit a proposal yes e))
+            go false e = rw (e, weighedOf) (sym (answer-rated mix ch k n1 limit a proposal yes e))

@@ -1,4 +1,4 @@
-// What cells proposed as a split come to: refused 7 to 10, or rated. No public function has a `requires`.
+// What cells proposed as a split come to: refused 8 to 10, or rated; or unfit. No public function has a `requires`.
 ghost use mathlib.Core.Path.{_≡_};
 ghost use Prim.Native.Nat.{_+_, _*_, _<_, _≤_};
 ghost use lib.IntN.{ℤ, pos, negsuc, natAbs, _+ℤ_, _*ℤ_};
@@ -7,7 +7,7 @@ ghost use Rattle.ternary.specs.WorkingRule.{LARGEST};
 ghost use Rattle.systems.specs.Systems.{COMPONENTS};
 ghost use Rattle.split.specs.Split.{SYSTEMS, columnOf, Stock};
 ghost use Rattle.split.specs.Rating.{resums, spreadOf, inertNumber};
-ghost use Rattle.split.specs.Proposed.{answerOf};
+ghost use Rattle.split.specs.Proposed.{proposalFit, answerOf};
 ghost use Rattle.rows.specs.Rows.{listed, Small};
 ghost use Rattle.proposal.specs.Weighing.{Weighable, weighedTo, ratedBy, weighedOf};
 use split::Answer;
@@ -166,26 +166,33 @@ fn weighed(limit: u64, choice: Choice, cells: [u32; CELLS], n1: u32) -> Answer
     rated(limit, &v, &p, choice.count, n1)
 }
 
+// Whether n1 and the mixture's parts are at most a million, and the chosen systems candidates that there is room for.
+fn fits(mix: [u32; COMPONENTS], choice: Choice, n1: u32) -> bool
+    ensures { λ r. ⌜ r ≡ proposalFit mix (choice .systems) (choice .count) n1 ⌝ }
+{
+    if MILLION < n1 {
+        return false;
+    }
+    start::fit(mix, choice)
+}
+
 // The answer to cells proposed as a split of a mixture among its chosen systems: refused 8 where they do not re-sum,
 // 9 where a system is empty, 10 where the spread is above the limit, else rated with the inert mixture's n1.
-// Systems that are no candidates, and a mixture or an n1 above a million parts, are refused 7.
+// Systems that are no candidates, and a mixture or an n1 above a million parts, are unfit.
 pub fn proposed(
     limit: u64,
     choice: Choice,
     mix: [u32; COMPONENTS],
     cells: [u32; CELLS],
     n1: u32,
-) -> Answer
+) -> split::Proposed
     ensures { λ r. ⌜ r ≡ answerOf limit (choice .systems) (choice .count) mix cells n1 ⌝ }
 {
-    if !start::fit(mix, choice) {
-        return refused(7);
-    }
-    if MILLION < n1 {
-        return refused(7);
+    if !fits(mix, choice, n1) {
+        return split::Proposed::Unfit;
     }
     if !resums(&mix, choice.count, &cells) {
-        return refused(8);
+        return split::Proposed::Answered(refused(8));
     }
-    weighed(limit, choice, cells, n1)
+    split::Proposed::Answered(weighed(limit, choice, cells, n1))
 }

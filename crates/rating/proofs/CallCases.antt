@@ -28,7 +28,7 @@ use Rattle.systems.specs.Choice.{choiceOf}
 use Rattle.systems.specs.declared.Choice.{Choice}
 use Rattle.split.specs.Refused.{differ}
 use Rattle.split.specs.Split.{RECORDS, cellsOf, numberAt}
-use Rattle.split.specs.Rating.{spreadOf, ratingOf}
+use Rattle.split.specs.Rating.{spreadOf, ratingOf, proposedOf}
 use Rattle.split.specs.Fits.{Fit}
 use Rattle.split.specs.AnswerCases.{numberOf, codeOf}
 use Rattle.split.specs.Rated.{IsRated, fit-rated}
@@ -39,6 +39,8 @@ use Rattle.split.specs.Finds.{input-fits, find-search, find-balanced}
 use Rattle.split.specs.declared.Answer.{Answer}
 use Rattle.split.specs.declared.Answer.the-variants.{Rated, Refused}
 use Rattle.split.specs.declared.Search.the-variants.{Balanced, Unbalanced}
+use Rattle.split.specs.declared.Proposed.{Proposed}
+use Rattle.split.specs.declared.Proposed.the-variants.{Answered, Unfit}
 use Rattle.split.specs.declared.Found.{Found}
 use Rattle.rating.specs.Records.{fitsOf}
 use Rattle.rating.specs.Rate.{LIMIT, ROUNDS, mixOf, systemsFor, countFor, splitBy, splitAnswer, outcome, recordsOf, foundBy, foundOutcome, searched, searchOutcome}
@@ -46,6 +48,7 @@ use Rattle.split.specs.Accuracy.{fit-few}
 use Rattle.split.specs.PutBack.{balance-fit}
 use Rattle.split.specs.Size.{rating-small}
 use Rattle.rating.specs.Given.{FoundFit}
+use Rattle.rating.specs.Answers.{never-unfit}
 use Rattle.rating.specs.Ready.{chosen, room, million, inert-million, shared, input}
 use Rattle.rating.specs.Sheets.{split-ends, search-ends, split-wider, search-wider, not-five}
 use Rattle.rating.specs.declared.Outcome.{Outcome}
@@ -139,10 +142,13 @@ module _ (a : List ℕ) (long : length a ≡ CODES) (passed : refusalOf a ≡ 0)
           f ∙ rw (choice-is, mix-is, l)
           (sym (find-search (mixOf a) (systemsFor a) (countFor a) LEVEL LIMIT (min allowance ROUNDS) (input-fits (mixOf a) (systemsFor a) (countFor a) LEVEL (input a long passed))))
 
-      pub found-fit : FoundFit mix (choice .systems) (choice .count) found
-      found-fit s r e =
+      found-cells : (s r : ℕ) → found .search ≡ Balanced s r → Fit LIMIT (choice .systems) (choice .count) mix (found .cells)
+      found-cells s r e =
           let b = find-balanced mix (choice .systems) (choice .count) 500000 16 most s r (ap (λ (x : Found). x .search) (sym f) ∙ e) in
           rw f (balance-fit mix (choice .systems) (choice .count) 500000 most (findOf mix (choice .systems) (choice .count) 500000 16 most .cells) s r b (λ c l. rw (choice-is, mix-is) (shared a c l)))
+
+      pub found-fit : FoundFit mix (choice .systems) (choice .count) found
+      found-fit = record { made = λ e. never-unfit a allowance (ap (λ (x : Found). x .search) (sym found-is) ∙ e); fit = found-cells }
 
       pub search-in : (r : Outcome) → r ≡ foundOutcome (choice .systems) (choice .count) n1 found → r ≡ searchOutcome a allowance (codeOf (r .answer))
       unfolding searchOutcome
@@ -162,14 +168,24 @@ module _ (ch : List ℕ) (k : ℕ) (mix : List ℕ) (n1 : ℕ) where
   unfolding splitBy
   misfit p e = rw e
 
-  pub fitting : (p : Split) (cells : List ℕ) → Proposal mix ch k n1 → fitsOf ch k (p .count) (p .systems) (p .codes) ≡ true → cells ≡ cellsOf ch k (p .amounts)
-      → answerOf 500000 ch k mix cells n1 ≡ splitBy ch k mix n1 p
+  pub fitting : (p : Split) (cells : List ℕ) → fitsOf ch k (p .count) (p .systems) (p .codes) ≡ true → cells ≡ cellsOf ch k (p .amounts)
+      → proposedOf 500000 ch k mix cells n1 ≡ splitBy ch k mix n1 p
   unfolding splitBy
-  fitting p cells h e q = ap (λ (l : List ℕ). answerOf 500000 ch k mix l n1) q ∙ answer-proposed mix ch k n1 500000 (cellsOf ch k (p .amounts)) h ∙ rw e
+  fitting p cells e q = ap (λ (l : List ℕ). proposedOf 500000 ch k mix l n1) q ∙ rw e
 
-  module _ (cells : List ℕ) (h : Proposal mix ch k n1) (f : Fit 500000 ch k mix cells) (x : Answer) (e : x ≡ answerOf 500000 ch k mix cells n1) where
+  -- fit input is answered
+  module _ (cells : List ℕ) (h : Proposal mix ch k n1) (y : Proposed) (z : y ≡ answerOf 500000 ch k mix cells n1) where
+    pub answered-not-unfit : y ≡ Unfit → ⊥
+    answered-not-unfit u =
+        let same = sym u ∙ z ∙ answer-proposed mix ch k n1 500000 cells h in
+        let w : _≡_ {A = ℕ} 0 1 = cc in omega arith
+
+    pub answered-is : (x : Answer) → y ≡ Answered x → x ≡ proposedOf 500000 ch k mix cells n1
+    answered-is x u = let same = sym u ∙ z ∙ answer-proposed mix ch k n1 500000 cells h in cc
+
+  module _ (cells : List ℕ) (f : Fit 500000 ch k mix cells) (x : Answer) (e : x ≡ proposedOf 500000 ch k mix cells n1) where
     rated : x ≡ Rated (ratingOf ch k cells n1) (spreadOf (numberAt ch cells) k) 0
-    rated = e ∙ answer-proposed mix ch k n1 500000 cells h ∙ fit-rated 500000 ch k mix cells n1 f
+    rated = e ∙ fit-rated 500000 ch k mix cells n1 f
 
     pub rating-is : (w : ℤ) (s r : ℕ) → x ≡ Rated w s r → w ≡ ratingOf ch k cells n1
     rating-is w s r q = let same : Rated w s r ≡ Rated (ratingOf ch k cells n1) (spreadOf (numberAt ch cells) k) 0 = sym q ∙ rated in cc
@@ -208,9 +224,9 @@ pub found-is-some : (ch : List ℕ) (k n1 : ℕ) (f : Found) (s r : ℕ) (w w′
 found-is-some ch k n1 f s r w w′ p e same q h = ap₂ (λ (x : ℤ) (y : Split). outcome (Rated x s r) y) (same ∙ q) h ∙ found-some ch k n1 f s r e
 
 -- a rating in its 64 bits
-pub rating-value : (ch : List ℕ) (k : ℕ) (mix : List ℕ) (n1 : ℕ) (cells : List ℕ) → Proposal mix ch k n1 → Fit 500000 ch k mix cells → (x : Answer) → x ≡ answerOf 500000 ch k mix cells n1
+pub rating-value : (ch : List ℕ) (k : ℕ) (mix : List ℕ) (n1 : ℕ) (cells : List ℕ) → Proposal mix ch k n1 → Fit 500000 ch k mix cells → (x : Answer) → x ≡ proposedOf 500000 ch k mix cells n1
     → (w : ℤ) (s r : ℕ) → x ≡ Rated w s r → toZ w64 (ofZ w64 w) ≡ ratingOf ch k cells n1
 rating-value ch k mix n1 cells h f x e w s r q =
-    let is = rating-is ch k mix n1 cells h f x e w s r q in
+    let is = rating-is ch k mix n1 cells f x e w s r q in
     let small = rating-small ch k cells n1 (fit-few ch k mix cells (h .chosen) (h .few) (f .sums)) in
     read-back w (subst (λ (z : ℤ). mag z < 2 ^ 63) (sym is) (N.lt-of-le-of-lt (N.le-trans (mag-le (ratingOf ch k cells n1)) small) (lit< tt))) ∙ is

@@ -20,8 +20,10 @@ use Rattle.rating.specs.Records.{codeOf, systemAt, codeAt, systemsOf, co
 use Rattle.split.specs.Proposed.{Proposal, answerOf}
 use Rattle.split.specs.declared.Answer.{Answer}
 use Rattle.split.specs.declared.Answer.the-variants.{Refused}
+use Rattle.split.specs.declared.Proposed.{Proposed}
+use Rattle.split.specs.declared.Proposed.the-variants.{Answered}
 use Rattle.rating.specs.Rate.{splitBy, recordsOf}
-use Rattle.rating.proofs.CallCases.{misfit, fitting}
+use Rattle.rating.proofs.CallCases.{misfit, fitting, answered-is}
 
 -- ---- the packed tables
 
@@ -326,5 +328,6 @@ module _ (ch : List ℕ) (k : ℕ) (mix : List ℕ) (n1 : ℕ) (p : Split) (b : 
   pub split-misfit : not b ≡ true → Refused 7 0 ≡ splitBy ch k mix n1 p
   split-misfit t = misfit ch k mix n1 p (sym e ∙ not-true b t)
 
-  pub split-fitting : (cells : List ℕ) (r : Answer) → Proposal mix ch k n1 → not b ≡ false → cells ≡ cellsOf ch k (p .amounts) → r ≡ answerOf 500000 ch k mix cells n1 → r ≡ splitBy ch k mix n1 p
-  split-fitting cells r h t q a = a ∙ fitting ch k mix n1 p cells h (sym e ∙ not-false b t) q
+  pub split-fitting : (cells : List ℕ) (r : Answer) (y : Proposed) → Proposal mix ch k n1 → not b ≡ false → cells ≡ cellsOf ch k (p .amounts)
+      → y ≡ answerOf 500000 ch k mix cells n1 → y ≡ Answered r → r ≡ splitBy ch k mix n1 p
+  split-fitting cells r y h t q z u = answered-is ch k mix n1 cells h y z r u ∙ fitting ch k mix n1 p cells (sym e ∙ not-false b t) q

@@ -14,18 +14,21 @@ use Rattle.sheet.specs.Split.{noSplit}
 use Rattle.sheet.specs.declared.Split.{Split}
 use Rattle.mixture.specs.Inert.{inertFirst}
 use Rattle.split.specs.Fold.{table}
-use Rattle.split.specs.Folds.{all-of}
+use Rattle.split.specs.Folds.{all-each, all-of}
+use Rattle.split.specs.Members.{both-left, both-right}
 use Rattle.split.specs.Tables.{getD-table}
 use Rattle.split.specs.Split.{RECORDS, cellsOf}
 use Rattle.split.specs.Rating.{ratingOf, proposedOf}
 use Rattle.split.specs.Rated.{IsRated, rated-is}
-use Rattle.split.specs.Search.{LEVEL}
+use Rattle.split.specs.Start.{startOf}
+use Rattle.split.specs.Search.{LEVEL, searchOf}
+use Rattle.split.specs.Runs.{result-fit}
 use Rattle.split.specs.Finds.{Balance, input-fits, find-search, find-balanced}
 use Rattle.split.specs.PutBack.{put-back-records}
 use Rattle.split.specs.declared.Answer.{Answer}
 use Rattle.split.specs.declared.Answer.the-variants.{Rated, Refused}
 use Rattle.split.specs.declared.Search.{Search}
-use Rattle.split.specs.declared.Search.the-variants.{Balanced, Unbalanced}
+use Rattle.split.specs.declared.Search.the-variants.{Balanced, Unbalanced, Unfit}
 use Rattle.split.specs.declared.Found.{Found}
 use Rattle.rating.specs.Records.{systemAt, codeAt, systemsOf, codesOf, matchesAt, fitsOf}
 use Rattle.rating.specs.Rate.{LIMIT, ROUNDS, mixOf, systemsFor, countFor, checkedBy, splitBy, splitAnswer, recordsOf, outcome, foundBy, foundOutcome, searched, searchOutcome}
@@ -45,7 +48,47 @@ expected-fit ch k h = rw (eq-eqb (3 * k) (3 * k) refl) (all-of (matchesAt ch k (
           eq-eqb (getD (table (codeAt ch k) RECORDS 0) r 0) (codeAt ch k r) (getD-table (codeAt ch k) RECORDS 0 r (omega arith) ∙ ap (codeAt ch k) q),
         )
 
+-- what fits, record by record
+module _ (ch : List ℕ) (k count : ℕ) (systems codes : List ℕ) where
+  abbrev Each : List ℕ → (ℕ → ℕ) → Type 0
+  Each l f = (r : ℕ) → r < 3 * k → getD l r 0 ≡ f r
+
+  pub fits-expected : fitsOf ch k count systems codes ≡ true
+      → (count ≡ 3 * k) × Each systems (systemAt ch k) × Each codes (codeAt ch k)
+  unfolding fitsOf matchesAt
+  fits-expected e = (
+    many,
+    λ r l. eqb-true (getD systems r 0) (systemAt ch k r) (both-left _ _ (matches r l)),
+    λ r l. eqb-true (getD codes r 0) (codeAt ch k r) (both-right (eqb (getD systems r 0) _) _ (matches r l)),
+  )
+    where
+      many : count ≡ 3 * k
+      many = eqb-true count (3 * k) (both-left (eqb count (3 * k)) _ e)
+
+      matches : (r : ℕ) → r < 3 * k → matchesAt ch k systems codes r ≡ true
+      matches r l =
+          all-each (matchesAt ch k systems codes) count r (both-right (eqb count (3 * k)) _ e) (omega (arith, many))
+
+  pub expected-fits : count ≡ 3 * k → Each systems (systemAt ch k) → Each codes (codeAt ch k)
+      → fitsOf ch k count systems codes ≡ true
+  unfolding fitsOf matchesAt
+  expected-fits many s c = rw (eq-eqb count (3 * k) many) (all-of (matchesAt ch k systems codes) count matches)
+    where
+      matches : (r : ℕ) → r < count → matchesAt ch k systems codes r ≡ true
+      matches r l =
+          let m : r < 3 * k = omega (arith, many) in
+          rw (eq-eqb (getD systems r 0) (systemAt ch k r) (s r m), eq-eqb (getD codes r 0) (codeAt ch k r) (c r m))
+
 -- ---- a proposed split
+
+-- of an analysis in range: 7 where its records do not fit, else the answer to its cells
+pub split-by-records : (a : List ℕ) (p : Split) (code : ℕ) (fits : Bool) → refusalOf a ≡ 0
+    → fitsOf (systemsFor a) (countFor a) (p .count) (p .systems) (p .codes) ≡ fits
+    → let cells = cellsOf (systemsFor a) (countFor a) (p .amounts) in
+    let rated = proposedOf LIMIT (systemsFor a) (countFor a) (mixOf a) cells (inertFirst a) in
+    splitAnswer a p code ≡ ifElse fits rated (Refused 7 0)
+unfolding splitAnswer splitBy
+split-by-records a p code fits passed e = rw (passed, e)
 
 -- with the expected records, of an analysis in range, the answer is that to its cells
 pub split-fits : (a : List ℕ) (p : Split) (code : ℕ) → refusalOf a ≡ 0 → p .count ≡ 3 * countFor a → p .systems ≡ systemsOf (systemsFor a) (countFor a) → p .codes ≡ codesOf (systemsFor a) (countFor a)
@@ -80,6 +123,13 @@ rated-zero a p code w s r is =
 
 -- ---- the search
 
+-- it ends balanced or unbalanced
+pub never-unfit : (a : List ℕ) (allowance : ℕ) → searched a allowance .search ≡ Unfit → ⊥
+unfolding searchOf
+never-unfit a allowance =
+    let begun = startOf (mixOf a) (systemsFor a) (countFor a) in
+    result-fit (systemsFor a) (countFor a) LIMIT (min allowance ROUNDS) _ begun LEVEL 0
+
 -- a rating by the search: the analysis is in range, and the search came to a balance
 pub search-rated : (a : List ℕ) (allowance code : ℕ) (w : ℤ) (s r : ℕ) → searchOutcome a allowance code .answer ≡ Rated w s r
     → (refusalOf a ≡ 0) × (searched a allowance .search ≡ Balanced s r)
@@ -98,6 +148,7 @@ search-rated a allowance code w s r is = go (eqb (refusalOf a) 0) (searched a al
         × (by b x .split ≡ recordsOf (systemsFor a) (countFor a) (searched a allowance .cells))
     go true (Balanced s′ r′) e f h = (eqb-true (refusalOf a) 0 e, cc, cc, refl)
     go true Unbalanced e f h = absurd (subst IsRated (sym h) tt)
+    go true Unfit e f h = absurd (subst IsRated (sym h) tt)
     go false x e f h = absurd (subst IsRated (sym h) tt)
 
 -- what a balance is: a split that re-sums, with no system empty, and its spread within the limit

@@ -1,96 +1,212 @@
 -- THE THIRD DEMAND, in the customer's words and order. Assumes nothing.
 --
--- For any analysis with amounts and total in range: whatever amounts are proposed as a split of its chosen systems, they
--- are rated exactly when they re-sum to the simplified mixture, no chosen system is empty and every two partial numbers,
--- as worked out, lie at most 0.05 apart (1). A split that the search found, whatever its allowance, put back as a
--- proposal for the same analysis, gets the same rating and spread (2). Every rating is less than 0.000004 (40 units)
--- from the exact fraction of the formulas at those amounts (3). And from the first demand: each accepted sheet ends in a
--- rating or in refusal 11, and every sheet in a rating or in one of 1 to 11 (4).
+-- For any analysis with amounts and total in range: whatever amounts are proposed as a split of its chosen systems,
+-- they are rated exactly when they re-sum to the simplified mixture, no chosen system is empty and every two partial
+-- numbers, as worked out, lie at most 0.05 apart (1). A split that the search found, whatever its allowance, put back
+-- as a proposal for the same analysis, gets the same rating and spread (2). Every rating is less than 0.000004 (40
+-- units) from the exact fraction of the formulas at those amounts (3). And from the first demand: each accepted sheet
+-- ends in a rating or in refusal 11 where it has no split; where it has its own it ends in a rating or in one of 7 to
+-- 10, and is rated exactly when; every sheet ends in a rating or in one of 1 to 11 (4).
 --
--- The public functions `rate_split`, `rate_by_search` and `rate_sheet` promise `splitAnswer`, `searchOutcome` and `sheetOutcome`, of
--- which these theorems speak. `code` is the code that refusal 5 carries: any code at fault.
-use mathlib.Core.Path.{_≡_, refl, sym, _∙_, subst}
+-- The public functions `rate_split`, `rate_by_search` and `rate_sheet` promise `splitAnswer`, `searchOutcome` and
+-- `sheetOutcome`, of which these theorems speak. An analysis is its 16 amounts, that of code k at index k; it is in
+-- range when neither 5 nor 6 turns it away, `refusalOf a ≡ 0`. A split is rated when the answer to it is a rating, with
+-- its spread, and no refusal: `IsRated`. `code` is the code that refusal 5 carries: any code at fault.
+use mathlib.Core.Path.{_≡_, refl, sym, ap, _∙_, subst}
+use mathlib.Core.Bool.{Bool, true, false}
 use mathlib.Core.Logic.{_↔_, _⊎_}
 use mathlib.Core.List.{List}
-use Prim.Native.Nat.{ℕ, _*_}
+use Prim.Native.Nat.{ℕ, _+_, _*_, _≤_, _<_}
 use native.Mathlib.Omega.{arith}
-use lib.IntN.{ℤ}
-use lib.ListN.{length}
-use Rattle.integer.specs.Fraction.{Within}
-use Rattle.analysis.specs.Register.{CODES}
+use lib.IntN.{ℤ, natAbs, _-ℤ_}
+use lib.ListN.{getD, length}
+use Rattle.integer.specs.Fraction.{Fraction, Within}
+use Rattle.ternary.specs.Partial.{partialNumber}
+use Rattle.analysis.specs.Register.{CODES, ifElse}
 use Rattle.analysis.specs.Check.{refusalOf}
 use Rattle.sheet.specs.Read.{readOf}
 use Rattle.sheet.specs.declared.Split.{Split}
 use Rattle.sheet.specs.declared.Reading.the-variants.{Read}
+use Rattle.mixture.specs.Simplification.{simplifiedOf}
 use Rattle.mixture.specs.Inert.{inertFirst}
-use Rattle.split.specs.Split.{cellsOf, numberAt}
-use Rattle.split.specs.Rating.{spreadOf, ratingOf}
+use Rattle.systems.specs.Systems.{COMPONENTS, memberOf}
+use Rattle.systems.specs.Chosen.{choice-choosable}
+use Rattle.split.specs.Fold.{sumTo}
+use Rattle.split.specs.Split.{cellOf, systemOf, cellsOf, partsOf, columnOf, numberAt}
+use Rattle.split.specs.Rating.{spreadOf, ratingOf, proposedOf}
 use Rattle.split.specs.Exact.{exactRating}
+use Rattle.split.specs.Spread.{near-spread}
 use Rattle.split.specs.Fits.{Fit}
 use Rattle.split.specs.Rated.{IsRated, fit-rated, rated-fit}
 use Rattle.split.specs.Accuracy.{rated-within}
+use Rattle.split.specs.AnswerCases.{numberOf}
+use Rattle.split.specs.declared.Answer.{Answer}
 use Rattle.split.specs.declared.Answer.the-variants.{Rated, Refused}
-use Rattle.rating.specs.Records.{systemsOf, codesOf}
-use Rattle.rating.specs.Rate.{LIMIT, mixOf, systemsFor, countFor, splitAnswer, searchOutcome, sheetOutcome}
-use Rattle.rating.specs.Ready.{chosen, million, inert-million}
-use Rattle.rating.specs.Answers.{split-fits, split-rated, found-back}
-use Rattle.rating.specs.Sheets.{RatedOr, accepted-ends, sheet-ends}
+use Rattle.rating.specs.Records.{systemAt, codeAt, systemsOf, codesOf, fitsOf}
+use Rattle.rating.specs.Rate.{LIMIT, mixOf, systemsFor, countFor}
+use Rattle.rating.specs.Rate.{splitAnswer, searchOutcome, sheetOutcome}
+use Rattle.rating.specs.Ready.{chosen, room, million, inert-million}
+use Rattle.rating.specs.Answers.{expected-fit, fits-expected, expected-fits, split-by-records, split-fits}
+use Rattle.rating.specs.Answers.{split-rated, found-back}
+use Rattle.rating.specs.Sheets.{read-passed, split-ends, accepted-ends, accepted-own, sheet-ends}
 use Rattle.rating.specs.RatedSheets.{analysisIn, splitRated, sheet-split}
 
--- amounts in the records of the chosen systems of an analysis
+-- ---- the words: of an analysis a, whose chosen systems are three
+
+pub three-systems : (a : List ℕ) → countFor a ≡ 3
+three-systems a = choice-choosable (simplifiedOf a) .three
+
+-- any amounts xs at all, in the records of the chosen systems: systems rising, in each methane, ethane, propane, butane
+-- as contained, so that record r is of the system in place r / 3 and has its component in place r % 3
 abbrev pub proposal : List ℕ → List ℕ → Split
-proposal a xs =
-    record { count = 3 * countFor a; systems = systemsOf (systemsFor a) (countFor a); codes = codesOf (systemsFor a) (countFor a); amounts = xs }
+proposal a xs = record {
+  count = 3 * countFor a;
+  systems = systemsOf (systemsFor a) (countFor a);
+  codes = codesOf (systemsFor a) (countFor a);
+  amounts = xs;
+}
 
--- the cells of a split's amounts: what each chosen system has of each component
-abbrev pub cellsIn : List ℕ → Split → List ℕ
-cellsIn a p = cellsOf (systemsFor a) (countFor a) (p .amounts)
+-- a split has these records: as many, each of the system and of the code expected of it
+pub record Expected (a : List ℕ) (p : Split) : Type 0 where
+  pub many : p .count ≡ 3 * countFor a
+  pub systems : (r : ℕ) → r < 3 * countFor a → getD (p .systems) r 0 ≡ systemAt (systemsFor a) (countFor a) r
+  pub codes : (r : ℕ) → r < 3 * countFor a → getD (p .codes) r 0 ≡ codeAt (systemsFor a) (countFor a) r
 
--- (1) any amounts at all are rated exactly when
---     `sums`: each component's amounts, added, equal its simplified amount;
---     `some`: no chosen system is empty;
---     `near`: every two partial numbers of the working rule lie at most 500000 units apart
+pub proposal-expected : (a xs : List ℕ) → Expected a (proposal a xs)
+proposal-expected a xs =
+    let x = fits-expected _ _ _ _ _ (expected-fit (systemsFor a) (countFor a) (room a)) in
+    record { many = x .0; systems = x .1; codes = x .2 }
+
+-- the amounts by chosen system and component: what the system in place s is given of component c, which are 0 methane,
+-- 1 ethane, 2 propane, 3 butane; 0 of one that it lacks
+abbrev pub cellsIn : List ℕ → List ℕ → List ℕ
+cellsIn a xs = cellsOf (systemsFor a) (countFor a) xs
+
+abbrev pub given : List ℕ → List ℕ → ℕ → ℕ → ℕ
+given a xs s c = cellOf (cellsIn a xs) s c
+
+-- what it is given of its three components, of which the first two are the formula's variables
+abbrev pub amount : List ℕ → List ℕ → ℕ → ℕ → ℕ
+amount a xs s j = given a xs s (memberOf (systemOf (systemsFor a) s) j)
+
+-- its partial number, as worked out
+abbrev pub number : List ℕ → List ℕ → ℕ → ℤ
+number a xs s = partialNumber (systemOf (systemsFor a) s) (amount a xs s 0) (amount a xs s 1) (amount a xs s 2)
+
+-- they re-sum: each component's amounts, added as whole numbers, equal that component's simplified amount
+abbrev pub ReSums : List ℕ → List ℕ → Type 0
+ReSums a xs = (c : ℕ) → c < COMPONENTS → sumTo (λ s. given a xs s c) (countFor a) ≡ getD (simplifiedOf a) c 0
+
+-- no chosen system is empty: its three amounts are not all 0
+abbrev pub NoneEmpty : List ℕ → List ℕ → Type 0
+NoneEmpty a xs = (s : ℕ) → s < countFor a → 0 < amount a xs s 0 + amount a xs s 1 + amount a xs s 2
+
+-- every two partial numbers lie at most 0.05 apart, the limit of 500000 units
+abbrev pub AllNear : List ℕ → List ℕ → Type 0
+AllNear a xs = (s t : ℕ) → s < countFor a → t < countFor a → natAbs (number a xs s -ℤ number a xs t) ≤ LIMIT
+
+-- the formulas' rating and spread, and the exact fraction: the same formulas with no fraction dropped
+abbrev pub ratingAt : List ℕ → List ℕ → ℤ
+ratingAt a xs = ratingOf (systemsFor a) (countFor a) (cellsIn a xs) (inertFirst a)
+
+abbrev pub spreadAt : List ℕ → List ℕ → ℕ
+spreadAt a xs = spreadOf (number a xs) (countFor a)
+
+abbrev pub exactAt : List ℕ → List ℕ → Fraction
+exactAt a xs = exactRating (systemsFor a) (countFor a) (cellsIn a xs) (inertFirst a)
+
+-- what `split` has its theorems of is these three and nothing else
+is-fit : (a xs : List ℕ) → ReSums a xs × NoneEmpty a xs × AllNear a xs
+    → Fit LIMIT (systemsFor a) (countFor a) (mixOf a) (cellsIn a xs)
+unfolding columnOf partsOf numberAt
+is-fit a xs h = record { sums = h .0; some = h .1; near = h .2 }
+
+fit-is : (a xs : List ℕ) → Fit LIMIT (systemsFor a) (countFor a) (mixOf a) (cellsIn a xs)
+    → ReSums a xs × NoneEmpty a xs × AllNear a xs
+unfolding columnOf partsOf numberAt
+fit-is a xs f = (f .sums, f .some, f .near)
+
+-- ---- (1) any amounts at all, proposed for an analysis in range, are rated exactly when: the three
+
 pub rated-exactly-when : (a : List ℕ) → refusalOf a ≡ 0 → (xs : List ℕ) (code : ℕ)
-    → IsRated (splitAnswer a (proposal a xs) code) ↔ Fit LIMIT (systemsFor a) (countFor a) (mixOf a) (cellsIn a (proposal a xs))
+    → IsRated (splitAnswer a (proposal a xs) code) ↔ (ReSums a xs × NoneEmpty a xs × AllNear a xs)
 rated-exactly-when a passed xs code =
-    let n1 = inertFirst a in
-    let e = split-fits a (proposal a xs) code passed refl refl refl in (
-      λ r. rated-fit LIMIT (systemsFor a) (countFor a) (mixOf a) (cellsIn a (proposal a xs)) n1 (subst IsRated e r),
-      λ f. subst IsRated (sym (e ∙ fit-rated LIMIT (systemsFor a) (countFor a) (mixOf a) (cellsIn a (proposal a xs)) n1 f)) tt,
-    )
+    let e = split-fits a (proposal a xs) code passed refl refl refl in
+    let fitted = fit-rated LIMIT (systemsFor a) (countFor a) (mixOf a) (cellsIn a xs) (inertFirst a) in
+    let only = rated-fit LIMIT (systemsFor a) (countFor a) (mixOf a) (cellsIn a xs) (inertFirst a) in
+    (λ r. fit-is a xs (only (subst IsRated e r)), λ h. subst IsRated (sym (e ∙ fitted (is-fit a xs h))) tt)
 
---     and then with the rating and the spread of the formulas
+--     and then with the formulas' rating and spread, which is within the limit
 pub rated-with : (a : List ℕ) → refusalOf a ≡ 0 → (xs : List ℕ) (code : ℕ)
-    → Fit LIMIT (systemsFor a) (countFor a) (mixOf a) (cellsIn a (proposal a xs))
-    → splitAnswer a (proposal a xs) code
-    ≡ Rated (ratingOf (systemsFor a) (countFor a) (cellsIn a (proposal a xs)) (inertFirst a)) (spreadOf (numberAt (systemsFor a) (cellsIn a (proposal a xs))) (countFor a)) 0
-rated-with a passed xs code f =
-    split-fits a (proposal a xs) code passed refl refl refl
-    ∙ fit-rated LIMIT (systemsFor a) (countFor a) (mixOf a) (cellsIn a (proposal a xs)) (inertFirst a) f
+    → ReSums a xs × NoneEmpty a xs × AllNear a xs
+    → (splitAnswer a (proposal a xs) code ≡ Rated (ratingAt a xs) (spreadAt a xs) 0) × (spreadAt a xs ≤ LIMIT)
+unfolding numberAt
+rated-with a passed xs code h =
+    let e = split-fits a (proposal a xs) code passed refl refl refl in
+    let fitted = fit-rated LIMIT (systemsFor a) (countFor a) (mixOf a) (cellsIn a xs) (inertFirst a) (is-fit a xs h) in
+    (e ∙ fitted, near-spread LIMIT (number a xs) (countFor a) (h .2))
 
--- (2) a found split, put back, gets the same rating and the same spread
+--     a split in any records at all is answered as those amounts are where the records are the nine expected,
+pub expected-same : (a : List ℕ) → refusalOf a ≡ 0 → (p : Split) (code : ℕ) → Expected a p
+    → splitAnswer a p code ≡ splitAnswer a (proposal a (p .amounts)) code
+expected-same a passed p code x =
+    let fits = expected-fits _ _ _ (p .systems) (p .codes) (x .many) (x .systems) (x .codes) in
+    split-by-records a p code true passed fits ∙ sym (split-fits a (proposal a (p .amounts)) code passed refl refl refl)
+
+--     and is rated exactly when they are, and the amounts keep the three
+pub records-rated-exactly-when : (a : List ℕ) → refusalOf a ≡ 0 → (p : Split) (code : ℕ)
+    → IsRated (splitAnswer a p code)
+    ↔ (Expected a p × ReSums a (p .amounts) × NoneEmpty a (p .amounts) × AllNear a (p .amounts))
+records-rated-exactly-when a passed p code =
+    let (only, when) = rated-exactly-when a passed (p .amounts) code in (
+      λ r.
+          let x = expected r in
+          let h = only (subst IsRated (expected-same a passed p code x) r) in
+          (x, h .0, h .1, h .2),
+      λ h. subst IsRated (sym (expected-same a passed p code (h .0))) (when (h .1, h .2, h .3)),
+    )
+  where
+    fits : Bool
+    fits = fitsOf (systemsFor a) (countFor a) (p .count) (p .systems) (p .codes)
+
+    known : fits ≡ true → Expected a p
+    known e =
+        let x = fits-expected (systemsFor a) (countFor a) (p .count) (p .systems) (p .codes) e in
+        record { many = x .0; systems = x .1; codes = x .2 }
+
+    expected : IsRated (splitAnswer a p code) → Expected a p
+    expected r = go fits refl
+      where
+        go : (b : Bool) → fits ≡ b → Expected a p
+        go true e = known e
+        go false e = absurd (subst IsRated (split-by-records a p code false passed e) r)
+
+-- ---- (2) a found split, put back as a proposal for the same analysis, gets the same rating and the same spread
+
 pub put-back : (a : List ℕ) → length a ≡ CODES → (allowance code code′ : ℕ) (w : ℤ) (s r : ℕ)
     → searchOutcome a allowance code .answer ≡ Rated w s r
     → splitAnswer a (searchOutcome a allowance code .split) code′ ≡ Rated w s 0
 put-back a long allowance code code′ w s r is = found-back a long allowance code code′ w s r is
 
--- (3) each rating, of a proposed split and of a found one, is less than 40 units from the exact fraction
+-- ---- (3) each rating, of a proposed split and of a found one, is less than 40 units from the exact fraction
+
 pub proposed-within : (a : List ℕ) → length a ≡ CODES → (p : Split) (code : ℕ) (w : ℤ) (s r : ℕ)
-    → splitAnswer a p code ≡ Rated w s r → Within w (exactRating (systemsFor a) (countFor a) (cellsIn a p) (inertFirst a)) 40
+    → splitAnswer a p code ≡ Rated w s r → Within w (exactAt a (p .amounts)) 40
 proposed-within a long p code w s r is =
     let (passed, e) = split-rated a p code w s r is in
-    rated-within (systemsFor a) (countFor a) (mixOf a) (cellsIn a p) (chosen a) LIMIT (inertFirst a) w s r e
+    rated-within (systemsFor a) (countFor a) (mixOf a) (cellsIn a (p .amounts)) (chosen a) LIMIT (inertFirst a) w s r e
     (omega (arith, million a long passed)) (inert-million a long passed)
 
 pub found-within : (a : List ℕ) → length a ≡ CODES → (allowance code : ℕ) (w : ℤ) (s r : ℕ)
     → searchOutcome a allowance code .answer ≡ Rated w s r
-    → Within w (exactRating (systemsFor a) (countFor a) (cellsIn a (searchOutcome a allowance code .split)) (inertFirst a)) 40
+    → Within w (exactAt a (searchOutcome a allowance code .split .amounts)) 40
 found-within a long allowance code w s r is =
-    proposed-within a long (searchOutcome a allowance code .split) code w s 0 (put-back a long allowance code code w s r is)
+    let back = put-back a long allowance code code w s r is in
+    proposed-within a long (searchOutcome a allowance code .split) code w s 0 back
 
---     and of a sheet, whichever it has: the cells are those of the split that was rated
+--     and of a sheet, whichever it has: the amounts are those of the split that was rated
 pub sheet-within : (s : List ℕ) (code : ℕ) (w : ℤ) (d r : ℕ) → sheetOutcome s code .answer ≡ Rated w d r
-    → Within w (exactRating (systemsFor (analysisIn s code)) (countFor (analysisIn s code)) (cellsIn (analysisIn s code) (splitRated s code)) (inertFirst (analysisIn s code))) 40
+    → Within w (exactAt (analysisIn s code) (splitRated s code .amounts)) 40
 sheet-within s code w d r is =
     let (long, e) = sheet-split s code w d r is in
     proposed-within (analysisIn s code) long (splitRated s code) code w d 0 e
@@ -100,11 +216,41 @@ pub sheet-put-back : (s : List ℕ) (code : ℕ) (w : ℤ) (d r : ℕ) → sheet
     → splitAnswer (analysisIn s code) (splitRated s code) code ≡ Rated w d 0
 sheet-put-back s code w d r is = sheet-split s code w d r is .1
 
--- (4) every sheet that 1 to 6 accept and that has no split ends in a rating or in 11,
+-- ---- (4) how a sheet ends
+
+-- every sheet that 1 to 6 accept and that has no split ends in a rating or in 11
 pub accepted-sheet-ends : (s : List ℕ) (code : ℕ) → readOf s code .answer ≡ Read → readOf s code .split .count ≡ 0
     → IsRated (sheetOutcome s code .answer) ⊎ (sheetOutcome s code .answer ≡ Refused 11 0)
 accepted-sheet-ends s code h e = accepted-ends s code h e
 
---     and every sheet at all in a rating or in one of 1 to 11
-pub every-sheet-ends : (s : List ℕ) (code : ℕ) → RatedOr 1 11 (sheetOutcome s code .answer)
+-- one that has its own is answered as that split is, proposed for the sheet's analysis: with the same rating and spread
+pub own-split-answered : (s : List ℕ) (code : ℕ) → readOf s code .answer ≡ Read → (readOf s code .split .count ≡ 0 → ⊥)
+    → sheetOutcome s code .answer ≡ splitAnswer (analysisIn s code) (readOf s code .split) code
+own-split-answered s code h n = accepted-own s code h n
+
+-- so it ends in a rating or in one of 7 to 10, and never in 11,
+pub own-split-ends : (s : List ℕ) (code : ℕ) → readOf s code .answer ≡ Read → (readOf s code .split .count ≡ 0 → ⊥)
+    → IsRated (sheetOutcome s code .answer)
+    ⊎ ((7 ≤ numberOf (sheetOutcome s code .answer)) × (numberOf (sheetOutcome s code .answer) ≤ 10))
+own-split-ends s code h n =
+    subst (λ (x : Answer). IsRated x ⊎ ((7 ≤ numberOf x) × (numberOf x ≤ 10))) (sym (own-split-answered s code h n))
+    (split-ends (analysisIn s code) (readOf s code .split) code (read-passed s code h))
+
+-- and is rated exactly when its records are the nine expected and the amounts in them keep the three
+pub own-split-rated-exactly-when : (s : List ℕ) (code : ℕ)
+    → readOf s code .answer ≡ Read → (readOf s code .split .count ≡ 0 → ⊥)
+    → let a = analysisIn s code in
+    let p = readOf s code .split in
+    IsRated (sheetOutcome s code .answer)
+    ↔ (Expected a p × ReSums a (p .amounts) × NoneEmpty a (p .amounts) × AllNear a (p .amounts))
+own-split-rated-exactly-when s code h n =
+    let passed = read-passed s code h in
+    let (only, when) = records-rated-exactly-when (analysisIn s code) passed (readOf s code .split) code in
+    let same = own-split-answered s code h n in
+    (λ r. only (subst IsRated same r), λ x. subst IsRated (sym same) (when x))
+
+-- and every sheet at all in a rating or in one of 1 to 11
+pub every-sheet-ends : (s : List ℕ) (code : ℕ)
+    → IsRated (sheetOutcome s code .answer)
+    ⊎ ((1 ≤ numberOf (sheetOutcome s code .answer)) × (numberOf (sheetOutcome s code .answer) ≤ 11))
 every-sheet-ends s code = sheet-ends s code

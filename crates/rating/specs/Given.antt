@@ -3,10 +3,11 @@ use mathlib.Core.Path.{_≡_}
 use mathlib.Core.List.{List}
 use Prim.Native.Nat.{ℕ}
 use Rattle.split.specs.Fits.{Fit}
-use Rattle.split.specs.declared.Search.the-variants.{Balanced}
+use Rattle.split.specs.declared.Search.the-variants.{Balanced, Unfit}
 use Rattle.split.specs.declared.Found.{Found}
 use Rattle.rating.specs.Rate.{LIMIT}
 
--- a balanced search has found cells that are fit
-abbrev pub FoundFit : List ℕ → List ℕ → ℕ → Found → Type 0
-FoundFit mix ch k f = (s r : ℕ) → f .search ≡ Balanced s r → Fit LIMIT ch k mix (f .cells)
+-- a search that was made; where it is balanced it has found cells that are fit
+pub record FoundFit (mix ch : List ℕ) (k : ℕ) (f : Found) : Type 0 where
+  pub made : f .search ≡ Unfit → ⊥
+  pub fit : (s r : ℕ) → f .search ≡ Balanced s r → Fit LIMIT ch k mix (f .cells)

@@ -5,9 +5,10 @@ use Prim.Native.Nat.{ℕ}
 use lib.ListN.{length}
 use Rattle.ternary.specs.Marked.{MarkedNumbers, marked-numbers}
 use Rattle.whole.specs.Marked.{MarkedWholes, marked-wholes}
+use Rattle.analysis.specs.Check.{totalOf}
 use Rattle.mixture.specs.Simplification.{simplifiedOf}
 use Rattle.mixture.specs.Inert.{inertOf}
-use Rattle.mixture.specs.Marked.{tableA1, marked}
+use Rattle.mixture.specs.Marked.{tableA1, total, marked}
 use Rattle.systems.specs.Systems.{hasOf, memberOf}
 use Rattle.systems.specs.Choice.{fitnessOf, chooseOf, paddedOf}
 use Rattle.systems.specs.Marked.{fitness, choice}
@@ -20,7 +21,8 @@ pub record MarkedFigures : Type 0 where
   -- partial numbers, whole numbers
   pub numbers : MarkedNumbers
   pub wholes : MarkedWholes
-  -- the gas of 001 Table A.1: simplified, fitness times 480 of 2, 4, 7, 8, chosen systems
+  -- the gas of 001 Table A.1: total, simplified, fitness times 480 of 2, 4, 7, 8, chosen systems
+  pub total-parts : totalOf tableA1 ≡ 999999
   pub simplified : simplifiedOf tableA1 ≡ 979229 ∷ 16803 ∷ 2438 ∷ 1530 ∷ []
   pub fitness-2 : fitnessOf (simplifiedOf tableA1) 2 ≡ 1608265
   pub fitness-4 : fitnessOf (simplifiedOf tableA1) 4 ≡ 48458257
@@ -59,6 +61,7 @@ unfolding mix
 marked-figures = record {
   numbers = marked-numbers;
   wholes = marked-wholes;
+  total-parts = total;
   simplified = marked .0;
   fitness-2 = fit 2 ∙ fitness .0;
   fitness-4 = fit 4 ∙ fitness .1;

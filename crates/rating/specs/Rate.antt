@@ -22,7 +22,7 @@ use Rattle.split.specs.SearchCases as search
 use Rattle.split.specs.declared.Answer.{Answer}
 use Rattle.split.specs.declared.Answer.the-variants.{Rated, Refused}
 use Rattle.split.specs.declared.Search.{Search}
-use Rattle.split.specs.declared.Search.the-variants.{Balanced, Unbalanced}
+use Rattle.split.specs.declared.Search.the-variants.{Balanced, Unbalanced, Unfit}
 use Rattle.split.specs.declared.Found.{Found}
 use Rattle.rating.specs.Records.{systemsOf, codesOf, fitsOf}
 use Rattle.rating.specs.declared.Outcome.{Outcome}
@@ -70,10 +70,12 @@ recordsOf ch k a = record { count = 3 * k; systems = systemsOf ch k; codes = cod
 abbrev pub outcome : Answer → Split → Outcome
 outcome answer split = record { answer = answer; split = split }
 
--- what the search came to: a rating with its split, or its refusal and no split
+-- what the search came to: a rating with its split, or its refusal and no split. No search of an analysis is unfit
+-- (`Answers.never-unfit`); its line has the number 0, which is no refusal's
 abbrev pub foundBy : List ℕ → ℕ → ℕ → List ℕ → Search → Outcome
 foundBy ch k n1 a (Balanced spread rounds) = outcome (Rated (ratingOf ch k a n1) spread rounds) (recordsOf ch k a)
 foundBy ch k n1 a Unbalanced = outcome (Refused (search.numberOf Unbalanced) 0) noSplit
+foundBy ch k n1 a Unfit = outcome (Refused (search.numberOf Unfit) 0) noSplit
 
 unfoldable pub foundOutcome : List ℕ → ℕ → ℕ → Found → Outcome
 foundOutcome ch k n1 f = foundBy ch k n1 (f .cells) (f .search)

@@ -7,8 +7,8 @@ use Prim.Native.Nat.{ℕ, zero, suc, _+_, _≤_}
 use native.Mathlib.Omega.{arith}
 use lib.Dec.{eqb, leb, ltb}
 use lib.ListN.{getD, length, length-set}
-use borrow.Author.Tests.{eqb-false}
-use Rattle.analysis.specs.Register.{CODES, Status, live, retired, splitsOnly, unknown, statusOf, ifElse}
+use Rattle.rating.specs.Rate.{LIMIT, ROUNDS, mixOf, systemsFor, countFor, splitBy, splitAnswer, foundBy, foundOutcome, searched, searchOutcome, outcome, readBy, sheetOutcome}
+use Rattle.rating.specs.Answers.{never-unfit}
 use Rattle.analysis.specs.Check.{refusalBy, refusalOf, allInRange, totalFits, totalOf}
 use Rattle.sheet.specs.Bytes.{numberAt}
 use Rattle.sheet.specs.Components as components
@@ -32,9 +32,10 @@ use Rattle.split.specs.Rated.{IsRated}
 use Rattle.split.specs.declared.Answer.{Answer}
 use Rattle.split.specs.declared.Answer.the-variants.{Rated, Refused}
 use Rattle.split.specs.declared.Search.{Search}
-use Rattle.split.specs.declared.Search.the-variants.{Balanced, Unbalanced}
+use Rattle.split.specs.declared.Search.the-variants.{Balanced, Unbalanced, Unfit}
 use Rattle.rating.specs.Records.{fitsOf}
 use Rattle.rating.specs.Rate.{LIMIT, ROUNDS, mixOf, systemsFor, countFor, splitBy, splitAnswer, foundBy, foundOutcome, searched, searchOutcome, outcome, readBy, sheetOutcome}
+use Rattle.rating.specs.Answers.{never-unfit}
 
 -- a rating, or a refusal with a number from `low` to `high`
 abbrev pub RatedOr : ℕ → ℕ → Answer → Type 0
@@ -56,13 +57,15 @@ not-five (Refused n p) (inr b) e = omega (arith, b .0)
 
 -- ---- by the search, of an analysis in range: a rating or 11
 
-found-ends : (ch : List ℕ) (k n1 : ℕ) (a : List ℕ) (x : Search) → IsRated (foundBy ch k n1 a x .answer) ⊎ (foundBy ch k n1 a x .answer ≡ Refused 11 0)
-found-ends ch k n1 a (Balanced s r) = inl tt
-found-ends ch k n1 a Unbalanced = inr refl
+found-ends : (ch : List ℕ) (k n1 : ℕ) (a : List ℕ) (x : Search) → (x ≡ Unfit → ⊥)
+    → IsRated (foundBy ch k n1 a x .answer) ⊎ (foundBy ch k n1 a x .answer ≡ Refused 11 0)
+found-ends ch k n1 a (Balanced s r) h = inl tt
+found-ends ch k n1 a Unbalanced h = inr refl
+found-ends ch k n1 a Unfit h = absurd (h refl)
 
 pub search-ends : (a : List ℕ) (allowance code : ℕ) → refusalOf a ≡ 0 → IsRated (searchOutcome a allowance code .answer) ⊎ (searchOutcome a allowance code .answer ≡ Refused 11 0)
 unfolding searchOutcome foundOutcome
-search-ends a allowance code h = rw h (found-ends _ _ _ _ (searched a allowance .search))
+search-ends a allowance code h = rw h (found-ends _ _ _ _ (searched a allowance .search) (never-unfit a allowance))
 
 -- ---- a proposed split of an analysis in range: a rating or 7 to 10
 
@@ -188,6 +191,18 @@ accepted-ends s code h e =
     let f = ap (λ (x : Reading). readBy x (readOf s code .analysis .amounts) (readOf s code .split) code .answer) h
     ∙ ap (λ (n : ℕ). ifElse (eqb n 0) (searchOutcome (readOf s code .analysis .amounts) ROUNDS code) (outcome (splitAnswer (readOf s code .analysis .amounts) (readOf s code .split) code) noSplit) .answer) e in
     subst (λ (x : Answer). IsRated x ⊎ (x ≡ Refused 11 0)) (sym f) (search-ends (readOf s code .analysis .amounts) ROUNDS code (read-passed s code h))
+
+-- accepted, with a split of its own: as that split is answered
+pub accepted-own : (s : List ℕ) (code : ℕ)
+    → readOf s code .answer ≡ reading.Read → (readOf s code .split .count ≡ 0 → ⊥)
+    → sheetOutcome s code .answer ≡ splitAnswer (readOf s code .analysis .amounts) (readOf s code .split) code
+unfolding sheetOutcome
+accepted-own s code h n =
+    let a = readOf s code .analysis .amounts in
+    let p = readOf s code .split in
+    let own = outcome (splitAnswer a p code) noSplit in
+    ap (λ (x : Reading). readBy x a p code .answer) h
+    ∙ ap (λ (t : Bool). ifElse t (searchOutcome a ROUNDS code) own .answer) (ne-eqb (p .count) 0 n)
 
 either : (x : Answer) → IsRated x ⊎ (x ≡ Refused 11 0) → RatedOr 1 11 x
 either x (inl r) = inl r

@@ -28,6 +28,7 @@ use sheet::Split;
 use split::Answer;
 use split::CELLS;
 use split::Found;
+use split::Proposed;
 use split::Search;
 use systems::COMPONENTS;
 use systems::Choice;
@@ -139,10 +140,24 @@ fn split_by(choice: Choice, mix: [u32; COMPONENTS], n1: u32, p: Split) -> Answer
         };
     }
     let cells = records::cells_of(systems, count, amounts);
-    proposal::proposed(LIMIT, choice, mix, cells, n1)
+    answer_of(proposal::proposed(LIMIT, choice, mix, cells, n1))
 }
 
-// What the search came to: a rating with its split, or 11.
+// The answer to a proposed split of input that is fit.
+fn answer_of(proposed: Proposed) -> Answer
+    requires { ⌜ (proposed ≡ Proposed.Unfit → ⊥) ⌝ }
+    ensures { λ r. ⌜ proposed ≡ Proposed.Answered r ⌝ }
+{
+    match proposed {
+        Proposed::Answered(answer) => answer,
+        Proposed::Unfit => Answer::Refused {
+            number: 0,
+            place: 0,
+        },
+    }
+}
+
+// What a search that was made came to: a rating with its split, or 11.
 fn found_outcome(choice: Choice, mix: [u32; COMPONENTS], n1: u32, found: Found) -> Outcome
     requires { ⌜ Proposal mix (choice .systems) (choice .count) n1 × FoundFit mix (choice .systems) (choice .count) found ⌝ }
     ensures { λ r. ⌜ r ≡ foundOutcome (choice .systems) (choice .count) n1 found ⌝ }
@@ -152,6 +167,7 @@ fn found_outcome(choice: Choice, mix: [u32; COMPONENTS], n1: u32, found: Found) 
     let count = choice.count;
     let systems = choice.systems;
     match search {
+        Search::Unfit => refused(0, 0),
         Search::Unbalanced => refused(11, 0),
         Search::Balanced { spread, rounds } => Outcome {
             answer: Answer::Rated {
@@ -169,7 +185,7 @@ fn rating_of(choice: Choice, mix: [u32; COMPONENTS], cells: [u32; CELLS], n1: u3
     requires { ⌜ Proposal mix (choice .systems) (choice .count) n1 × Fit LIMIT (choice .systems) (choice .count) mix cells ⌝ }
     ensures { λ r. ⌜ r ≡ ratingOf (choice .systems) (choice .count) cells n1 ⌝ }
 {
-    let answer = proposal::proposed(LIMIT, choice, mix, cells, n1);
+    let answer = answer_of(proposal::proposed(LIMIT, choice, mix, cells, n1));
     match answer {
         Answer::Rated {
             rating,

@@ -15,7 +15,7 @@ use Rattle.split.specs.Find.{chosenFit, mixtureFit, searchFit, findOf}
 use Rattle.split.specs.Starts.{start-stock}
 use Rattle.split.specs.Fits.{no-empty}
 use Rattle.split.specs.Finds.{chosen-of, mixture-of, find-search, find-none}
-use Rattle.split.specs.declared.Search.the-variants.{Unbalanced}
+use Rattle.split.specs.declared.Search.the-variants.{Unfit}
 use Rattle.split.specs.declared.Found.{Found}
 use Rattle.rows.specs.Rows.{rowsOf}
 use Rattle.rows.specs.Carried.{Held}
@@ -23,12 +23,12 @@ use Rattle.rows.specs.Laws.{unfit-empty, fit-held}
 use Rattle.rows.specs.declared.Rows.{Rows}
 
 module _ (mix ch : List ℕ) (k limit level allowance : ℕ) where
-  pub find-high : LEVEL < level → found (replicate CELLS 0) Unbalanced ≡ findOf mix ch k limit level allowance
+  pub find-high : LEVEL < level → found (replicate CELLS 0) Unfit ≡ findOf mix ch k limit level allowance
   unfolding searchFit
   find-high h = find-none mix ch k level limit allowance (rw (lt-leb level LEVEL h, searchFit))
 
   module _ (h : level ≤ LEVEL) (b : Bool) (p : b ≡ both (mixtureFit mix) (chosenFit ch k)) where
-    pub find-unfit : not b ≡ true → found (replicate CELLS 0) Unbalanced ≡ findOf mix ch k limit level allowance
+    pub find-unfit : not b ≡ true → found (replicate CELLS 0) Unfit ≡ findOf mix ch k limit level allowance
     unfolding searchFit
     find-unfit e = go (mixtureFit mix) (chosenFit ch k) refl refl
       where
@@ -38,7 +38,7 @@ module _ (mix ch : List ℕ) (k limit level allowance : ℕ) where
         clash : true ≡ false → _≡_ {A = ℕ} 1 0
         clash u = ap (λ x. elim x [ true ↦ 1 | false ↦ 0 ]) u
 
-        go : (x y : Bool) → mixtureFit mix ≡ x → chosenFit ch k ≡ y → found (replicate CELLS 0) Unbalanced ≡ findOf mix ch k limit level allowance
+        go : (x y : Bool) → mixtureFit mix ≡ x → chosenFit ch k ≡ y → found (replicate CELLS 0) Unfit ≡ findOf mix ch k limit level allowance
         go false y f g = find-none mix ch k level limit allowance (rw (le-leb level LEVEL h, f, searchFit))
         go true false f g = find-none mix ch k level limit allowance (rw (le-leb level LEVEL h, f, g, searchFit))
         go true true f g = absurd (let w : 1 ≡ 0 = clash (rw (f, g) at no) in omega arith)
@@ -56,7 +56,7 @@ module _ (mix ch : List ℕ) (k limit level allowance : ℕ) where
       stock : Stock ch k a
       stock = rw s (start-stock mix ch k (chosen-of ch k known .most) (mixture-of mix few) (chosen-of ch k known))
 
-      pub find-empty : r .fit ≡ false → found (replicate CELLS 0) Unbalanced ≡ findOf mix ch k limit level allowance
+      pub find-empty : r .fit ≡ false → found (replicate CELLS 0) Unfit ≡ findOf mix ch k limit level allowance
       unfolding searchFit
       find-empty u = find-none mix ch k level limit allowance (rw (le-leb level LEVEL h, few, known, ap (someEmpty ch k) (sym s) ∙ unfit-empty ch k a r q stock u, searchFit))
 

@@ -19,16 +19,16 @@ use systems::Choice;
 const LEVEL: usize = 16;
 
 fn nothing() -> Found
-    ensures { λ r. ⌜ r ≡ found (replicate CELLS 0) Search.Unbalanced ⌝ }
+    ensures { λ r. ⌜ r ≡ found (replicate CELLS 0) Search.Unfit ⌝ }
 {
     Found {
         cells: [0; CELLS],
-        search: Search::Unbalanced,
+        search: Search::Unfit,
     }
 }
 
 // The search from a mixture and its chosen systems, with a limit of the spread, the level of the first stride and an
-// allowance of rounds: the last split, and its spread and rounds where it is balanced. An input that has no start finds nothing.
+// allowance of rounds: the last split, and its spread and rounds where it is balanced. Input without a start is unfit.
 pub fn find(
     mix: [u32; COMPONENTS],
     choice: Choice,

@@ -10,7 +10,7 @@ use Rattle.split.specs.Split.{SYSTEMS, CELLS, systemOf, both}
 use Rattle.split.specs.Rating.{someEmpty}
 use Rattle.split.specs.Start.{startOf}
 use Rattle.split.specs.Search.{LEVEL, found, searchOf}
-use Rattle.split.specs.declared.Search.the-variants.{Unbalanced}
+use Rattle.split.specs.declared.Search.the-variants.{Unfit}
 use Rattle.split.specs.declared.Found.{Found}
 
 -- one or more chosen systems that there is room for, each a candidate
@@ -25,7 +25,10 @@ mixtureFit mix = leb (sumTo (λ c. getD mix c 0) COMPONENTS) 1000000
 unfoldable pub searchFit : List ℕ → List ℕ → ℕ → ℕ → Bool
 searchFit mix ch k level = both (leb level LEVEL) (both (mixtureFit mix) (both (chosenFit ch k) (not (someEmpty ch k (startOf mix ch k)))))
 
--- the search from the start; any other input finds nothing
+-- the search from the start; any other input is unfit, and finds nothing
 unfoldable pub findOf : List ℕ → List ℕ → ℕ → ℕ → ℕ → ℕ → Found
 findOf mix ch k limit level allowance =
-    elim (searchFit mix ch k level) [ true ↦ searchOf ch k limit level allowance (startOf mix ch k) | false ↦ found (replicate CELLS 0) Unbalanced ]
+    elim (searchFit mix ch k level) [
+      | true ↦ searchOf ch k limit level allowance (startOf mix ch k)
+      | false ↦ found (replicate CELLS 0) Unfit
+    ]

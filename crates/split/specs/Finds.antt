@@ -2,6 +2,7 @@
 use Prim.Native.Nat.{ℕ, _+_, _-_, _≤_, _<_}
 use mathlib.Core.Path.{_≡_, refl, sym, ap, _∙_}
 use mathlib.Core.Bool.{Bool, true, false}
+use mathlib.Core.Logic.{_↔_}
 use mathlib.Core.List.{List}
 use native.Mathlib.Omega.{arith}
 use lib.Dec.{ltb, leb, eqb}
@@ -17,12 +18,13 @@ use Rattle.split.specs.Start.{startOf}
 use Rattle.split.specs.Move.{imbalanceOf}
 use Rattle.split.specs.Search.{LEVEL, found, searchOf}
 use Rattle.split.specs.Find.{chosenFit, mixtureFit, searchFit, findOf}
-use Rattle.split.specs.declared.Search.the-variants.{Balanced, Unbalanced}
+use Rattle.split.specs.declared.Search.the-variants.{Balanced, Unfit}
 use Rattle.split.specs.declared.Found.{Found}
 use Rattle.split.specs.Folds.{all-each, all-of, some-each, some-of}
 use Rattle.split.specs.Members.{both-left, both-right}
 use Rattle.split.specs.Starts.{Shared, Supplied, start-sums, start-stock, start-sound}
 use Rattle.split.specs.Runs.{Reached, reached-kept, reached-falls, reached-rounds, result-kept, result-says, result-rounds, larger-allowance}
+use Rattle.split.specs.Runs.{result-fit}
 use Rattle.split.specs.Clean.{Clean}
 use Rattle.split.specs.Size.{number-small}
 use Rattle.split.specs.CleanCells.{start-clean, reached-clean, result-clean}
@@ -98,9 +100,24 @@ module _ (mix ch : List ℕ) (k level : ℕ) where
     unfolding findOf
     find-search e = rw (e, findOf)
 
-    pub find-none : searchFit mix ch k level ≡ false → found (replicate CELLS 0) Unbalanced ≡ findOf mix ch k limit level allowance
+    pub find-none : searchFit mix ch k level ≡ false
+        → found (replicate CELLS 0) Unfit ≡ findOf mix ch k limit level allowance
     unfolding findOf
     find-none e = rw (e, findOf)
+
+    -- unfit is what is told of other input, and of no other: a search that was made ends balanced or unbalanced
+    abbrev IsUnfit : Type 0
+    IsUnfit = findOf mix ch k limit level allowance .search ≡ Unfit
+
+    pub unfit-exactly-when : IsUnfit ↔ (searchFit mix ch k level ≡ false)
+    unfolding searchOf
+    unfit-exactly-when = (go (searchFit mix ch k level) refl, λ e. ap (λ (o : Found). o .search) (sym (find-none e)))
+      where
+        go : (b : Bool) → searchFit mix ch k level ≡ b → IsUnfit → b ≡ false
+        go false e u = refl
+        go true e u =
+            let made = ap (λ (o : Found). o .search) (find-search e) ∙ u in
+            absurd (result-fit ch k limit allowance (allowance + level + 1) (startOf mix ch k) level 0 made)
 
 -- ---- every state that a search reaches after r rounds
 

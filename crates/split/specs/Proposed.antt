@@ -1,8 +1,10 @@
 -- The answer to cells proposed as a split of a mixture, for every input (document 01, "The split and the rating"). Assumes nothing.
-use mathlib.Core.Path.{_≡_, refl, sym, _∙_}
+use mathlib.Core.Path.{_≡_, refl, sym, ap, _∙_}
 use mathlib.Core.Bool.{Bool, true, false}
+use mathlib.Core.Logic.{_↔_}
 use mathlib.Core.List.{List}
 use Prim.Native.Nat.{ℕ, _≤_}
+use native.Mathlib.Omega.{arith}
 use lib.Dec.{ltb, leb}
 use borrow.Author.Tests.{leb-true, le-leb}
 use Rattle.split.specs.Split.{numberAt, both, Chosen}
@@ -14,14 +16,17 @@ use Rattle.split.specs.Sums.{totalOf}
 use Rattle.split.specs.Rated.{proposed-unsummed, proposed-empty, proposed-wide, proposed-rated}
 use Rattle.split.specs.declared.Answer.{Answer}
 use Rattle.split.specs.declared.Answer.the-variants.{Rated, Refused}
+use Rattle.split.specs.declared.Proposed.{Proposed}
+use Rattle.split.specs.declared.Proposed.the-variants.{Answered, Unfit}
 
--- chosen systems that are candidates, a mixture of a million parts at most, an inert mixture's n1
+-- an inert mixture's n1, a mixture of a million parts at most, chosen systems that are candidates
 unfoldable pub proposalFit : List ℕ → List ℕ → ℕ → ℕ → Bool
-proposalFit mix ch k n1 = both (chosenFit ch k) (both (mixtureFit mix) (leb n1 1000000))
+proposalFit mix ch k n1 = both (leb n1 1000000) (both (mixtureFit mix) (chosenFit ch k))
 
--- the answer; other input is a misfit
-unfoldable pub answerOf : ℕ → List ℕ → ℕ → List ℕ → List ℕ → ℕ → Answer
-answerOf limit ch k mix a n1 = elim (proposalFit mix ch k n1) [ true ↦ proposedOf limit ch k mix a n1 | false ↦ Refused 7 0 ]
+-- the answer; other input is unfit, which is no refusal
+unfoldable pub answerOf : ℕ → List ℕ → ℕ → List ℕ → List ℕ → ℕ → Proposed
+answerOf limit ch k mix a n1 =
+    elim (proposalFit mix ch k n1) [ true ↦ Answered (proposedOf limit ch k mix a n1) | false ↦ Unfit ]
 
 -- the answer to a split that re-sums and has no empty system
 unfoldable pub ratedOf : ℕ → List ℕ → ℕ → List ℕ → ℕ → Answer
@@ -38,35 +43,49 @@ module _ (mix ch : List ℕ) (k n1 : ℕ) where
   pub proposal-of : proposalFit mix ch k n1 ≡ true → Proposal mix ch k n1
   unfolding proposalFit
   proposal-of e =
-      let p = both-right (chosenFit ch k) _ e in
+      let p = both-right (leb n1 1000000) _ e in
       record {
-        chosen = chosen-of ch k (both-left (chosenFit ch k) _ e);
+        chosen = chosen-of ch k (both-right (mixtureFit mix) _ p);
         few = mixture-of mix (both-left (mixtureFit mix) _ p);
-        inert = leb-true n1 1000000 (both-right (mixtureFit mix) _ p);
+        inert = leb-true n1 1000000 (both-left (leb n1 1000000) _ e);
       }
 
   pub proposal-fits : Proposal mix ch k n1 → proposalFit mix ch k n1 ≡ true
   unfolding proposalFit
-  proposal-fits p = rw (chosen-fits ch k (p .chosen), mixture-fits mix (p .few)) (le-leb n1 1000000 (p .inert))
+  proposal-fits p = rw (le-leb n1 1000000 (p .inert), mixture-fits mix (p .few)) (chosen-fits ch k (p .chosen))
 
   module _ (limit : ℕ) (a : List ℕ) where
-    pub answer-proposed : Proposal mix ch k n1 → answerOf limit ch k mix a n1 ≡ proposedOf limit ch k mix a n1
+    pub answer-proposed : Proposal mix ch k n1
+        → answerOf limit ch k mix a n1 ≡ Answered (proposedOf limit ch k mix a n1)
     unfolding answerOf
     answer-proposed p = rw (proposal-fits p, answerOf)
 
-    pub answer-misfit : proposalFit mix ch k n1 ≡ false → answerOf limit ch k mix a n1 ≡ Refused 7 0
+    pub answer-unfit : proposalFit mix ch k n1 ≡ false → answerOf limit ch k mix a n1 ≡ Unfit
     unfolding answerOf
-    answer-misfit e = rw (e, answerOf)
+    answer-unfit e = rw (e, answerOf)
 
-    pub answer-unsummed : Proposal mix ch k n1 → resums mix k a ≡ false → answerOf limit ch k mix a n1 ≡ Refused 8 0
-    answer-unsummed p h = answer-proposed p ∙ proposed-unsummed limit ch k mix a n1 h
+    -- unfit is what is told of other input, and of no other
+    pub unfit-exactly-when : (answerOf limit ch k mix a n1 ≡ Unfit) ↔ (proposalFit mix ch k n1 ≡ false)
+    unfit-exactly-when = (λ u. go (proposalFit mix ch k n1) refl u, answer-unfit)
+      where
+        go : (b : Bool) → proposalFit mix ch k n1 ≡ b → answerOf limit ch k mix a n1 ≡ Unfit → b ≡ false
+        go false e u = refl
+        go true e u =
+            let same = sym (answer-proposed (proposal-of e)) ∙ u in
+            absurd (let w : _≡_ {A = ℕ} 0 1 = cc in omega arith)
 
-    pub answer-empty : Proposal mix ch k n1 → resums mix k a ≡ true → someEmpty ch k a ≡ true → answerOf limit ch k mix a n1 ≡ Refused 9 0
-    answer-empty p h e = answer-proposed p ∙ proposed-empty limit ch k mix a n1 h e
+    pub answer-unsummed : Proposal mix ch k n1 → resums mix k a ≡ false
+        → answerOf limit ch k mix a n1 ≡ Answered (Refused 8 0)
+    answer-unsummed p h = answer-proposed p ∙ ap Answered (proposed-unsummed limit ch k mix a n1 h)
 
-    pub answer-rated : Proposal mix ch k n1 → resums mix k a ≡ true → someEmpty ch k a ≡ false → answerOf limit ch k mix a n1 ≡ ratedOf limit ch k a n1
+    pub answer-empty : Proposal mix ch k n1 → resums mix k a ≡ true → someEmpty ch k a ≡ true
+        → answerOf limit ch k mix a n1 ≡ Answered (Refused 9 0)
+    answer-empty p h e = answer-proposed p ∙ ap Answered (proposed-empty limit ch k mix a n1 h e)
+
+    pub answer-rated : Proposal mix ch k n1 → resums mix k a ≡ true → someEmpty ch k a ≡ false
+        → answerOf limit ch k mix a n1 ≡ Answered (ratedOf limit ch k a n1)
     unfolding ratedOf proposedOf
-    answer-rated p h e = answer-proposed p ∙ by-width (ltb limit (spreadOf (numberAt ch a) k)) refl
+    answer-rated p h e = answer-proposed p ∙ ap Answered (by-width (ltb limit (spreadOf (numberAt ch a) k)) refl)
       where
         by-width : (b : Bool) → ltb limit (spreadOf (numberAt ch a) k) ≡ b → proposedOf limit ch k mix a n1 ≡ ratedOf limit ch k a n1
         by-width true w = proposed-wide limit ch k mix a n1 h e w ∙ sym (rw (w, ratedOf))

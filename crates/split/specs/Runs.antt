@@ -13,7 +13,7 @@ use Rattle.split.specs.Move.{MOVES, imbalanceOf, firstOf, lowersOf}
 use Rattle.split.specs.Search.{goOn, turnOf, stepOf, found, runOf, searchOf}
 use Rattle.split.specs.declared.Turn.{Turn}
 use Rattle.split.specs.declared.Turn.the-variants.{Rate, Refuse, Move, Halve}
-use Rattle.split.specs.declared.Search.the-variants.{Balanced, Unbalanced}
+use Rattle.split.specs.declared.Search.the-variants.{Balanced, Unbalanced, Unfit}
 use Rattle.split.specs.declared.Found.{Found}
 use Rattle.split.specs.Steps.{moved-keeps}
 use Rattle.split.specs.Turns.{go-move, go-refuse, go-halve, turn-rate, turn-refuse, turn-on, moves, halves, under, sound-step, run-rate, run-refuse, run-move, run-halve}
@@ -126,6 +126,17 @@ result-says ch k limit allowance n a l r =
     let g = rates ch k limit allowance b l′ r′ w t in
     let u : s ≡ w = cc in
     (u ∙ g .1, omega arith))
+    (λ b l′ r′ m o t ih. ih)
+    (λ b l′ r′ o t ih. ih)
+    n a l r
+
+-- the turns end balanced or unbalanced
+pub result-fit : (ch : List ℕ) (k : ℕ) (limit allowance n : ℕ) (a : List ℕ) (l r : ℕ)
+    → runOf ch k limit allowance n a l r .search ≡ Unfit → ⊥
+result-fit ch k limit allowance n a l r =
+    run-ind ch k limit allowance (λ b l′ r′ o. o .search ≡ Unfit → ⊥)
+    (λ b l′ r′ e. let z : _≡_ {A = ℕ} 0 1 = cc in omega arith)
+    (λ b l′ r′ w t e. let z : _≡_ {A = ℕ} 0 1 = cc in omega arith)
     (λ b l′ r′ m o t ih. ih)
     (λ b l′ r′ o t ih. ih)
     n a l r

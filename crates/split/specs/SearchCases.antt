@@ -2,8 +2,9 @@
 -- in, 0 where there is none. Assumes nothing.
 use Prim.Native.Nat.{ℕ}
 use Rattle.split.specs.declared.Search.{Search}
-use Rattle.split.specs.declared.Search.the-variants.{Balanced, Unbalanced}
+use Rattle.split.specs.declared.Search.the-variants.{Balanced, Unbalanced, Unfit}
 
 abbrev pub numberOf : Search → ℕ
 numberOf (Balanced spread rounds) = 0
 numberOf Unbalanced = 11
+numberOf Unfit = 0

@@ -20,10 +20,17 @@ pub enum Answer {
     },
 }
 
-// What the search came to: a spread within the limit after so many rounds, or none.
+// The answer to a proposed split; or the input is unfit, none that document 01 has, which is no refusal.
+pub enum Proposed {
+    Answered(Answer),
+    Unfit,
+}
+
+// What the search came to: a spread within the limit after so many rounds, or none; or the input is unfit.
 pub enum Search {
     Balanced { spread: u64, rounds: u32 },
     Unbalanced,
+    Unfit,
 }
 
 // The last split of a search beside what it came to.

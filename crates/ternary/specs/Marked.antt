@@ -1,8 +1,12 @@
--- The marked figures of partial numbers (document 01, "Gases and their figures"), computed. Assumes nothing.
+-- The marked figures of partial numbers (document 01, "Gases and their figures"), computed; and a figure that tells the
+-- working rule, which drops fractions towards zero, from rounding down. Assumes nothing.
 use mathlib.Core.Path.{_≡_, refl}
-use lib.IntN.{pos}
+use mathlib.Core.List.{List, [], _∷_, map}
+use Prim.Native.Nat.{ℕ}
+use lib.IntN.{ℤ, pos, _+ℤ_, _*ℤ_}
+use Rattle.integer.specs.Floor.{floorOver}
 use Rattle.ternary.specs.WorkingRule.{worked, rowsOf, horner, coefs}
-use Rattle.ternary.specs.Coefficients.{placeIn}
+use Rattle.ternary.specs.Coefficients.{coeffOf, placeIn}
 use Rattle.ternary.specs.Partial.{partialNumber}
 
 -- at all methane; system 2 at all propane, and at all butane
@@ -17,3 +21,20 @@ pub record MarkedNumbers : Type 0 where
 pub marked-numbers : MarkedNumbers
 unfolding partialNumber worked rowsOf horner coefs placeIn
 marked-numbers = record { inert = refl; four = refl; seven = refl; eight = refl; two-propane = refl; two-butane = refl }
+
+-- ---- towards zero, and not down
+
+-- `horner` with each fraction dropped downwards
+abbrev hornerDown : ℕ → ℕ → List ℤ → ℤ
+hornerDown n d [] = pos 0
+hornerDown n d (c ∷ []) = c
+hornerDown n d (c ∷ (b ∷ cs)) = floorOver (hornerDown n d (b ∷ cs) *ℤ pos n) d +ℤ c
+
+-- system 7 at 333333, 333333, 333334: 239942239 by the rule, 239942237 rounded down
+pub towards-zero : partialNumber 7 333333 333333 333334 ≡ pos 239942239
+unfolding partialNumber worked rowsOf horner coefs placeIn
+towards-zero = refl
+
+pub rounded-down : hornerDown 333333 1000000 (map (hornerDown 333333 1000000) (rowsOf (coeffOf 7))) ≡ pos 239942237
+unfolding rowsOf coefs placeIn
+rounded-down = refl

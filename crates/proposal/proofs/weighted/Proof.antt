@@ -31,6 +31,9 @@ mul-weigh-2 c = omega arith
 element-copy-out-weigh-2 : tie.Need-element-copy-out-weigh-2 Inv-loop μ-loop
 element-copy-out-weigh-2 c = omega (arith, c .before .before .before .pre .small .most, c .before .loop-test .taken)
 
+loop-again : tie.Need-loop-again Inv-loop μ-loop
+loop-again c = weighed-more _ _ _ (c .before .before .before .before .before .pre) _ _ _ _ (c .before .before .before .before .loop .inv) (c .before .before .before .loop-test .taken) (at-back _ _ _ (c .before .before .before .before .before .pre .small) (c .before .before .before .loop-test .taken)) refl _ (read-back (c .weigh .result) (c .weigh .ok) ∙ c .weigh .ensures)
+
 weigh-requires : tie.Need-weigh-requires Inv-loop μ-loop
 weigh-requires c κs = weigh-asks _ _ _ (c .before .before .before .before .pre) _ _ _ _ (c .before .before .before .loop .inv) (c .before .before .loop-test .taken) (at-back _ _ _ (c .before .before .before .before .pre .small) (c .before .before .loop-test .taken)) refl
 
@@ -39,9 +42,6 @@ add-s c = omega arith
 
 loop-less : tie.Need-loop-less Inv-loop μ-loop
 loop-less c = omega arith
-
-loop-again : tie.Need-loop-again Inv-loop μ-loop
-loop-again c = weighed-more _ _ _ (c .before .before .before .before .before .pre) _ _ _ _ (c .before .before .before .before .loop .inv) (c .before .before .before .loop-test .taken) (at-back _ _ _ (c .before .before .before .before .before .pre .small) (c .before .before .before .loop-test .taken)) refl _ (read-back (c .weigh .result) (c .weigh .ok) ∙ c .weigh .ensures)
 
 returns : tie.Need-returns Inv-loop μ-loop
 returns c = weighed-all _ _ _ (c .before .before .pre) _ _ (c .before .loop .inv) (c .loop-test .left)
