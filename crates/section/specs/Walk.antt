@@ -1,5 +1,5 @@
--- A walk over a sheet (document 01, "The register and the sheet": "The sheet is read section by section, each beginning where
--- the last one ended, and nothing follows the second"). Assumes nothing.
+-- A walk over a sheet (document 01, "The register and the sheet": "The sheet is read section by section, each beginning
+-- where the last one ended, and nothing follows the second"). Assumes nothing.
 use Prim.Native.Nat.{ℕ}
 use mathlib.Core.Bool.{Bool}
 use mathlib.Core.List.{List}

@@ -59,8 +59,11 @@ pub record Sectioned (s : List ℕ) (n m first : ℕ) : Type 0 where
   pub size : length s ≡ 2 + COMPONENT_BYTES * n + RECORD_BYTES * m
 
 module _ (s : List ℕ) where
-  -- the second section and what follows it, by cases
-  second-back : (n at : ℕ) (x : Section) → sectionAt s at 6 ≡ x → {k m first : ℕ} → withSplit n x (leftAt s (standsAfter at x)) ≡ Both k m first
+  -- the sections of a sheet of `n` components whose second one, at `at`, is `x`
+  abbrev ending : ℕ → ℕ → Section → Sections
+  ending n at x = withSplit n x (leftAt s (standsAfter at x))
+
+  second-back : (n at : ℕ) (x : Section) → sectionAt s at 6 ≡ x → {k m first : ℕ} → ending n at x ≡ Both k m first
       → (k ≡ n) × (m ≡ getD s at 0) × (first ≡ at + 1) × (allowedCount m ≡ true) × (length s ≡ at + 1 + m * 6)
   unfolding endAt
   second-back n at found.Torn e h = let z : _≡_ {A = ℕ} 0 1 = cc in (absurd (never z), absurd (never z), absurd (never z), absurd (never z), absurd (never z))
@@ -82,23 +85,24 @@ module _ (s : List ℕ) where
           (sym r, omega arith, omega arith, subst (λ (x : ℕ). allowedCount x ≡ true) p a, omega arith)
       go true true a b =
           let w = rw (a, b) at h in
-          let z : _≡_ {A = ℕ} 0 1 = cc in (absurd (never z), absurd (never z), absurd (never z), absurd (never z), absurd (never z))
+          let z : _≡_ {A = ℕ} 0 1 = cc in
+          absurd (never z)
       go false u a b =
           let w = rw a at h in
-          let z : _≡_ {A = ℕ} 0 1 = cc in (absurd (never z), absurd (never z), absurd (never z), absurd (never z), absurd (never z))
+          let z : _≡_ {A = ℕ} 0 1 = cc in
+          absurd (never z)
 
-  -- the sections of a sheet whose first one is `x`
+  -- those of a sheet whose first one is `x`
   abbrev after : Section → Sections
-  after x =
-      let second = sectionAt s (standsAfter 0 x) 6 in
-      withComponents x second (leftAt s (standsAfter (standsAfter 0 x) second))
+  after x = withComponents x (sectionAt s (standsAfter 0 x) 6) (leftAt s (movedAt s (standsAfter 0 x) 6))
 
   first-back : (x : Section) → sectionAt s 0 5 ≡ x → {n m first : ℕ} → after x ≡ Both n m first → Sectioned s n m first
   unfolding endAt
   first-back found.Torn e h = let z : _≡_ {A = ℕ} 0 1 = cc in absurd (never z)
   first-back (found.Records n' first' end) e {n} {m} {first} h = go (leb n' LISTED) refl h
     where
-      go : (t : Bool) → leb n' LISTED ≡ t → ifElse t (withSplit n' (sectionAt s end 6) (leftAt s (movedAt s end 6))) Torn ≡ Both n m first → Sectioned s n m first
+      go : (t : Bool) → leb n' LISTED ≡ t → ifElse t (ending n' end (sectionAt s end 6)) Torn ≡ Both n m first
+          → Sectioned s n m first
       go true a h =
           let f = section-found s 0 5 e in
           let g = second-back n' end (sectionAt s end 6) refl h in
@@ -131,11 +135,11 @@ module _ (s : List ℕ) where
       ap after (section-records s 0 5 (omega arith))
       ∙ ap (λ (k : ℕ). after (found.Records (getD s 0 0) 1 k)) i
       ∙ ap (λ (k : ℕ). after (found.Records k 1 (1 + 5 * n))) en
-      ∙ ap (λ (t : Bool). ifElse t (withSplit n (sectionAt s (1 + 5 * n) 6) (leftAt s (movedAt s (1 + 5 * n) 6))) Torn) (le-leb n LISTED few)
-      ∙ ap (λ (x : Section). withSplit n x (leftAt s (standsAfter (1 + 5 * n) x))) (section-records s (1 + 5 * n) 6 (omega arith))
-      ∙ ap (λ (k : ℕ). withSplit n (found.Records (getD s (1 + 5 * n) 0) (1 + 5 * n + 1) k) (leftAt s k)) o
-      ∙ ap (λ (k : ℕ). withSplit n (found.Records k (1 + 5 * n + 1) (length s)) (leftAt s (length s))) em
-      ∙ ap (λ (k : ℕ). withSplit n (found.Records m k (length s)) (leftAt s (length s))) j
+      ∙ ap (λ (t : Bool). ifElse t (ending n (1 + 5 * n) (sectionAt s (1 + 5 * n) 6)) Torn) (le-leb n LISTED few)
+      ∙ ap (ending n (1 + 5 * n)) (section-records s (1 + 5 * n) 6 (omega arith))
+      ∙ ap (λ (k : ℕ). ending n (1 + 5 * n) (found.Records (getD s (1 + 5 * n) 0) (1 + 5 * n + 1) k)) o
+      ∙ ap (λ (k : ℕ). ending n (1 + 5 * n) (found.Records k (1 + 5 * n + 1) (length s))) em
+      ∙ ap (λ (k : ℕ). ending n (1 + 5 * n) (found.Records m k (length s))) j
       ∙ rw (allowed, le-ltb (length s) (length s) (omega arith))
 
 -- ---- reading
