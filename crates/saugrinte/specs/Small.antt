@@ -19,14 +19,17 @@ use Rattle.saugrinte.specs.Interface.{SmallFigures}
 use Rattle.rating.specs.Sheets.{read-long}
 use Rattle.rating.specs.Lasting.{proposed-small, found-small}
 
-rated-small : (x : Answer) → ((w : ℤ) (s r : ℕ) → x ≡ Rated w s r → (natAbs w < 9007199254740992) × (s < 9007199254740992)) → SmallFigures x
+rated-small : (x : Answer)
+    → ((w : ℤ) (s r : ℕ) → x ≡ Rated w s r → (natAbs w < 9007199254740992) × (s < 9007199254740992))
+    → SmallFigures x
 rated-small (Rated w s r) h = h w s r refl
 rated-small (Refused number place) h = tt
 
 pub split-small : (a : List ℕ) → length a ≡ CODES → (p : Split) (code : ℕ) → SmallFigures (splitAnswer a p code)
 split-small a long p code = rated-small (splitAnswer a p code) (λ w s r is. proposed-small a long p code w s r is)
 
-pub search-small : (a : List ℕ) → length a ≡ CODES → (allowance code : ℕ) → SmallFigures (searchOutcome a allowance code .answer)
+pub search-small : (a : List ℕ) → length a ≡ CODES → (allowance code : ℕ)
+    → SmallFigures (searchOutcome a allowance code .answer)
 search-small a long allowance code =
     rated-small (searchOutcome a allowance code .answer) (λ w s r is. found-small a long allowance code w s r is)
 
@@ -36,11 +39,13 @@ by-split : (none : Bool) (a : List ℕ) → length a ≡ CODES → (p : Split) (
 by-split true a long p code = search-small a long ROUNDS code
 by-split false a long p code = split-small a long p code
 
-read-small : (x : Reading) (a : List ℕ) → (x ≡ reading.Read → length a ≡ CODES) → (p : Split) (code : ℕ) → SmallFigures (readBy x a p code .answer)
+read-small : (x : Reading) (a : List ℕ) → (x ≡ reading.Read → length a ≡ CODES) → (p : Split) (code : ℕ)
+    → SmallFigures (readBy x a p code .answer)
 read-small (reading.Refused number place code′) a long p code = tt
 read-small reading.Read a long p code = by-split (eqb (p .count) 0) a (long refl) p code
 
 pub sheet-small : (s : List ℕ) (code : ℕ) → SmallFigures (sheetOutcome s code .answer)
 unfolding sheetOutcome
 sheet-small s code =
-    read-small (readOf s code .answer) (readOf s code .analysis .amounts) (λ h. read-long s code h) (readOf s code .split) code
+    let x = readOf s code in
+    read-small (x .answer) (x .analysis .amounts) (λ h. read-long s code h) (x .split) code
