@@ -26,7 +26,7 @@ use Rattle.mixture.specs.Inert.{inertFirst}
 use Rattle.mixture.specs.Answers.{mixtureOf, inertN1}
 use Rattle.systems.specs.Choice.{choiceOf}
 use Rattle.systems.specs.declared.Choice.{Choice}
-use Rattle.split.specs.Refused.{differ}
+use Rattle.split.specs.Refused.{differ, wider}
 use Rattle.split.specs.Split.{RECORDS, cellsOf, numberAt}
 use Rattle.split.specs.Rating.{spreadOf, ratingOf, proposedOf}
 use Rattle.split.specs.Fits.{Fit}
@@ -173,19 +173,20 @@ module _ (ch : List ℕ) (k : ℕ) (mix : List ℕ) (n1 : ℕ) where
   unfolding splitBy
   fitting p cells e q = ap (λ (l : List ℕ). proposedOf 500000 ch k mix l n1) q ∙ rw e
 
-  -- fit input is answered
-  module _ (cells : List ℕ) (h : Proposal mix ch k n1) (y : Proposed) (z : y ≡ answerOf 500000 ch k mix cells n1) where
+  -- fit input is answered, under any limit
+  module _ (limit : ℕ) (cells : List ℕ) (h : Proposal mix ch k n1) (y : Proposed) (z : y ≡ answerOf limit ch k mix cells n1) where
     pub answered-not-unfit : y ≡ Unfit → ⊥
     answered-not-unfit u =
-        let same = sym u ∙ z ∙ answer-proposed mix ch k n1 500000 cells h in
+        let same = sym u ∙ z ∙ answer-proposed mix ch k n1 limit cells h in
         let w : _≡_ {A = ℕ} 0 1 = cc in omega arith
 
-    pub answered-is : (x : Answer) → y ≡ Answered x → x ≡ proposedOf 500000 ch k mix cells n1
-    answered-is x u = let same = sym u ∙ z ∙ answer-proposed mix ch k n1 500000 cells h in cc
+    pub answered-is : (x : Answer) → y ≡ Answered x → x ≡ proposedOf limit ch k mix cells n1
+    answered-is x u = let same = sym u ∙ z ∙ answer-proposed mix ch k n1 limit cells h in cc
 
-  module _ (cells : List ℕ) (f : Fit 500000 ch k mix cells) (x : Answer) (e : x ≡ proposedOf 500000 ch k mix cells n1) where
+  -- cells that are fit are rated, also under a wider limit
+  module _ (limit : ℕ) (cells : List ℕ) (f : Fit 500000 ch k mix cells) (x : Answer) (e : x ≡ proposedOf limit ch k mix cells n1) (l : 500000 ≤ limit) where
     rated : x ≡ Rated (ratingOf ch k cells n1) (spreadOf (numberAt ch cells) k) 0
-    rated = e ∙ fit-rated 500000 ch k mix cells n1 f
+    rated = e ∙ wider 500000 limit ch k mix cells n1 _ _ _ l (fit-rated 500000 ch k mix cells n1 f)
 
     pub rating-is : (w : ℤ) (s r : ℕ) → x ≡ Rated w s r → w ≡ ratingOf ch k cells n1
     rating-is w s r q = let same : Rated w s r ≡ Rated (ratingOf ch k cells n1) (spreadOf (numberAt ch cells) k) 0 = sym q ∙ rated in cc
@@ -224,9 +225,9 @@ pub found-is-some : (ch : List ℕ) (k n1 : ℕ) (f : Found) (s r : ℕ) (w w′
 found-is-some ch k n1 f s r w w′ p e same q h = ap₂ (λ (x : ℤ) (y : Split). outcome (Rated x s r) y) (same ∙ q) h ∙ found-some ch k n1 f s r e
 
 -- a rating in its 64 bits
-pub rating-value : (ch : List ℕ) (k : ℕ) (mix : List ℕ) (n1 : ℕ) (cells : List ℕ) → Proposal mix ch k n1 → Fit 500000 ch k mix cells → (x : Answer) → x ≡ proposedOf 500000 ch k mix cells n1
+pub rating-value : (ch : List ℕ) (k : ℕ) (mix : List ℕ) (n1 limit : ℕ) (cells : List ℕ) → Proposal mix ch k n1 → Fit 500000 ch k mix cells → (x : Answer) → x ≡ proposedOf limit ch k mix cells n1 → 500000 ≤ limit
     → (w : ℤ) (s r : ℕ) → x ≡ Rated w s r → toZ w64 (ofZ w64 w) ≡ ratingOf ch k cells n1
-rating-value ch k mix n1 cells h f x e w s r q =
-    let is = rating-is ch k mix n1 cells f x e w s r q in
+rating-value ch k mix n1 limit cells h f x e l w s r q =
+    let is = rating-is ch k mix n1 limit cells f x e l w s r q in
     let small = rating-small ch k cells n1 (fit-few ch k mix cells (h .chosen) (h .few) (f .sums)) in
     read-back w (subst (λ (z : ℤ). mag z < 2 ^ 63) (sym is) (N.lt-of-le-of-lt (N.le-trans (mag-le (ratingOf ch k cells n1)) small) (lit< tt))) ∙ is

@@ -330,4 +330,4 @@ module _ (ch : List ℕ) (k : ℕ) (mix : List ℕ) (n1 : ℕ) (p : Split) (b : 
 
   pub split-fitting : (cells : List ℕ) (r : Answer) (y : Proposed) → Proposal mix ch k n1 → not b ≡ false → cells ≡ cellsOf ch k (p .amounts)
       → y ≡ answerOf 500000 ch k mix cells n1 → y ≡ Answered r → r ≡ splitBy ch k mix n1 p
-  split-fitting cells r y h t q z u = answered-is ch k mix n1 cells h y z r u ∙ fitting ch k mix n1 p cells (sym e ∙ not-false b t) q
+  split-fitting cells r y h t q z u = answered-is ch k mix n1 500000 cells h y z r u ∙ fitting ch k mix n1 p cells (sym e ∙ not-false b t) q

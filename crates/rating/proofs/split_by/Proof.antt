@@ -19,7 +19,7 @@ proposed-requires c κs = search needs
 
 answer-of-requires : tie.Need-answer-of-requires
 answer-of-requires c κs =
-    answered-not-unfit _ _ _ _ _ (c .before .before .before .before .before .before .before .before .pre .0) _ (c .proposed .ensures)
+    answered-not-unfit _ _ _ _ _ _ (c .before .before .before .before .before .before .before .before .pre .0) _ (c .proposed .ensures)
 
 returns-2 : tie.Need-returns-2
 returns-2 c =
