@@ -7,6 +7,8 @@ ghost use Rattle.analysis.specs.Register.{CODES, ifElse};
 ghost use Rattle.analysis.specs.Packed.{rangeOf};
 ghost use Rattle.analysis.specs.CheckedCases.{numberOf, codeOf};
 ghost use Rattle.analysis.specs.Check.{inRange, totalFits, refusalBy, refusalOf, answerOf, AtFault};
+use refusal::OUT_OF_RANGE;
+use refusal::TOTAL;
 
 // Indices of an analysis: the codes 1 to 13, and 0, which is no code.
 pub const CODES: usize = 14;
@@ -68,15 +70,15 @@ fn refusal(fault: usize, sum: u64) -> u32
     ensures { λ r. ⌜ r ≡ refusalBy (eqb fault CODES) (totalFits sum) ⌝ }
 {
     if fault != CODES {
-        return 5;
+        return OUT_OF_RANGE;
     }
     if sum < 999900 {
-        return 6;
+        return TOTAL;
     }
     if sum <= 1000100 {
         return 0;
     }
-    6
+    TOTAL
 }
 
 // The answer: 5 carries the code at fault, 6 none.
@@ -88,7 +90,7 @@ fn answer(fault: usize, sum: u64) -> Checked
     if number == 0 {
         return Checked::InRange;
     }
-    if number == 5 {
+    if number == OUT_OF_RANGE {
         return Checked::Refused {
             number,
             code: fault as u32,

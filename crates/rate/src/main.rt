@@ -2,6 +2,7 @@
 // (document 01, "Writer, display, controller"). Everything that matters is in the library.
 use libc::STDIN_FILENO;
 use libc::STDOUT_FILENO;
+use refusal::TORN;
 use sheet::SHEET;
 use split::Answer;
 
@@ -53,7 +54,7 @@ fn main() {
         let extra = io::read_full(STDIN_FILENO, &mut more);
         if extra > 0 {
             put_answer(Answer::Refused {
-                number: 1,
+                number: TORN,
                 place: 0,
             });
             return;
