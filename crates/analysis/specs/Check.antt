@@ -6,6 +6,7 @@ use mathlib.Core.Bool.{Bool, true, false, not}
 use Prim.Native.Nat.{ℕ, suc, _+_, _<_, _≤_}
 use lib.ListN.{getD}
 use lib.Dec.{leb, eqb}
+use Rattle.refusal.specs.Register.{OUT_OF_RANGE, TOTAL}
 use Rattle.analysis.specs.declared.Checked.{Checked}
 use Rattle.analysis.specs.declared.Checked.the-variants.{InRange, Refused}
 use Rattle.analysis.specs.CheckedCases.{numberOf, codeOf}
@@ -61,8 +62,8 @@ totalFits total = ifElse (leb 999900 total) (leb total 1000100) false
 
 -- 5 where the ranges do not hold, then 6 where the total does not, else 0
 abbrev pub refusalBy : Bool → Bool → ℕ
-refusalBy false total = 5
-refusalBy true false = 6
+refusalBy false total = OUT_OF_RANGE
+refusalBy true false = TOTAL
 refusalBy true true = 0
 
 -- the number with which an analysis is refused; 0 where it is in range
@@ -75,7 +76,7 @@ AtFault a code = inRange code (getD a code 0) ≡ false
 
 -- the answer with the number `n`; 5 carries `code`, and 6 none
 abbrev pub answerOf : ℕ → ℕ → Checked
-answerOf n code = ifElse (eqb n 0) InRange (Refused n (ifElse (eqb n 5) code 0))
+answerOf n code = ifElse (eqb n 0) InRange (Refused n (ifElse (eqb n OUT_OF_RANGE) code 0))
 
 -- the promise of the check: the answer is fixed but for the code of 5, and that is a code at fault
 pub record Checking (a : List ℕ) (r : Checked) : Type 0 where

@@ -4,7 +4,8 @@ use mathlib.Core.Path.{_≡_, refl}
 use mathlib.Core.List.{List, [], _∷_}
 use mathlib.Core.Bool.{Bool, true, false}
 use Prim.Native.Nat.{ℕ}
-use lib.Dec.{eqb, ltb}
+use lib.Dec.{eqb}
+use Rattle.refusal.specs.Keys.{distinct, rising}
 
 -- a code is live, with the least and the greatest amount in parts and whether it must be present; or retired; or legal in
 -- splits only; or no key of the register. A part, by document 01, is 0.0001 % by volume.
@@ -74,18 +75,16 @@ abbrev pub keysOf : List Entry → List ℕ
 keysOf [] = []
 keysOf (e ∷ es) = e .code ∷ keysOf es
 
-abbrev pub isIn : ℕ → List ℕ → Bool
-isIn x [] = false
-isIn x (y ∷ ys) = ifElse (eqb x y) true (isIn x ys)
+abbrev isRetired : Status → Bool
+isRetired (live least greatest required) = false
+isRetired retired = true
+isRetired splitsOnly = false
+isRetired unknown = false
 
-abbrev pub distinct : List ℕ → Bool
-distinct [] = true
-distinct (x ∷ xs) = ifElse (isIn x xs) false (distinct xs)
-
--- does each number stand above the one before, the first above `p`?
-abbrev pub rising : ℕ → List ℕ → Bool
-rising p [] = true
-rising p (x ∷ xs) = ifElse (ltb p x) (rising x xs) false
+-- the keys that the entries of a list retire
+abbrev pub retiredIn : List Entry → List ℕ
+retiredIn [] = []
+retiredIn (e ∷ es) = ifElse (isRetired (e .status)) (e .code ∷ retiredIn es) (retiredIn es)
 
 -- no key stands twice
 pub no-key-twice : distinct (keysOf register) ≡ true
@@ -94,3 +93,12 @@ no-key-twice = refl
 -- and the keys rise from 1
 pub keys-rise : rising 0 (keysOf register) ≡ true
 keys-rise = refl
+
+-- 9 and 13 are retired for ever: a request that retires a key adds it here, and none is ever taken away
+pub retired-for-ever : (statusOf 9 ≡ retired) × (statusOf 13 ≡ retired)
+unfolding statusOf
+retired-for-ever = (refl, refl)
+
+-- and no other key is
+pub none-else-retired : retiredIn register ≡ 9 ∷ 13 ∷ []
+none-else-retired = refl

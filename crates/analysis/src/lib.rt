@@ -7,6 +7,8 @@ ghost use Rattle.analysis.specs.Register.{CODES, ifElse};
 ghost use Rattle.analysis.specs.Packed.{rangeOf};
 ghost use Rattle.analysis.specs.CheckedCases.{numberOf, codeOf};
 ghost use Rattle.analysis.specs.Check.{inRange, totalFits, refusalBy, refusalOf, answerOf, AtFault};
+use refusal::OUT_OF_RANGE;
+use refusal::TOTAL;
 
 // Indices of an analysis: room for every code below 16. At 0, 9 and 13 to 15 no amount is legal.
 pub const CODES: usize = 16;
@@ -70,15 +72,15 @@ fn refusal(fault: usize, sum: u64) -> u32
     ensures { λ r. ⌜ r ≡ refusalBy (eqb fault CODES) (totalFits sum) ⌝ }
 {
     if fault != CODES {
-        return 5;
+        return OUT_OF_RANGE;
     }
     if sum < 999900 {
-        return 6;
+        return TOTAL;
     }
     if sum <= 1000100 {
         return 0;
     }
-    6
+    TOTAL
 }
 
 // The answer: 5 carries the code at fault, 6 none.
@@ -90,7 +92,7 @@ fn answer(fault: usize, sum: u64) -> Checked
     if number == 0 {
         return Checked::InRange;
     }
-    if number == 5 {
+    if number == OUT_OF_RANGE {
         return Checked::Refused {
             number,
             code: fault as u32,

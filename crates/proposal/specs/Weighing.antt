@@ -6,6 +6,7 @@ use lib.Dec.{ltb}
 use lib.IntN.{ℤ, pos, negsuc, _+ℤ_, _*ℤ_}
 use lib.ListN.{getD}
 use lib.Signed.{quotZ}
+use Rattle.refusal.specs.Register.{EMPTY_SYSTEM, WIDE}
 use Rattle.split.specs.Fold.{sumTo, sumToZ}
 use Rattle.split.specs.Rating.{someEmpty, spreadOf, inertNumber}
 use Rattle.split.specs.Proposed.{ratedOf}
@@ -21,13 +22,13 @@ weighedTo v p k = sumToZ (λ s. listed v s *ℤ pos (getD p s 0)) k
 unfoldable pub ratedBy : ℕ → List ℤ → List ℕ → ℕ → ℕ → Answer
 ratedBy limit v p k n1 =
     elim (ltb limit (spreadOf (listed v) k)) [
-      | true ↦ Refused 10 0
+      | true ↦ Refused WIDE 0
       | false ↦ Rated (quotZ (weighedTo v p k) (pos 1000000) +ℤ inertNumber n1 +ℤ negsuc 1000002999) (spreadOf (listed v) k) 0
     ]
 
 -- the answer to cells that re-sum
 unfoldable pub weighedOf : ℕ → List ℕ → ℕ → List ℕ → ℕ → Answer
-weighedOf limit ch k a n1 = elim (someEmpty ch k a) [ true ↦ Refused 9 0 | false ↦ ratedOf limit ch k a n1 ]
+weighedOf limit ch k a n1 = elim (someEmpty ch k a) [ true ↦ Refused EMPTY_SYSTEM 0 | false ↦ ratedOf limit ch k a n1 ]
 
 -- small numbers of one or more rows that have a million parts at most
 pub record Weighable (v : List ℤ) (p : List ℕ) (k : ℕ) : Type 0 where

@@ -10,6 +10,9 @@ ghost use Rattle.split.specs.Rating.{resums, spreadOf, inertNumber};
 ghost use Rattle.split.specs.Proposed.{proposalFit, answerOf};
 ghost use Rattle.rows.specs.Rows.{listed, Small};
 ghost use Rattle.proposal.specs.Weighing.{Weighable, weighedTo, ratedBy, weighedOf};
+use refusal::EMPTY_SYSTEM;
+use refusal::UNSUMMED;
+use refusal::WIDE;
 use split::Answer;
 use split::CELLS;
 use systems::COMPONENTS;
@@ -141,7 +144,7 @@ fn rated(limit: u64, v: &[i64; SYSTEMS], p: &[u32; SYSTEMS], k: usize, n1: u32) 
 {
     let spread = spread(v, k);
     if limit < spread {
-        return refused(10);
+        return refused(WIDE);
     }
     let rating = rating_of(weighted(v, p, k), inert_number(n1));
     Answer::Rated {
@@ -159,7 +162,7 @@ fn weighed(limit: u64, choice: Choice, cells: [u32; CELLS], n1: u32) -> Answer
     let rows = rows::evaluate(choice, cells);
     let fit = rows.fit;
     if !fit {
-        return refused(9);
+        return refused(EMPTY_SYSTEM);
     }
     let v = rows.numbers;
     let p = rows.parts;
@@ -192,7 +195,7 @@ pub fn proposed(
         return split::Proposed::Unfit;
     }
     if !resums(&mix, choice.count, &cells) {
-        return split::Proposed::Answered(refused(8));
+        return split::Proposed::Answered(refused(UNSUMMED));
     }
     split::Proposed::Answered(weighed(limit, choice, cells, n1))
 }

@@ -3,6 +3,7 @@
 use display::LINE;
 use libc::STDIN_FILENO;
 use libc::STDOUT_FILENO;
+use refusal::TORN;
 use sheet::SHEET;
 use split::Answer;
 
@@ -15,7 +16,7 @@ fn answer() -> Answer {
         let extra = io::read_full(STDIN_FILENO, &mut more);
         if extra > 0 {
             return Answer::Refused {
-                number: 1,
+                number: TORN,
                 place: 0,
             };
         }

@@ -1,6 +1,6 @@
 -- What the rating of a sheet meets. Assumes nothing.
 use mathlib.Core.Path.{_≡_, refl, sym, ap, _∙_, subst}
-use mathlib.Core.Bool.{Bool, true, false, cond}
+use mathlib.Core.Bool.{Bool, true, false}
 use mathlib.Core.Logic.{inl, inr}
 use mathlib.Core.List.{List}
 use Prim.Native.Nat.{ℕ}
@@ -26,16 +26,12 @@ use Rattle.rating.specs.declared.Outcome.{Outcome}
 
 -- ---- a refused sheet
 
-choice : (b : Bool) (x : ℕ) → cond b x 0 ≡ ifElse b x 0
-choice true x = refl
-choice false x = refl
-
 module _ (s : List ℕ) (r : Sheet) (h : ReadAs s r) (number place code : ℕ) (e : r .answer ≡ reading.Refused number place code) where
   abbrev carried : ℕ
   carried = read.placeOf (reading.Refused number place code)
 
   same-code : codeOf (Refused number carried) ≡ code
-  same-code = choice (eqb number 5) carried ∙ carried-code s r h number place code e
+  same-code = carried-code s r h number place code e
 
   pub sheet-refused : outcome (Refused number carried) noSplit ≡ sheetOutcome s (codeOf (Refused number carried))
   unfolding sheetOutcome

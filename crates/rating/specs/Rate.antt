@@ -3,6 +3,7 @@
 use mathlib.Core.List.{List}
 use Prim.Native.Nat.{ℕ, _*_, min}
 use lib.Dec.{eqb}
+use Rattle.refusal.specs.Register.{OUT_OF_RANGE, MISFIT}
 use Rattle.analysis.specs.Register.{ifElse}
 use Rattle.analysis.specs.Check.{refusalOf}
 use Rattle.sheet.specs.Split.{noSplit}
@@ -48,14 +49,14 @@ countFor a = choiceOf (simplifiedOf a) .count
 -- ---- a refusal of the analysis comes first; 5 carries `code`, and 6 none
 
 abbrev pub checkedBy : ℕ → ℕ → Answer → Answer
-checkedBy number code rated = ifElse (eqb number 0) rated (Refused number (ifElse (eqb number 5) code 0))
+checkedBy number code rated = ifElse (eqb number 0) rated (Refused number (ifElse (eqb number OUT_OF_RANGE) code 0))
 
 -- ---- a proposed split
 
 -- of chosen systems, a mixture and its inert part: 7 where its records are not those expected, else the answer to its cells
 unfoldable pub splitBy : List ℕ → ℕ → List ℕ → ℕ → Split → Answer
 splitBy ch k mix n1 p =
-    ifElse (fitsOf ch k (p .count) (p .systems) (p .codes)) (proposedOf LIMIT ch k mix (cellsOf ch k (p .amounts)) n1) (Refused 7 0)
+    ifElse (fitsOf ch k (p .count) (p .systems) (p .codes)) (proposedOf LIMIT ch k mix (cellsOf ch k (p .amounts)) n1) (Refused MISFIT 0)
 
 -- of an analysis
 unfoldable pub splitAnswer : List ℕ → Split → ℕ → Answer
@@ -89,7 +90,7 @@ unfoldable pub searchOutcome : List ℕ → ℕ → ℕ → Outcome
 searchOutcome a allowance code =
     ifElse (eqb (refusalOf a) 0)
     (foundOutcome (systemsFor a) (countFor a) (inertFirst a) (searched a allowance))
-    (outcome (Refused (refusalOf a) (ifElse (eqb (refusalOf a) 5) code 0)) noSplit)
+    (outcome (Refused (refusalOf a) (ifElse (eqb (refusalOf a) OUT_OF_RANGE) code 0)) noSplit)
 
 -- ---- a sheet: its refusal, else its split, else the search with the most rounds
 

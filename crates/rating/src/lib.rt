@@ -22,6 +22,9 @@ ghost use Rattle.rating.specs.Rate.{LIMIT, ROUNDS, splitBy, splitAnswer,
 ghost use Rattle.rating.specs.Given.{FoundFit};
 use analysis::Analysis;
 use analysis::Checked;
+use refusal::MISFIT;
+use refusal::OUT_OF_RANGE;
+use refusal::UNBALANCED;
 use sheet::RECORDS;
 use sheet::Reading;
 use sheet::Split;
@@ -135,7 +138,7 @@ fn split_by(choice: Choice, mix: [u32; COMPONENTS], n1: u32, p: Split) -> Answer
     let amounts = p.amounts;
     if !records::fits(systems, count, records, found, codes) {
         return Answer::Refused {
-            number: 7,
+            number: MISFIT,
             place: 0,
         };
     }
@@ -168,7 +171,7 @@ fn found_outcome(choice: Choice, mix: [u32; COMPONENTS], n1: u32, found: Found) 
     let systems = choice.systems;
     match search {
         Search::Unfit => refused(0, 0),
-        Search::Unbalanced => refused(11, 0),
+        Search::Unbalanced => refused(UNBALANCED, 0),
         Search::Balanced { spread, rounds } => Outcome {
             answer: Answer::Rated {
                 rating: rating_of(choice, mix, cells, n1),
@@ -214,7 +217,7 @@ fn at_most(allowance: u32) -> u32
 fn carried(number: u32, place: u32, code: u32) -> u32
     ensures { λ r. ⌜ r ≡ placeOf (Reading.Refused number place code) ⌝ }
 {
-    if number == 5 { code } else { place }
+    if number == OUT_OF_RANGE { code } else { place }
 }
 
 fn refused(number: u32, place: u32) -> Outcome

@@ -13,6 +13,11 @@ ghost use Rattle.reader.specs.Find.{AmountsRefused};
 use analysis::Analysis;
 use analysis::CODES;
 use analysis::Checked;
+use refusal::OUT_OF_ORDER;
+use refusal::OUT_OF_RANGE;
+use refusal::RETIRED;
+use refusal::TORN;
+use refusal::UNKNOWN;
 use section::Section;
 use sheet::COMPONENT_BYTES;
 use sheet::LISTED;
@@ -84,13 +89,13 @@ fn code_refusal(c: u8, p: u8) -> u32
     ensures { λ r. ⌜ r ≡ codeRefusal c p ⌝ }
 {
     if (c == 0) | (13 < c) {
-        return 2;
+        return UNKNOWN;
     }
     if (c == 9) | (c == 13) {
-        return 3;
+        return RETIRED;
     }
     if c <= p {
-        return 4;
+        return OUT_OF_ORDER;
     }
     0
 }
@@ -207,7 +212,7 @@ fn amounts_refused(s: &[u8], n: usize, a: Analysis) -> Checked
         let x = amount_at(s, at + 1);
         if x == 0 {
             return Checked::Refused {
-                number: 5,
+                number: OUT_OF_RANGE,
                 code: s[at] as u32,
             };
         }
@@ -229,7 +234,7 @@ pub fn read(s: &[u8]) -> Sheet
         first,
     } = parts
     else {
-        return refused_with(1, 0, 0);
+        return refused_with(TORN, 0, 0);
     };
     let answer = codes(s, n);
     let Reading::Read = answer else {

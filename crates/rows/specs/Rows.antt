@@ -5,6 +5,7 @@ use mathlib.Core.Bool.{Bool, true, false}
 use lib.Dec.{ltb, leb}
 use lib.IntN.{ℤ, pos, natAbs}
 use lib.ListN.{getD, replicate}
+use Rattle.refusal.specs.Register.{NO_SYSTEM}
 use Rattle.ternary.specs.WorkingRule.{LARGEST}
 use Rattle.ternary.specs.Answer.{isMixture, partialOf}
 use Rattle.ternary.specs.declared.Partial.{Partial}
@@ -27,7 +28,7 @@ unfoldable pub answerIn : ℕ → List ℕ → ℕ → Partial
 answerIn system a s =
     elim (elem system candidates) [
       | true ↦ partialOf system (cellOf a s (memberOf system 0)) (cellOf a s (memberOf system 1)) (cellOf a s (memberOf system 2))
-      | false ↦ Refused 13
+      | false ↦ Refused NO_SYSTEM
     ]
 
 -- row s has a partial number: its system is a candidate and its parts make a mixture

@@ -4,6 +4,7 @@ ghost use Prim.Native.Nat.{_+_, _<_, _≤_};
 ghost use Rattle.systems.specs.Systems.{memberOf, candidates, elem, Candidate};
 ghost use Rattle.split.specs.Split.{SYSTEMS, cellOf};
 ghost use Rattle.rows.specs.Rows.{partsIn, answerIn, none, rowsOf};
+use refusal::NO_SYSTEM;
 use split::CELLS;
 use systems::COMPONENTS;
 use systems::Choice;
@@ -46,7 +47,7 @@ fn answer(system: u8, a: &[u32; CELLS], s: usize) -> Partial
     ensures { λ r. ⌜ r ≡ answerIn system (now (a .entry)) s ⌝ }
 {
     if !is_candidate(system) {
-        return Partial::Refused(13);
+        return Partial::Refused(NO_SYSTEM);
     }
     ternary::partial_number(
         wide(system),

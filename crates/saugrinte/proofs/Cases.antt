@@ -1,16 +1,13 @@
 -- What the functions for C meet: an answer as number and place, and what stands in each buffer. Assumes nothing.
 use mathlib.Core.Path.{_≡_, refl, sym, ap, _∙_, subst}
-use mathlib.Core.Bool.{Bool, true, false, cond}
 use mathlib.Core.List.{List, [], _∷_}
 use Prim.Native.Nat.{ℕ, _<_}
 use native.Mathlib.Omega.{arith}
-use lib.Dec.{eqb}
 use lib.IntN.{ℤ, pos, natAbs}
 use mir.Syntax.{w64}
 use mir.Val.{SFits, toZ, ofZ}
 use mir.ValLaws.{toZ-ofZ}
 use Rattle.integer.specs.Ring.{mag-le}
-use Rattle.analysis.specs.Register.{ifElse}
 use Rattle.ternary.specs.declared.Partial.{Partial}
 use Rattle.ternary.specs.declared.Partial.the-variants as partial
 use Rattle.split.specs.declared.Answer.{Answer}
@@ -54,13 +51,9 @@ put x w s r e new old = sym (ap (λ (y : Answer). heldOf y new old) e)
 
 -- ---- number and place tell the code that 5 carries
 
-choice : (b : Bool) (x : ℕ) → ifElse b x 0 ≡ cond b x 0
-choice true x = refl
-choice false x = refl
-
 code-kept : (x : Answer) → codeIn (replyOf x) ≡ codeOf x
 code-kept (Rated w s r) = refl
-code-kept (Refused number place) = choice (eqb number 5) place
+code-kept (Refused number place) = refl
 
 same-code : (x : Answer) (r : Reply) → r ≡ replyOf x → codeIn r ≡ codeOf x
 same-code x r e = ap codeIn e ∙ code-kept x

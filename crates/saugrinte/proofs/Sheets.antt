@@ -1,6 +1,6 @@
 -- What reading and writing a sheet for C meet. Assumes nothing.
 use mathlib.Core.Path.{_≡_, refl, sym, ap, _∙_, subst, subst⁻¹}
-use mathlib.Core.Bool.{Bool, true, false}
+use mathlib.Core.Bool.{Bool, true, false, cond}
 use mathlib.Core.List.{List}
 use Prim.Native.Nat.{ℕ}
 use native.Mathlib.Omega.{arith}
@@ -27,9 +27,13 @@ use Rattle.saugrinte.specs.declared.Reply.{Reply}
 -- ---- writing: only 5 carries a code
 
 carries : (t : Bool) (n len c : ℕ) → write.codeOf (ifElse t (Length len) (Refused n (ifElse (eqb n 5) c 0)))
-    ≡ ifElse (eqb (write.numberOf (ifElse t (Length len) (Refused n (ifElse (eqb n 5) c 0)))) 5) c 0
+    ≡ cond (eqb (write.numberOf (ifElse t (Length len) (Refused n (ifElse (eqb n 5) c 0)))) 5) c 0
 carries true n len c = refl
-carries false n len c = refl
+carries false n len c = go (eqb n 5)
+  where
+    go : (f : Bool) → ifElse f c 0 ≡ cond f c 0
+    go true = refl
+    go false = refl
 
 -- the writer's promise, of the split that it was given
 pub written-by : (a : List ℕ) (p q : Split) (b : List ℕ) (r : Written) (left : List ℕ) → p ≡ q
@@ -39,12 +43,12 @@ written-by a p q b r left e x y z =
     subst (λ (s : Split). WrittenAs a s b r left) e (record { answer = x; buffer = y; code = z })
 
 module _ (a : List ℕ) (p : Split) (b : List ℕ) (r : Written) (left : List ℕ) (w : WrittenAs a p b r left) where
-  coded : write.codeOf r ≡ ifElse (eqb (write.numberOf r) 5) (write.codeOf r) 0
+  coded : write.codeOf r ≡ cond (eqb (write.numberOf r) 5) (write.codeOf r) 0
   unfolding writtenOf
   coded =
       ap write.codeOf (w .answer)
       ∙ carries (eqb (writeRefusal a p (length b)) 0) (writeRefusal a p (length b)) (length (sheetOf a p)) (write.codeOf r)
-      ∙ sym (ap (λ (x : Written). ifElse (eqb (write.numberOf x) 5) (write.codeOf r) 0) (w .answer))
+      ∙ sym (ap (λ (x : Written). cond (eqb (write.numberOf x) 5) (write.codeOf r) 0) (w .answer))
 
   pub written-done : (n : ℕ) → r ≡ Length n → (old : ℕ)
       → ((reply 0 0 ≡ writtenReply (writtenOf a p (size b) 0)) × (left ≡ leftOf a p b) × (n ≡ writtenLength (writtenOf a p (size b) 0) old))
@@ -55,7 +59,7 @@ module _ (a : List ℕ) (p : Split) (b : List ℕ) (r : Written) (left : List �
 
   module _ (number code : ℕ) (e : r ≡ Refused number code) where
     same : write.codeOf r ≡ codeIn (reply number code)
-    same = ap write.codeOf e ∙ subst (λ (x : Written). write.codeOf x ≡ ifElse (eqb (write.numberOf x) 5) (write.codeOf x) 0) e coded
+    same = ap write.codeOf e ∙ subst (λ (x : Written). write.codeOf x ≡ cond (eqb (write.numberOf x) 5) (write.codeOf x) 0) e coded
 
     answer-back : writtenOf a p (length b) (codeIn (reply number code)) ≡ Refused number code
     answer-back = ap (writtenOf a p (length b)) (sym same) ∙ sym (w .answer) ∙ e

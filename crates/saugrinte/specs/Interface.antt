@@ -3,12 +3,13 @@
 -- A reply is an answer's number with its place, and a refusal leaves every buffer as it was: by what each case of the
 -- answer is, as the crate that has it says (`AnswerCases`, `PartialCases`, `ReadingCases`, `WrittenCases`). `x` is the
 -- answer of the library's function, and `old` is what the buffer held.
+use mathlib.Core.Bool.{cond}
 use mathlib.Core.List.{List}
 use Prim.Native.Nat.{ℕ, _<_}
 use lib.Dec.{eqb}
 use lib.ListN.{length}
 use lib.IntN.{ℤ, natAbs}
-use Rattle.analysis.specs.Register.{ifElse}
+use Rattle.refusal.specs.Register.{OUT_OF_RANGE}
 use Rattle.ternary.specs.declared.Partial.{Partial}
 use Rattle.ternary.specs.PartialCases as partial
 use Rattle.sheet.specs.declared.Split.{Split}
@@ -30,7 +31,7 @@ reply number place = record { number = number; place = place }
 
 -- the code that a refusal 5 carries, else 0
 abbrev pub codeIn : Reply → ℕ
-codeIn r = ifElse (eqb (r .number) 5) (r .place) 0
+codeIn r = cond (eqb (r .number) OUT_OF_RANGE) (r .place) 0
 
 -- ---- a rating
 

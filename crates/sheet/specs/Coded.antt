@@ -1,7 +1,7 @@
 -- Of what a reader refuses, only 5 carries a code (document 01, "What is turned away"); so one figure, the code with 5 and else the
 -- place, gives the code back. Assumes nothing.
 use mathlib.Core.Path.{_≡_, refl, sym, ap, _∙_, subst}
-use mathlib.Core.Bool.{Bool, true, false}
+use mathlib.Core.Bool.{Bool, true, false, cond}
 use mathlib.Core.List.{List}
 use Prim.Native.Nat.{ℕ, zero, suc, _+_}
 use lib.Dec.{eqb}
@@ -60,10 +60,10 @@ module _ (s : List ℕ) (r : Sheet) (h : ReadAs s r) (number place code : ℕ) (
   pub refused-answer : readOf s code .answer ≡ Refused number place code
   refused-answer = ap (λ (x : Sheet). x .answer) (sym (h .sheet ∙ ap (readOf s) (ap codeOf e))) ∙ e
 
-  pub carried-code : ifElse (eqb number 5) (placeOf (Refused number place code)) 0 ≡ code
+  pub carried-code : cond (eqb number 5) (placeOf (Refused number place code)) 0 ≡ code
   carried-code = go (eqb number 5) refl (subst Coded refused-answer (read-coded s code))
     where
-      go : (t : Bool) → eqb number 5 ≡ t → Coded (Refused number place code) → ifElse t (ifElse t code place) 0 ≡ code
+      go : (t : Bool) → eqb number 5 ≡ t → Coded (Refused number place code) → cond t (ifElse t code place) 0 ≡ code
       go true q z = refl
       go false q z = sym (z q)
 

@@ -5,6 +5,7 @@ use mathlib.Core.List.{List, [], _∷_, _++_}
 use mathlib.Core.Bool.{Bool, true, false}
 use lib.ListN.{getD, set}
 use lib.Dec.{leb, eqb}
+use Rattle.refusal.specs.Register.{UNKNOWN, RETIRED, OUT_OF_ORDER}
 use Rattle.analysis.specs.Register.{Status, live, retired, splitsOnly, unknown, statusOf, ifElse}
 use Rattle.sheet.specs.declared.Reading.{Reading}
 use Rattle.sheet.specs.declared.Reading.the-variants.{Read, Refused}
@@ -17,13 +18,13 @@ COMPONENT_BYTES = 5
 -- the refusal of a code in components by what the register says of it: 3 retired, 2 unknown or legal in splits only
 abbrev pub refusalBy : Status → ℕ
 refusalBy (live least greatest required) = 0
-refusalBy retired = 3
-refusalBy splitsOnly = 2
-refusalBy unknown = 2
+refusalBy retired = RETIRED
+refusalBy splitsOnly = UNKNOWN
+refusalBy unknown = UNKNOWN
 
 -- the refusal of `code` after the code `p` (0 before the first), 2 or 3, then 4 where it is not above that; or 0
 unfoldable pub codeRefusal : ℕ → ℕ → ℕ
-codeRefusal code p = ifElse (eqb (refusalBy (statusOf code)) 0) (ifElse (leb code p) 4 0) (refusalBy (statusOf code))
+codeRefusal code p = ifElse (eqb (refusalBy (statusOf code)) 0) (ifElse (leb code p) OUT_OF_ORDER 0) (refusalBy (statusOf code))
 
 -- record by record: the first of `n` records at `at` that is refused, with its place, that of the first of them being `i`
 abbrev pub codesReading : ℕ → List ℕ → ℕ → ℕ → ℕ → Reading

@@ -5,6 +5,7 @@ use mathlib.Core.Logic.{_⊎_}
 use mathlib.Core.List.{List}
 use lib.ListN.{getD, replicate}
 use lib.Dec.{eqb}
+use Rattle.refusal.specs.Register.{TORN, OUT_OF_RANGE}
 use Rattle.analysis.specs.Register.{CODES, ifElse}
 use Rattle.analysis.specs.Check.{refusalOf, AtFault}
 use Rattle.sheet.specs.declared.Reading.{Reading}
@@ -24,11 +25,11 @@ amountsOf n s = amountsFrom n s 1 (replicate CODES 0)
 
 -- the number by the amounts: 5 for a component listed at 0, then that of the analysis
 unfoldable pub amountsRefusal : ℕ → List ℕ → ℕ
-amountsRefusal n s = ifElse (zeroListed n s 1) 5 (refusalOf (amountsOf n s))
+amountsRefusal n s = ifElse (zeroListed n s 1) OUT_OF_RANGE (refusalOf (amountsOf n s))
 
 -- a refusal by the amounts; 5 carries `code`
 abbrev pub byAmounts : ℕ → ℕ → Reading
-byAmounts number code = ifElse (eqb number 0) Read (Refused number 0 (ifElse (eqb number 5) code 0))
+byAmounts number code = ifElse (eqb number 0) Read (Refused number 0 (ifElse (eqb number OUT_OF_RANGE) code 0))
 
 abbrev pub refusedSheet : Reading → Sheet
 refusedSheet x = record { answer = x; analysis = record { amounts = replicate CODES 0 }; split = noSplit }
@@ -49,7 +50,7 @@ afterCodes (Refused number place code') n s code = Refused number place code'
 
 -- 1 over the whole sheet, then record by record 2, 3, 4, then 5 and 6
 unfoldable pub readBy : Sections → List ℕ → ℕ → Sheet
-readBy Torn s code = refusedSheet (Refused 1 0 0)
+readBy Torn s code = refusedSheet (Refused TORN 0 0)
 readBy (Both n m first) s code = withAnswer (afterCodes (codesReading n s 1 0 0) n s code) (contentOf n m first s)
 
 -- the sheet that the bytes `s` are; a refusal 5 carries `code`

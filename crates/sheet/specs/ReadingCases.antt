@@ -2,6 +2,7 @@
 -- carries, the record's place with 2 to 4 and the code at fault with 5; and what a lent buffer then holds. Assumes nothing.
 use Prim.Native.Nat.{ℕ}
 use lib.Dec.{eqb}
+use Rattle.refusal.specs.Register.{OUT_OF_RANGE}
 use Rattle.analysis.specs.Register.{ifElse}
 use Rattle.sheet.specs.declared.Reading.{Reading}
 use Rattle.sheet.specs.declared.Reading.the-variants.{Read, Refused}
@@ -13,7 +14,7 @@ numberOf (Refused number place code) = number
 -- the place that it carries: of a record, or the code with 5; else 0
 abbrev pub placeOf : Reading → ℕ
 placeOf Read = 0
-placeOf (Refused number place code) = ifElse (eqb number 5) code place
+placeOf (Refused number place code) = ifElse (eqb number OUT_OF_RANGE) code place
 
 -- the code at fault that 5 carries, else 0
 abbrev pub codeOf : Reading → ℕ

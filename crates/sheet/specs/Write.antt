@@ -4,6 +4,7 @@ use mathlib.Core.Path.{_≡_}
 use mathlib.Core.List.{List, _++_}
 use lib.ListN.{length, drop}
 use lib.Dec.{leb, eqb}
+use Rattle.refusal.specs.Register.{TORN, OUT_OF_RANGE, SHORT_BLANK}
 use Rattle.analysis.specs.Register.{ifElse}
 use Rattle.analysis.specs.Check.{refusalOf, AtFault}
 use Rattle.sheet.specs.declared.Split.{Split}
@@ -18,15 +19,15 @@ use Rattle.sheet.specs.Sheet.{sheetOf}
 unfoldable pub writeRefusal : List ℕ → Split → ℕ → ℕ
 writeRefusal a p size =
     ifElse (allowedCount (p .count))
-    (ifElse (eqb (refusalOf a) 0) (ifElse (leb (length (sheetOf a p)) size) 0 14) (refusalOf a))
-    1
+    (ifElse (eqb (refusalOf a) 0) (ifElse (leb (length (sheetOf a p)) size) 0 SHORT_BLANK) (refusalOf a))
+    TORN
 
 -- the answer; a refusal 5 carries `code`
 unfoldable pub writtenOf : List ℕ → Split → ℕ → ℕ → Written
 writtenOf a p size code =
     ifElse (eqb (writeRefusal a p size) 0)
     (Length (length (sheetOf a p)))
-    (Refused (writeRefusal a p size) (ifElse (eqb (writeRefusal a p size) 5) code 0))
+    (Refused (writeRefusal a p size) (ifElse (eqb (writeRefusal a p size) OUT_OF_RANGE) code 0))
 
 -- the buffer after it: the sheet's bytes at its start and the rest as it was, or all of it as it was
 unfoldable pub leftOf : List ℕ → Split → List ℕ → List ℕ

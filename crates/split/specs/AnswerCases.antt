@@ -6,6 +6,7 @@ use mathlib.Core.List.{List, [], _∷_}
 use Prim.Native.Nat.{ℕ}
 use lib.Dec.{eqb}
 use lib.IntN.{ℤ, pos}
+use Rattle.refusal.specs.Register.{OUT_OF_RANGE}
 use Rattle.split.specs.declared.Answer.{Answer}
 use Rattle.split.specs.declared.Answer.the-variants.{Rated, Refused}
 
@@ -21,7 +22,7 @@ placeOf (Refused number place) = place
 -- the code at fault that 5 carries, else 0
 abbrev pub codeOf : Answer → ℕ
 codeOf (Rated rating spread rounds) = 0
-codeOf (Refused number place) = cond (eqb number 5) place 0
+codeOf (Refused number place) = cond (eqb number OUT_OF_RANGE) place 0
 
 -- rating and spread in units and the rounds, or what the buffer for them held
 abbrev pub figuresOf : Answer → List ℤ → List ℤ

@@ -1,13 +1,19 @@
--- A system with a first component is a candidate. Assumes nothing.
+-- Each candidate is a system, and a system with a first component is a candidate. Assumes nothing.
 use Prim.Native.Nat.{ℕ, _≤_}
 use mathlib.Core.Path.{_≡_, refl, ap, _∙_}
 use mathlib.Core.Bool.{Bool, true, false, not}
 use native.Mathlib.Omega.{arith}
 use lib.Dec.{T, ltb}
 use borrow.Author.Tests.{ltb-true, ltb-false}
+use Rattle.refusal.specs.Keys.{allIn}
+use Rattle.ternary.specs.Coefficients.{systems}
 use Rattle.systems.specs.Systems.{COMPONENTS, candidates, memberOf, elem}
 use Rattle.systems.specs.Members.{candidate-le, member-none}
 use Rattle.systems.specs.Table.{eachTo}
+
+-- each candidate is one of the systems
+pub candidates-among : allIn candidates systems ≡ true
+candidates-among = refl
 
 abbrev same : Bool → Bool → Bool
 same true y = y

@@ -7,6 +7,7 @@ use Prim.Native.Nat.{ℕ, _≤_}
 use native.Mathlib.Omega.{arith}
 use lib.Dec.{ltb, leb}
 use borrow.Author.Tests.{leb-true, le-leb}
+use Rattle.refusal.specs.Register.{WIDE}
 use Rattle.split.specs.Split.{numberAt, both, Chosen}
 use Rattle.split.specs.Rating.{resums, someEmpty, spreadOf, ratingOf, proposedOf}
 use Rattle.split.specs.Find.{chosenFit, mixtureFit}
@@ -31,7 +32,7 @@ answerOf limit ch k mix a n1 =
 -- the answer to a split that re-sums and has no empty system
 unfoldable pub ratedOf : ℕ → List ℕ → ℕ → List ℕ → ℕ → Answer
 ratedOf limit ch k a n1 =
-    elim (ltb limit (spreadOf (numberAt ch a) k)) [ true ↦ Refused 10 0 | false ↦ Rated (ratingOf ch k a n1) (spreadOf (numberAt ch a) k) 0 ]
+    elim (ltb limit (spreadOf (numberAt ch a) k)) [ true ↦ Refused WIDE 0 | false ↦ Rated (ratingOf ch k a n1) (spreadOf (numberAt ch a) k) 0 ]
 
 -- input that is answered by the rules
 pub record Proposal (mix ch : List ℕ) (k n1 : ℕ) : Type 0 where

@@ -6,6 +6,7 @@ use lib.Dec.{ltb, eqb}
 use lib.ListN.{getD}
 use lib.IntN.{ℤ, pos, negsuc, natAbs, _+ℤ_, _-ℤ_, _*ℤ_}
 use lib.Signed.{quotZ}
+use Rattle.refusal.specs.Register.{UNSUMMED, EMPTY_SYSTEM, WIDE}
 use Rattle.ternary.specs.Partial.{partialNumber}
 use Rattle.systems.specs.Systems.{COMPONENTS}
 use Rattle.split.specs.Fold.{sumToZ, greatestTo, leastTo, allTo, someTo}
@@ -42,9 +43,9 @@ someEmpty ch k a = someTo (λ s. eqb (partsOf ch a s) 0) k
 
 -- whether it re-sums, whether a system is empty, whether the spread is above the limit: refusals 8, 9, 10 in their order
 abbrev pub verdict : Bool → Bool → Bool → Answer → Answer
-verdict false empty wide rated = Refused 8 0
-verdict true true wide rated = Refused 9 0
-verdict true false true rated = Refused 10 0
+verdict false empty wide rated = Refused UNSUMMED 0
+verdict true true wide rated = Refused EMPTY_SYSTEM 0
+verdict true false true rated = Refused WIDE 0
 verdict true false false rated = rated
 
 -- the answer to the cells a, proposed as a split of the mixture, under a spread limit

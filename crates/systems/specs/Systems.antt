@@ -2,9 +2,10 @@
 use Prim.Native.Nat.{ℕ}
 use mathlib.Core.List.{List, [], _∷_}
 use mathlib.Core.Bool.{Bool, true, false}
-use mathlib.Core.Path.{_≡_}
+use mathlib.Core.Path.{_≡_, refl}
 use lib.Dec.{eqb}
 use lib.ListN.{getD}
+use Rattle.refusal.specs.Keys.{distinct, rising}
 
 -- components are positions: methane 0, ethane 1, propane 2, butane 3
 abbrev pub COMPONENTS : ℕ
@@ -13,6 +14,13 @@ COMPONENTS = 4
 -- the systems that can be chosen, by number
 abbrev pub candidates : List ℕ
 candidates = 2 ∷ 4 ∷ 7 ∷ 8 ∷ []
+
+-- no candidate stands twice, and they rise
+pub no-candidate-twice : distinct candidates ≡ true
+no-candidate-twice = refl
+
+pub candidates-rise : rising 0 candidates ≡ true
+candidates-rise = refl
 
 -- each system's three components, by its number, the formula's two variables first; a number that is no candidate has none
 abbrev pub members : List (List ℕ)

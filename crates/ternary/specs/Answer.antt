@@ -7,6 +7,7 @@ use native.Mathlib.Nat as N
 use lib.Dec.{T, eqb, ltb, leb, lt→ltb, le→leb, leb→le}
 use lib.IntN.{ℤ}
 use lib.ListN.{getD}
+use Rattle.refusal.specs.Register.{NO_MIXTURE, NO_SYSTEM}
 use Rattle.ternary.specs.declared.Partial.{Partial}
 use Rattle.ternary.specs.declared.Partial.the-variants.{Number, Refused}
 use Rattle.ternary.specs.PartialCases.{numberOf}
@@ -32,11 +33,14 @@ isMixture d = elim (ltb 0 d) [ true ↦ leb d 1000000 | false ↦ false ]
 
 -- the number of the refusal: 13, no such system; 12, the sum d is no mixture's; else 0
 abbrev pub refusalOf : ℕ → ℕ → ℕ
-refusalOf system d = cond (isSystem system) (cond (isMixture d) 0 12) 13
+refusalOf system d = cond (isSystem system) (cond (isMixture d) 0 NO_MIXTURE) NO_SYSTEM
 
 -- 13: no such system; 12: no mixture; else the number
 unfoldable pub partialOf : ℕ → ℕ → ℕ → ℕ → Partial
-partialOf system n1 n2 n3 = cond (isSystem system) (cond (isMixture (n1 + n2 + n3)) (Number (partialNumber system n1 n2 n3)) (Refused 12)) (Refused 13)
+partialOf system n1 n2 n3 =
+    cond (isSystem system)
+    (cond (isMixture (n1 + n2 + n3)) (Number (partialNumber system n1 n2 n3)) (Refused NO_MIXTURE))
+    (Refused NO_SYSTEM)
 
 -- ---- each case
 

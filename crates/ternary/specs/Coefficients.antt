@@ -1,11 +1,13 @@
 -- The coefficients of the five systems in units (001 Table 5, Mix1 to Mix5; a(2,2) of system 20 as 000 prints it): a(k,l) times
 -- 100 ^ (k + l), by rows, row k with l rising. Assumes nothing.
+use mathlib.Core.Path.{_≡_, refl}
 use mathlib.Core.List.{List, [], _∷_}
 use mathlib.Core.Bool.{true, false}
 use Prim.Native.Nat.{ℕ, suc}
 use lib.Dec.{eqb}
 use lib.IntN.{ℤ, pos, negsuc}
-use lib.ListN.{getD}
+use lib.ListN.{length, getD}
+use Rattle.refusal.specs.Keys.{distinct, rising}
 
 abbrev pub tables : List (List ℤ)
 tables =
@@ -19,6 +21,16 @@ tables =
 -- the systems of these lists, in the same order
 abbrev pub systems : List ℕ
 systems = 2 ∷ 4 ∷ 7 ∷ 8 ∷ 20 ∷ []
+
+-- no system stands twice, they rise, and each has its list
+pub no-system-twice : distinct systems ≡ true
+no-system-twice = refl
+
+pub systems-rise : rising 0 systems ≡ true
+systems-rise = refl
+
+pub each-listed : length tables ≡ length systems
+each-listed = refl
 
 -- where a number stands in a list, or the list's length
 unfoldable pub placeIn : List ℕ → ℕ → ℕ

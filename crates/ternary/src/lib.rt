@@ -11,6 +11,8 @@ ghost use mathlib.Core.Bool.{true};
 ghost use Prim.Native.Nat.{_+_, _-_, _≤_};
 ghost use Rattle.ternary.specs.PartialCases.{numberOf};
 ghost use Rattle.ternary.specs.Answer.{isSystem, refusalOf, partialOf};
+use refusal::NO_MIXTURE;
+use refusal::NO_SYSTEM;
 
 // The largest sum of amounts, in parts.
 const LIMIT: u64 = 1000000;
@@ -30,7 +32,7 @@ pub fn partial_number(system: u32, n1: u32, n2: u32, n3: u32) -> Partial
     if coefficients::is_system(system) {
         return of_sum(system, n1, n2, n1 as u64 + n2 as u64 + n3 as u64);
     }
-    Partial::Refused(13)
+    Partial::Refused(NO_SYSTEM)
 }
 
 // The partial number of one of the systems at n1, n2 and a third amount, of sum d.
@@ -39,7 +41,7 @@ fn of_sum(system: u32, n1: u32, n2: u32, d: u64) -> Partial
     ensures { λ r. ⌜ r ≡ partialOf system n1 n2 (d - n1 - n2) ⌝ }
 {
     if d == 0 || LIMIT < d {
-        return Partial::Refused(12);
+        return Partial::Refused(NO_MIXTURE);
     }
     Partial::Number(rule::number(system, n1, n2, d))
 }

@@ -4,6 +4,7 @@ use mathlib.Core.List.{List}
 use mathlib.Core.Bool.{true, false}
 use Prim.Native.Nat.{ℕ}
 use lib.Dec.{ltb}
+use Rattle.refusal.specs.Register.{SHORT_BLANK}
 use Rattle.analysis.specs.Check.{AtFault}
 use Rattle.sheet.specs.declared.Split.{Split}
 use Rattle.sheet.specs.declared.Written.{Written}
@@ -18,4 +19,4 @@ pub record Answered (a : List ℕ) (p : Split) (size : ℕ) (r : Written) : Type
 
 -- a length, or 14 where a buffer is shorter
 unfoldable pub roomFor : ℕ → ℕ → Written
-roomFor len size = elim (ltb size len) [ true ↦ Refused 14 0 | false ↦ Length len ]
+roomFor len size = elim (ltb size len) [ true ↦ Refused SHORT_BLANK 0 | false ↦ Length len ]

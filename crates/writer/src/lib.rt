@@ -17,6 +17,8 @@ ghost use Rattle.writer.specs.Answered.{Answered, roomFor};
 use analysis::Analysis;
 use analysis::CODES;
 use analysis::Checked;
+use refusal::SHORT_BLANK;
+use refusal::TORN;
 use sheet::COMPONENT_BYTES;
 use sheet::RECORD_BYTES;
 use sheet::Split;
@@ -109,7 +111,10 @@ fn answer(a: Analysis, p: Split, size: usize) -> Written
     let m = p.count;
     let allowed = sheet::allowed_count(m);
     if !allowed {
-        return Written::Refused { number: 1, code: 0 };
+        return Written::Refused {
+            number: TORN,
+            code: 0,
+        };
     }
     let checked = analysis::check(a);
     if let Checked::Refused { number, code } = checked {
@@ -127,7 +132,7 @@ fn length_in(a: [u32; CODES], m: usize, size: usize) -> Written
     let len = 2 + COMPONENT_BYTES * listed(a) + RECORD_BYTES * m;
     if size < len {
         return Written::Refused {
-            number: 14,
+            number: SHORT_BLANK,
             code: 0,
         };
     }

@@ -1,0 +1,26 @@
+-- The keys of a register, as a list: component codes, system numbers and refusal numbers are registers. A key that was
+-- given is never given again, so none may stand twice; a new one comes above all others, so they rise. Assumes nothing.
+use mathlib.Core.Bool.{Bool, true, false, cond}
+use mathlib.Core.List.{List, [], _∷_}
+use Prim.Native.Nat.{ℕ}
+use lib.Dec.{eqb, ltb}
+
+-- is the key in the list?
+abbrev pub isIn : ℕ → List ℕ → Bool
+isIn x [] = false
+isIn x (y ∷ ys) = cond (eqb x y) true (isIn x ys)
+
+-- is each key of the one list in the other?
+abbrev pub allIn : List ℕ → List ℕ → Bool
+allIn [] ys = true
+allIn (x ∷ xs) ys = cond (isIn x ys) (allIn xs ys) false
+
+-- does none stand twice?
+abbrev pub distinct : List ℕ → Bool
+distinct [] = true
+distinct (x ∷ xs) = cond (isIn x xs) false (distinct xs)
+
+-- does each stand above the one before, the first above `p`?
+abbrev pub rising : ℕ → List ℕ → Bool
+rising p [] = true
+rising p (x ∷ xs) = cond (ltb p x) (rising x xs) false

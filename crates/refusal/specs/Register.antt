@@ -1,0 +1,106 @@
+-- The register of refusals (document 01, "What is turned away"): every number ever given, with its word and when it is
+-- tested. A number is never given again. Assumes nothing.
+use mathlib.Core.Path.{_≡_, refl}
+use mathlib.Core.Bool.{true}
+use mathlib.Core.List.{List, [], _∷_}
+use Prim.Native.Nat.{ℕ}
+use Prim.Native.String.{String}
+use lib.ListN.{take}
+use Rattle.refusal.specs.Keys.{distinct, rising}
+
+abbrev pub TORN : ℕ
+TORN = 1
+
+abbrev pub UNKNOWN : ℕ
+UNKNOWN = 2
+
+abbrev pub RETIRED : ℕ
+RETIRED = 3
+
+abbrev pub OUT_OF_ORDER : ℕ
+OUT_OF_ORDER = 4
+
+abbrev pub OUT_OF_RANGE : ℕ
+OUT_OF_RANGE = 5
+
+abbrev pub TOTAL : ℕ
+TOTAL = 6
+
+abbrev pub MISFIT : ℕ
+MISFIT = 7
+
+abbrev pub UNSUMMED : ℕ
+UNSUMMED = 8
+
+abbrev pub EMPTY_SYSTEM : ℕ
+EMPTY_SYSTEM = 9
+
+abbrev pub WIDE : ℕ
+WIDE = 10
+
+abbrev pub UNBALANCED : ℕ
+UNBALANCED = 11
+
+abbrev pub NO_MIXTURE : ℕ
+NO_MIXTURE = 12
+
+abbrev pub NO_SYSTEM : ℕ
+NO_SYSTEM = 13
+
+abbrev pub SHORT_BLANK : ℕ
+SHORT_BLANK = 14
+
+-- what a refusal is tested of: 1 of the whole sheet, first; 2 to 4 record by record; then 5 and 6 of an analysis; then 7
+-- to 10 of a proposed split, or 11 of the search. Of a partial number the system comes before the mixture. Of a writer's
+-- buffer comes after its analysis.
+pub data Tested : Type 0 where
+  wholeSheet : Tested
+  componentRecord : Tested
+  analysis : Tested
+  proposedSplit : Tested
+  search : Tested
+  partialNumber : Tested
+  writersBuffer : Tested
+
+pub record Entry : Type 0 where
+  pub number : ℕ
+  pub word : String
+  pub tested : Tested
+
+abbrev entry : ℕ → String → Tested → Entry
+entry number word tested = record { number = number; word = word; tested = tested }
+
+-- every number ever given, rising
+abbrev pub register : List Entry
+register =
+    entry TORN "torn" wholeSheet ∷
+    entry UNKNOWN "unknown" componentRecord ∷
+    entry RETIRED "retired" componentRecord ∷
+    entry OUT_OF_ORDER "out of order" componentRecord ∷
+    entry OUT_OF_RANGE "out of range" analysis ∷
+    entry TOTAL "total" analysis ∷
+    entry MISFIT "misfit" proposedSplit ∷
+    entry UNSUMMED "unsummed" proposedSplit ∷
+    entry EMPTY_SYSTEM "empty system" proposedSplit ∷
+    entry WIDE "wide" proposedSplit ∷
+    entry UNBALANCED "unbalanced" search ∷
+    entry NO_MIXTURE "no mixture" partialNumber ∷
+    entry NO_SYSTEM "no system" partialNumber ∷
+    entry SHORT_BLANK "short blank" writersBuffer ∷
+    []
+
+abbrev pub numbersOf : List Entry → List ℕ
+numbersOf [] = []
+numbersOf (e ∷ es) = e .number ∷ numbersOf es
+
+-- no number stands twice
+pub no-number-twice : distinct (numbersOf register) ≡ true
+no-number-twice = refl
+
+-- and the numbers rise from 1
+pub numbers-rise : rising 0 (numbersOf register) ≡ true
+numbers-rise = refl
+
+-- the first fourteen are document 01's for ever: a request adds to them
+pub numbers-kept : take 14 (numbersOf register) ≡ 1 ∷ 2 ∷ 3 ∷ 4 ∷ 5 ∷ 6 ∷ 7 ∷ 8 ∷ 9 ∷ 10 ∷ 11 ∷ 12 ∷ 13 ∷ 14 ∷ []
+numbers-kept = refl

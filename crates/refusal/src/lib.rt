@@ -1,0 +1,30 @@
+// The refusals' numbers, by the words of document 01, "What is turned away". The register with when each is tested is
+// specs/Register.antt, and what every register of keys keeps to is specs/Keys.antt.
+
+pub const TORN: u32 = 1;
+
+pub const UNKNOWN: u32 = 2;
+
+pub const RETIRED: u32 = 3;
+
+pub const OUT_OF_ORDER: u32 = 4;
+
+pub const OUT_OF_RANGE: u32 = 5;
+
+pub const TOTAL: u32 = 6;
+
+pub const MISFIT: u32 = 7;
+
+pub const UNSUMMED: u32 = 8;
+
+pub const EMPTY_SYSTEM: u32 = 9;
+
+pub const WIDE: u32 = 10;
+
+pub const UNBALANCED: u32 = 11;
+
+pub const NO_MIXTURE: u32 = 12;
+
+pub const NO_SYSTEM: u32 = 13;
+
+pub const SHORT_BLANK: u32 = 14;
