@@ -7,8 +7,8 @@ use Prim.Native.Nat.{ℕ, zero, suc, _+_, _≤_}
 use native.Mathlib.Omega.{arith}
 use lib.Dec.{eqb, leb, ltb}
 use lib.ListN.{getD, length, length-set}
-use Rattle.rating.specs.Rate.{LIMIT, ROUNDS, mixOf, systemsFor, countFor, splitBy, splitAnswer, foundBy, foundOutcome, searched, searchOutcome, outcome, readBy, sheetOutcome}
-use Rattle.rating.specs.Answers.{never-unfit}
+use borrow.Author.Tests.{eqb-false, ne-eqb}
+use Rattle.analysis.specs.Register.{CODES, Status, live, retired, splitsOnly, unknown, statusOf, ifElse}
 use Rattle.analysis.specs.Check.{refusalBy, refusalOf, allInRange, totalFits, totalOf}
 use Rattle.sheet.specs.Bytes.{numberAt}
 use Rattle.sheet.specs.Components as components
