@@ -1,7 +1,7 @@
 // The controller's record: a rating and its spread as doubles (document 01, "Writer, display, controller").
 //
 // No public function has a `requires`. Every rating and every spread that a call answers is below
-// 2^53 in magnitude, so its conversion is exact and the division is the only rounding.
+// 2^53 in magnitude, so its conversion is exact and the division is the only rounding (specs/Exact.antt).
 ghost use mathlib.Core.Path.{_≡_};
 ghost use lib.IntN.{pos};
 ghost use Rattle.controller.specs.Record.{methaneNumber, recordOf};

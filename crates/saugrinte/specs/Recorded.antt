@@ -1,0 +1,46 @@
+-- THE CONTROLLER'S RECORD OF EVERY RATING (document 01, "Writer, display, controller"). Assumes nothing.
+--
+-- "The controller's record holds rating and spread as doubles, each count of units divided by 10000000 and rounded once."
+--
+-- Of every rating that a call answers, to a proposed split, by the search or to a sheet, the record's rating is
+-- `div binary64 d tenMillion`, where the double d is the rating exactly (it has no fraction, and turned back into a whole
+-- number it is the rating) and tenMillion is 10000000 exactly; so it is the fraction rating / 10000000, rounded once. The
+-- same holds of the spread. `DividedOnce` says so of a field; `controller::record` and `saugrinte_controller` promise
+-- `recordOf`. `code` is the code that refusal 5 carries.
+use mathlib.Core.Path.{_≡_}
+use mathlib.Core.List.{List}
+use Prim.Native.Nat.{ℕ}
+use native.Mathlib.Omega.{arith}
+use lib.IntN.{pos}
+use lib.ListN.{length}
+use Rattle.analysis.specs.Register.{CODES}
+use Rattle.sheet.specs.declared.Split.{Split}
+use Rattle.split.specs.declared.Answer.{Answer}
+use Rattle.split.specs.declared.Answer.the-variants.{Rated, Refused}
+use Rattle.rating.specs.Rate.{splitAnswer, searchOutcome, sheetOutcome}
+use Rattle.controller.specs.Record.{recordOf}
+use Rattle.controller.specs.Exact.{DividedOnce, divided-once}
+use Rattle.saugrinte.specs.Interface.{SmallFigures}
+use Rattle.saugrinte.specs.Small.{split-small, search-small, sheet-small}
+
+-- both fields of a rating's record
+abbrev pub Recorded : Answer → Type 0
+Recorded (Rated rating spread rounds) =
+    DividedOnce (recordOf rating spread .rating) rating × DividedOnce (recordOf rating spread .spread) (pos spread)
+Recorded (Refused number place) = Unit {0}
+
+small-recorded : (x : Answer) → SmallFigures x → Recorded x
+unfolding recordOf
+small-recorded (Rated rating spread rounds) h = (divided-once rating (omega (arith, h .0)), divided-once (pos spread) (omega (arith, h .1)))
+small-recorded (Refused number place) h = tt
+
+-- every rating: of a proposed split, by the search, of a sheet
+pub every-rating-recorded :
+    ((a : List ℕ) → length a ≡ CODES → (p : Split) (code : ℕ) → Recorded (splitAnswer a p code))
+    × ((a : List ℕ) → length a ≡ CODES → (allowance code : ℕ) → Recorded (searchOutcome a allowance code .answer))
+    × ((s : List ℕ) (code : ℕ) → Recorded (sheetOutcome s code .answer))
+every-rating-recorded = (
+  λ a long p code. small-recorded (splitAnswer a p code) (split-small a long p code),
+  λ a long allowance code. small-recorded (searchOutcome a allowance code .answer) (search-small a long allowance code),
+  λ s code. small-recorded (sheetOutcome s code .answer) (sheet-small s code),
+)
