@@ -25,7 +25,8 @@ use Rattle.rows.specs.Carried.{Held, Workable, partsWith}
 use Rattle.rows.specs.Machine.{at-back}
 use Rattle.integer.specs.Bits.{back}
 use Rattle.search.specs.Tried.{rowOf, columnIn, wantedOf, Triable}
-use Rattle.search.specs.Balance.{markOf, Totalled, givenOf, givesOf}
+use Rattle.search.specs.Balance.{markOf, Totalled}
+use Rattle.search.specs.Scan.{givenOf, givesOf}
 use Rattle.search.proofs.Squares.{mark-le, sum-few, squares-few, under, imbalance-is, has-mark, put-total}
 use Rattle.search.proofs.Givers.{Gives, gives-true}
 use Rattle.search.proofs.Trials.{with-is}
@@ -114,7 +115,7 @@ module _ (ch : List ℕ) (k : ℕ) (a : List ℕ) (v : List ℤ) (held : Held ch
   most : k ≤ 8
   most = held .sound .stock .chosen .most
 
-  row-is : (s : ℕ) → s < k → toZ w64 (ofZ w64 (listed v s)) ≡ numberAt ch a s
+  pub row-is : (s : ℕ) → s < k → toZ w64 (ofZ w64 (listed v s)) ≡ numberAt ch a s
   row-is s l = at-back v k s (held .small) l ∙ held .carried .are s l
 
   pub first-total : (sum squares : ℕ) → Totalled (listed v) k sum squares → Totalled (numberAt ch a) k sum squares
@@ -166,6 +167,10 @@ module _ (ch : List ℕ) (k : ℕ) (a : List ℕ) (v : List ℤ) (held : Held ch
       give-wanted : wantedOf ch a d (giverOf m * COMPONENTS + componentOf m) ≡ numberWith ch a (giverOf m) (componentOf m) (cellOf a (giverOf m) (componentOf m) - d)
       unfolding wantedOf
       give-wanted = rw (at-row, at-column, sym (less-is a d (giverOf m * COMPONENTS + componentOf m) at-below))
+
+      pub give-worked : (x : ℤ) → (x ≡ wantedOf ch a d (giverOf m * COMPONENTS + componentOf m)) × (natAbs x ≤ LARGEST)
+          → (x ≡ numberWith ch a (giverOf m) (componentOf m) (cellOf a (giverOf m) (componentOf m) - d)) × (natAbs x ≤ LARGEST)
+      give-worked x p = (p .0 ∙ give-wanted, p .1)
 
       pub giver-small : natAbs (toZ w64 (ofZ w64 (listed v (giverOf m)))) ≤ LARGEST
       giver-small = rw (row-is (giverOf m) (gv .from)) (number-small ch a (giverOf m))

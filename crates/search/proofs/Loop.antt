@@ -26,10 +26,11 @@ use Rattle.turn.specs.declared.Before.the-variants.{Within, Spent, Open}
 use Rattle.turn.specs.Before.{beforeOf, doneBy, turn-before}
 use Rattle.rows.specs.Rows.{listed, Small}
 use Rattle.rows.specs.Carried.{Carried, Held}
-use Rattle.rows.specs.Machine.{at-back, at-small}
+use Rattle.rows.specs.Machine.{at-small}
 use Rattle.search.specs.Tried.{Tried, Forgot}
 use Rattle.search.proofs.Trials.{spread-same}
 use Rattle.search.proofs.Tries.{tried-after, tried-back}
+use Rattle.search.proofs.Given.{row-is}
 
 -- the strides, each by one computed test
 abbrev right : ℕ → Bool
@@ -65,15 +66,12 @@ held-moved ch k a d m b v e so fit c = rw e (record { sound = sound-moved ch k a
 
 -- its two rows forgotten, and their numbers before it kept for the tries that would take it back
 module _ (ch : List ℕ) (k : ℕ) (a : List ℕ) (d m : ℕ) (b : List ℕ) (n : List ℤ) (t u v : List ℤ) (e : b ≡ movedOf a m d) (held : Held ch k a n) (fit : Fit ch k a d m) where
-  row-is : (s : ℕ) → s < k → toZ w64 (ofZ w64 (listed n s)) ≡ numberAt ch a s
-  row-is s l = at-back n k s (held .small) l ∙ held .carried .are s l
-
   pub tried-moved : Tried ch k a d t → Forgot t (giverOf m) u → Forgot u (takerOf m) v
       → Tried ch k b d (set (set v (CELLS + giverOf m * COMPONENTS + componentOf m) (toZ w64 (ofZ w64 (listed n (giverOf m))))) (takerOf m * COMPONENTS + componentOf m) (toZ w64 (ofZ w64 (listed n (takerOf m)))))
   tried-moved kt fu fv =
       let so = held .sound in
       let w = bt ch k a d m so fit in
-      rw e (tried-back ch k a d m so fit v _ _ (tried-after ch k a d m so fit t u v kt fu fv) (row-is (giverOf m) (w .from)) (at-small n k (giverOf m) (held .small) (w .from)) (row-is (takerOf m) (w .to)) (at-small n k (takerOf m) (held .small) (w .to)))
+      rw e (tried-back ch k a d m so fit v _ _ (tried-after ch k a d m so fit t u v kt fu fv) (row-is ch k a n held (giverOf m) (w .from)) (at-small n k (giverOf m) (held .small) (w .from)) (row-is ch k a n held (takerOf m) (w .to)) (at-small n k (takerOf m) (held .small) (w .to)))
 
 -- the arm that moves
 module _ (ch : List ℕ) (k limit allowance : ℕ) (a : List ℕ) (level rounds m : ℕ) (x : Turn) (u : x ≡ turnOf ch k limit allowance a level rounds) (w : x ≡ Move m) where

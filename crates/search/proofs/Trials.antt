@@ -82,9 +82,6 @@ module _ (ch : List ℕ) (k : ℕ) (a : List ℕ) (d m : ℕ) (so : Sound ch k a
         few = rw (p, q, r) (parts-few ch k (movedOf a m d) s (after .stock) h);
       }
 
-  pub giver-workable : Workable ch a (giverOf m) (componentOf m) (cellOf a (giverOf m) (componentOf m) - d)
-  giver-workable = workable (giverOf m) (cellOf a (giverOf m) (componentOf m) - d) (bt ch k a d m so fit .from) (giver-changed ch k a d m so fit)
-
   pub taker-workable : Workable ch a (takerOf m) (componentOf m) (cellOf a (takerOf m) (componentOf m) + d)
   taker-workable = workable (takerOf m) (cellOf a (takerOf m) (componentOf m) + d) (bt ch k a d m so fit .to) (taker-changed ch k a d m so fit)
 

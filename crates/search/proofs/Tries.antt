@@ -25,7 +25,7 @@ use Rattle.rows.specs.Carried.{Workable}
 use Rattle.search.specs.Tried.{TRIES, UNKNOWN, rowOf, columnIn, triedOf, wantedOf, Tried, Triable, Forgot}
 use Rattle.integer.specs.Bits.{back}
 use Rattle.rows.specs.Machine.{pass}
-use Rattle.search.proofs.Trials.{giver-workable, taker-workable}
+use Rattle.search.proofs.Trials.{taker-workable}
 
 -- the amount that a try leads to
 pub less-is : (a : List ℕ) (d i : ℕ) → i < CELLS → getD a i 0 - d ≡ triedOf a d i
@@ -121,33 +121,10 @@ none-tried ch k a d = record {
 pub none-is : (ch : List ℕ) (k : ℕ) (a : List ℕ) (d : ℕ) (t : List ℤ) → t ≡ replicate TRIES UNKNOWN → Tried ch k a d t
 none-is ch k a d t e = rw e (none-tried ch k a d)
 
--- the two tries of a move that may be made
+-- the taker's try of a move that may be made
 module _ (ch : List ℕ) (k : ℕ) (a : List ℕ) (d m : ℕ) (so : Sound ch k a) (fit : Fit ch k a d m) where
   low : componentOf m < COMPONENTS
   low = component-low ch k a d m so fit
-
-  giver-row : rowOf (giverOf m * COMPONENTS + componentOf m) ≡ giverOf m
-  giver-row = omega (arith, low)
-
-  giver-column : columnIn (giverOf m * COMPONENTS + componentOf m) ≡ componentOf m
-  giver-column = omega (arith, low)
-
-  giver-below : giverOf m * COMPONENTS + componentOf m < CELLS
-  giver-below = omega (arith, low)
-
-  pub giver-triable : Triable ch k a d (giverOf m * COMPONENTS + componentOf m)
-  giver-triable = record {
-    below = omega (arith, giver-below);
-    row = rw giver-row (bt ch k a d m so fit .from);
-    had = λ l. may-move ch k a d m so fit .1;
-    room = λ l. absurd (omega (arith, giver-below));
-    workable = rw (giver-row, giver-column, sym (less-is a d (giverOf m * COMPONENTS + componentOf m) giver-below)) (giver-workable ch k a d m so fit);
-  }
-
-  pub giver-wanted : (x : ℤ) → (x ≡ wantedOf ch a d (giverOf m * COMPONENTS + componentOf m)) × (natAbs x ≤ LARGEST)
-      → (x ≡ numberWith ch a (giverOf m) (componentOf m) (cellOf a (giverOf m) (componentOf m) - d)) × (natAbs x ≤ LARGEST)
-  unfolding wantedOf
-  giver-wanted x p = (p .0 ∙ rw (giver-row, giver-column, sym (less-is a d (giverOf m * COMPONENTS + componentOf m) giver-below)), p .1)
 
   taker-row : rowOf (CELLS + takerOf m * COMPONENTS + componentOf m) ≡ takerOf m
   taker-row = omega (arith, low)

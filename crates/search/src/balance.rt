@@ -46,7 +46,8 @@ pub(crate) fn total(v: &[i64; SYSTEMS], k: usize) -> Totals
 
 // The totals with the mark y in the place of x.
 pub(crate) fn replaced(w: Totals, x: u64, y: u64) -> Totals
-    requires { ⌜ (x ≤ w .sum) × (x * x ≤ w .squares) × (x ≤ 400000000) × (y ≤ 400000000) × (w .sum ≤ 3200000000) × (w .squares ≤ 1280000000000000000) ⌝ }
+    requires { ⌜ (x ≤ w .sum) × (x * x ≤ w .squares) × (x ≤ 400000000) × (y ≤ 400000000) × (w .sum ≤ 3200000000)
+        × (w .squares ≤ 1280000000000000000) ⌝ }
     ensures { λ r. ⌜ (r .sum ≡ w .sum - x + y) × (r .squares ≡ w .squares - x * x + y * y) ⌝ }
 {
     Totals {
@@ -57,7 +58,8 @@ pub(crate) fn replaced(w: Totals, x: u64, y: u64) -> Totals
 
 // The imbalance of k numbers of these totals.
 pub(crate) fn imbalance(w: Totals, k: usize) -> u64
-    requires { ⌜ (k ≤ 8) × (w .sum ≤ 3200000000) × (w .squares ≤ 1280000000000000000) × (w .sum * w .sum ≤ k * w .squares) ⌝ }
+    requires { ⌜ (k ≤ 8) × (w .sum ≤ 3200000000) × (w .squares ≤ 1280000000000000000)
+        × (w .sum * w .sum ≤ k * w .squares) ⌝ }
     ensures { λ r. ⌜ r ≡ k * w .squares - w .sum * w .sum ⌝ }
 {
     k as u64 * w.squares - w.sum * w.sum

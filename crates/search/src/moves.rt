@@ -3,12 +3,14 @@ ghost use mathlib.Core.Path.{_≡_};
 ghost use mathlib.Core.Bool.{true};
 ghost use Prim.Native.Nat.{ℕ, _+_, _*_, _-_, _%_, _<_, _≤_};
 ghost use Rattle.split.specs.Split.{SYSTEMS, cellOf, numberAt, Sound};
-ghost use Rattle.split.specs.Move.{MOVES, imbalanceOf, componentOf, giverOf, takerOf, movedOf, affordsOf, lowersOf, canOf, firstOf};
+ghost use Rattle.split.specs.Move.{MOVES, componentOf, giverOf, takerOf, movedOf};
+ghost use Rattle.split.specs.Move.{imbalanceOf, affordsOf, lowersOf, canOf, firstOf};
 ghost use Rattle.split.specs.Tests.{Fit};
 ghost use Rattle.rows.specs.Rows.{Small};
 ghost use Rattle.rows.specs.Carried.{Carried, Held};
 ghost use Rattle.search.specs.Tried.{Tried};
-ghost use Rattle.search.specs.Balance.{Totalled, givenOf, givesOf, takesOf, Past, Scanned};
+ghost use Rattle.search.specs.Balance.{Totalled};
+ghost use Rattle.search.specs.Scan.{givenOf, givesOf, takesOf, Past, Scanned};
 use super::balance::Totals;
 use super::balance::imbalance;
 use super::balance::mark;
@@ -68,7 +70,8 @@ fn takes(ch: &[u8; SYSTEMS], c: usize, f: usize, t: usize) -> bool
 
 // Move m of the stride d, made.
 pub(crate) fn moved(a: &mut [u32; CELLS], m: usize, d: u32)
-    requires { ⌜ (m < MOVES) × (d ≤ cellOf (now a) (giverOf m) (componentOf m)) × (cellOf (now a) (takerOf m) (componentOf m) + d ≤ 1000000) ⌝ }
+    requires { ⌜ (m < MOVES) × (d ≤ cellOf (now a) (giverOf m) (componentOf m))
+        × (cellOf (now a) (takerOf m) (componentOf m) + d ≤ 1000000) ⌝ }
     ensures { λ _. ⌜ now (a .exit) ≡ movedOf (now (a .entry)) m d ⌝ }
 {
     let c = m / PAIRS;
@@ -90,8 +93,10 @@ pub(crate) fn renumber(
     d: u32,
     m: usize,
 )
-    requires { ⌜ Held (now ch) k (now a) (now v) × Fit (now ch) k (now a) d m × Tried (now ch) k (now a) d (now tried) ⌝ }
-    ensures { λ _. ⌜ Carried (now (ch .entry)) k (movedOf (now (a .entry)) m d) (now (v .exit)) × Small (now (v .exit)) k × Tried (now (ch .entry)) k (now (a .entry)) d (now (tried .exit)) ⌝ }
+    requires { ⌜ Held (now ch) k (now a) (now v) × Fit (now ch) k (now a) d m
+        × Tried (now ch) k (now a) d (now tried) ⌝ }
+    ensures { λ _. ⌜ Carried (now (ch .entry)) k (movedOf (now (a .entry)) m d) (now (v .exit))
+        × Small (now (v .exit)) k × Tried (now (ch .entry)) k (now (a .entry)) d (now (tried .exit)) ⌝ }
 {
     let f = m / SYSTEMS % SYSTEMS;
     let t = m % SYSTEMS;
@@ -105,7 +110,8 @@ pub(crate) fn renumber(
 // The next number from n on whose giver is a row.
 fn next_giver(k: usize, n: usize) -> usize
     requires { ⌜ n ≤ MOVES ⌝ }
-    ensures { λ r. ⌜ (n ≤ r) × (r ≤ MOVES) × (n % SYSTEMS ≡ 0 → r % SYSTEMS ≡ 0) × ((s : ℕ) → n ≤ s → s < r → k ≤ giverOf s) ⌝ }
+    ensures { λ r. ⌜ (n ≤ r) × (r ≤ MOVES) × (n % SYSTEMS ≡ 0 → r % SYSTEMS ≡ 0)
+        × ((s : ℕ) → n ≤ s → s < r → k ≤ giverOf s) ⌝ }
 {
     if n == MOVES {
         return n;
@@ -128,15 +134,19 @@ fn given(
     m: usize,
     w: Totals,
 ) -> Totals
-    requires { ⌜ Held (now ch) k (now a) (now v) × (m < MOVES) × (givesOf (now ch) k (now a) d m ≡ true) × Tried (now ch) k (now a) d (now tried) × Totalled (numberAt (now ch) (now a)) k (w .sum) (w .squares) ⌝ }
-    ensures { λ r. ⌜ Totalled (givenOf (now (ch .entry)) (now (a .entry)) d (giverOf m) (componentOf m)) k (r .sum) (r .squares) × Tried (now (ch .entry)) k (now (a .entry)) d (now (tried .exit)) ⌝ }
+    requires { ⌜ Held (now ch) k (now a) (now v) × (m < MOVES) × (givesOf (now ch) k (now a) d m ≡ true)
+        × Tried (now ch) k (now a) d (now tried) × Totalled (numberAt (now ch) (now a)) k (w .sum) (w .squares) ⌝ }
+    ensures { λ r.
+        ⌜ Totalled (givenOf (now (ch .entry)) (now (a .entry)) d (giverOf m) (componentOf m)) k (r .sum) (r .squares)
+        × Tried (now (ch .entry)) k (now (a .entry)) d (now (tried .exit)) ⌝ }
 {
     let f = m / SYSTEMS % SYSTEMS;
     let x = number_less(ch, k, a, tried, d, f, m / PAIRS);
     replaced(w, mark(v[f]), mark(x))
 }
 
-// Whether move m, of component c to row t, lowers the imbalance, which was `was`; w are the totals where its giver has given.
+// Whether move m, of component c to row t, lowers the imbalance, which was `was`. w are the totals where its giver has
+// given.
 fn lowers(
     ch: &[u8; SYSTEMS],
     k: usize,
@@ -150,8 +160,12 @@ fn lowers(
     w: Totals,
     was: u64,
 ) -> bool
-    requires { ⌜ Held (now ch) k (now a) (now v) × Fit (now ch) k (now a) d m × Tried (now ch) k (now a) d (now tried) × Totalled (givenOf (now ch) (now a) d (giverOf m) (componentOf m)) k (w .sum) (w .squares) × (was ≡ imbalanceOf (numberAt (now ch) (now a)) k) × (c ≡ componentOf m) × (t ≡ takerOf m) ⌝ }
-    ensures { λ r. ⌜ (r ≡ lowersOf (now (ch .entry)) k (now (a .entry)) d m) × Tried (now (ch .entry)) k (now (a .entry)) d (now (tried .exit)) ⌝ }
+    requires { ⌜ Held (now ch) k (now a) (now v) × Fit (now ch) k (now a) d m
+        × Tried (now ch) k (now a) d (now tried)
+        × Totalled (givenOf (now ch) (now a) d (giverOf m) (componentOf m)) k (w .sum) (w .squares)
+        × (was ≡ imbalanceOf (numberAt (now ch) (now a)) k) × (c ≡ componentOf m) × (t ≡ takerOf m) ⌝ }
+    ensures { λ r. ⌜ (r ≡ lowersOf (now (ch .entry)) k (now (a .entry)) d m)
+        × Tried (now (ch .entry)) k (now (a .entry)) d (now (tried .exit)) ⌝ }
 {
     let y = number_more(ch, k, a, tried, d, t, c);
     let x = mark(v[t]);
@@ -173,8 +187,13 @@ fn can(
     w: Totals,
     was: u64,
 ) -> bool
-    requires { ⌜ Held (now ch) k (now a) (now v) × (m < MOVES) × (takerOf m < k) × (givesOf (now ch) k (now a) d m ≡ true) × Tried (now ch) k (now a) d (now tried) × Totalled (givenOf (now ch) (now a) d (giverOf m) (componentOf m)) k (w .sum) (w .squares) × (was ≡ imbalanceOf (numberAt (now ch) (now a)) k) × (c ≡ componentOf m) × (f ≡ giverOf m) × (t ≡ takerOf m) ⌝ }
-    ensures { λ r. ⌜ (r ≡ canOf (now (ch .entry)) k (now (a .entry)) d m) × Tried (now (ch .entry)) k (now (a .entry)) d (now (tried .exit)) ⌝ }
+    requires { ⌜ Held (now ch) k (now a) (now v) × (m < MOVES) × (takerOf m < k)
+        × (givesOf (now ch) k (now a) d m ≡ true) × Tried (now ch) k (now a) d (now tried)
+        × Totalled (givenOf (now ch) (now a) d (giverOf m) (componentOf m)) k (w .sum) (w .squares)
+        × (was ≡ imbalanceOf (numberAt (now ch) (now a)) k) × (c ≡ componentOf m) × (f ≡ giverOf m)
+        × (t ≡ takerOf m) ⌝ }
+    ensures { λ r. ⌜ (r ≡ canOf (now (ch .entry)) k (now (a .entry)) d m)
+        × Tried (now (ch .entry)) k (now (a .entry)) d (now (tried .exit)) ⌝ }
 {
     if !takes(ch, c, f, t) {
         return false;
@@ -182,7 +201,8 @@ fn can(
     lowers(ch, k, a, v, tried, d, m, c, t, w, was)
 }
 
-// The first move from n on with n's component c and giver f that can be made and lowers the imbalance, or past them all.
+// Of the moves from n on with n's component c and giver f, the first that can be made and lowers the imbalance, or the
+// number after them.
 fn first_taker(
     ch: &[u8; SYSTEMS],
     k: usize,
@@ -196,8 +216,13 @@ fn first_taker(
     w: Totals,
     was: u64,
 ) -> usize
-    requires { ⌜ Held (now ch) k (now a) (now v) × (n < MOVES) × (n % SYSTEMS ≡ 0) × (givesOf (now ch) k (now a) d n ≡ true) × Past (now ch) k (now a) d n × Tried (now ch) k (now a) d (now tried) × Totalled (givenOf (now ch) (now a) d (giverOf n) (componentOf n)) k (w .sum) (w .squares) × (was ≡ imbalanceOf (numberAt (now ch) (now a)) k) × (c ≡ componentOf n) × (f ≡ giverOf n) ⌝ }
-    ensures { λ r. ⌜ Scanned (now (ch .entry)) k (now (a .entry)) d n r × Tried (now (ch .entry)) k (now (a .entry)) d (now (tried .exit)) ⌝ }
+    requires { ⌜ Held (now ch) k (now a) (now v) × (n < MOVES) × (n % SYSTEMS ≡ 0)
+        × (givesOf (now ch) k (now a) d n ≡ true) × Past (now ch) k (now a) d n
+        × Tried (now ch) k (now a) d (now tried)
+        × Totalled (givenOf (now ch) (now a) d (giverOf n) (componentOf n)) k (w .sum) (w .squares)
+        × (was ≡ imbalanceOf (numberAt (now ch) (now a)) k) × (c ≡ componentOf n) × (f ≡ giverOf n) ⌝ }
+    ensures { λ r. ⌜ Scanned (now (ch .entry)) k (now (a .entry)) d n r
+        × Tried (now (ch .entry)) k (now (a .entry)) d (now (tried .exit)) ⌝ }
 {
     let mut t = 0;
     while t < k {
@@ -209,7 +234,7 @@ fn first_taker(
     n + SYSTEMS
 }
 
-// The same where n's giver may not give.
+// The same of the moves from n on, whether n's giver gives or not.
 fn first_from(
     ch: &[u8; SYSTEMS],
     k: usize,
@@ -221,26 +246,19 @@ fn first_from(
     all: Totals,
     was: u64,
 ) -> usize
-    requires { ⌜ Held (now ch) k (now a) (now v) × (n < MOVES) × (n % SYSTEMS ≡ 0) × Past (now ch) k (now a) d n × Tried (now ch) k (now a) d (now tried) × Totalled (numberAt (now ch) (now a)) k (all .sum) (all .squares) × (was ≡ imbalanceOf (numberAt (now ch) (now a)) k) ⌝ }
-    ensures { λ r. ⌜ Scanned (now (ch .entry)) k (now (a .entry)) d n r × Tried (now (ch .entry)) k (now (a .entry)) d (now (tried .exit)) ⌝ }
+    requires { ⌜ Held (now ch) k (now a) (now v) × (n < MOVES) × (n % SYSTEMS ≡ 0) × Past (now ch) k (now a) d n
+        × Tried (now ch) k (now a) d (now tried) × Totalled (numberAt (now ch) (now a)) k (all .sum) (all .squares)
+        × (was ≡ imbalanceOf (numberAt (now ch) (now a)) k) ⌝ }
+    ensures { λ r. ⌜ Scanned (now (ch .entry)) k (now (a .entry)) d n r
+        × Tried (now (ch .entry)) k (now (a .entry)) d (now (tried .exit)) ⌝ }
 {
     if !gives(ch, k, a, d, n) {
         return n + SYSTEMS;
     }
+    let c = n / PAIRS;
+    let f = n / SYSTEMS % SYSTEMS;
     let w = given(ch, k, a, v, tried, d, n, all);
-    first_taker(
-        ch,
-        k,
-        a,
-        v,
-        tried,
-        d,
-        n,
-        n / PAIRS,
-        n / SYSTEMS % SYSTEMS,
-        w,
-        was,
-    )
+    first_taker(ch, k, a, v, tried, d, n, c, f, w, was)
 }
 
 // The first move that can be made and lowers the imbalance, or MOVES.
@@ -253,17 +271,19 @@ pub(crate) fn first_move(
     d: u32,
 ) -> usize
     requires { ⌜ Held (now ch) k (now a) (now v) × Tried (now ch) k (now a) d (now tried) ⌝ }
-    ensures { λ r. ⌜ (r ≡ firstOf (now (ch .entry)) k (now (a .entry)) d) × Tried (now (ch .entry)) k (now (a .entry)) d (now (tried .exit)) ⌝ }
+    ensures { λ r. ⌜ (r ≡ firstOf (now (ch .entry)) k (now (a .entry)) d)
+        × Tried (now (ch .entry)) k (now (a .entry)) d (now (tried .exit)) ⌝ }
 {
     let all = total(v, k);
     let was = imbalance(all, k);
+    let mut best = MOVES;
     let mut n = 0;
-    while n < MOVES {
+    while n < best {
         let m = first_from(ch, k, a, v, tried, d, n, all, was);
         if m < n + SYSTEMS {
-            return m;
+            best = m;
         }
         n = next_giver(k, n + SYSTEMS);
     }
-    MOVES
+    best
 }

@@ -68,8 +68,11 @@ fn make_move(
     d: u32,
     m: usize,
 )
-    requires { ⌜ Held (now ch) k (now a) (now v) × Fit (now ch) k (now a) d m × Tried (now ch) k (now a) d (now tried) ⌝ }
-    ensures { λ _. ⌜ (now (a .exit) ≡ movedOf (now (a .entry)) m d) × Held (now (ch .entry)) k (now (a .exit)) (now (v .exit)) × Tried (now (ch .entry)) k (now (a .exit)) d (now (tried .exit)) ⌝ }
+    requires { ⌜ Held (now ch) k (now a) (now v) × Fit (now ch) k (now a) d m
+        × Tried (now ch) k (now a) d (now tried) ⌝ }
+    ensures { λ _. ⌜ (now (a .exit) ≡ movedOf (now (a .entry)) m d)
+        × Held (now (ch .entry)) k (now (a .exit)) (now (v .exit))
+        × Tried (now (ch .entry)) k (now (a .exit)) d (now (tried .exit)) ⌝ }
 {
     let f = m / SYSTEMS % SYSTEMS;
     let t = m % SYSTEMS;

@@ -57,8 +57,10 @@ pub(crate) fn number_less(
     s: usize,
     c: usize,
 ) -> i64
-    requires { ⌜ (s < SYSTEMS) × (c < COMPONENTS) × Triable (now ch) k (now a) d (s * COMPONENTS + c) × Tried (now ch) k (now a) d (now tried) ⌝ }
-    ensures { λ r. ⌜ (r ≡ wantedOf (now (ch .entry)) (now (a .entry)) d (s * COMPONENTS + c)) × (natAbs r ≤ LARGEST) × Tried (now (ch .entry)) k (now (a .entry)) d (now (tried .exit)) ⌝ }
+    requires { ⌜ (s < SYSTEMS) × (c < COMPONENTS) × Triable (now ch) k (now a) d (s * COMPONENTS + c)
+        × Tried (now ch) k (now a) d (now tried) ⌝ }
+    ensures { λ r. ⌜ (r ≡ wantedOf (now (ch .entry)) (now (a .entry)) d (s * COMPONENTS + c)) × (natAbs r ≤ LARGEST)
+        × Tried (now (ch .entry)) k (now (a .entry)) d (now (tried .exit)) ⌝ }
 {
     let i = s * COMPONENTS + c;
     let x = tried[i];
@@ -80,8 +82,10 @@ pub(crate) fn number_more(
     s: usize,
     c: usize,
 ) -> i64
-    requires { ⌜ (s < SYSTEMS) × (c < COMPONENTS) × Triable (now ch) k (now a) d (CELLS + s * COMPONENTS + c) × Tried (now ch) k (now a) d (now tried) ⌝ }
-    ensures { λ r. ⌜ (r ≡ wantedOf (now (ch .entry)) (now (a .entry)) d (CELLS + s * COMPONENTS + c)) × (natAbs r ≤ LARGEST) × Tried (now (ch .entry)) k (now (a .entry)) d (now (tried .exit)) ⌝ }
+    requires { ⌜ (s < SYSTEMS) × (c < COMPONENTS) × Triable (now ch) k (now a) d (CELLS + s * COMPONENTS + c)
+        × Tried (now ch) k (now a) d (now tried) ⌝ }
+    ensures { λ r. ⌜ (r ≡ wantedOf (now (ch .entry)) (now (a .entry)) d (CELLS + s * COMPONENTS + c))
+        × (natAbs r ≤ LARGEST) × Tried (now (ch .entry)) k (now (a .entry)) d (now (tried .exit)) ⌝ }
 {
     let i = s * COMPONENTS + c;
     let x = tried[CELLS + s * COMPONENTS + c];

@@ -4,6 +4,9 @@ use native.Mathlib.Omega.{arith}
 use Rattle.search.proofs.balance.mark.Statement.{statement}
 use Rattle.search.proofs.balance.mark.Tie as tie
 
+returns : tie.Need-returns
+returns c = mark-result (c .args .x) (c .pre)
+
 div-result : tie.Need-div-result
 div-result c = (omega arith, cut-fits (c .args .x) (c .pre))
 
@@ -12,9 +15,6 @@ add-result c = mark-add (c .args .x) (c .pre)
 
 cast-result : tie.Need-cast-result
 cast-result c = mark-cast (c .args .x) (c .pre)
-
-returns : tie.Need-returns
-returns c = mark-result (c .args .x) (c .pre)
 
 pub mark-spec : {M : Type 1} → statement M
 mark-spec = tie.close (tie.spec div-result add-result cast-result returns)

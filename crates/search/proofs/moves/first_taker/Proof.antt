@@ -3,7 +3,7 @@ use Prim.Native.Nat.{_+_, _-_, _≤_}
 use mathlib.Core.Path.{sym, _∙_}
 use native.Mathlib.Omega.{arith}
 use borrow.Author.Needs.{needs}
-use Rattle.search.specs.Balance.{Past}
+use Rattle.search.specs.Scan.{Past}
 use Rattle.search.specs.Tried.{Tried}
 use Rattle.search.proofs.Givers.{past-here, past-on, scan-ends, scan-below, scan-takes, scan-taker, scan-component, scan-giver, scan-gives, scan-total, scan-found}
 use Rattle.search.proofs.moves.first_taker.Statement.{statement}
