@@ -327,15 +327,29 @@ static void start(const mixture *m, split *s)
         s->numbers[i] = number_of(s->systems[i], s->amounts[i]);
 }
 
+#ifdef KEPT
+#include "kept.c"
+#else
+
+/* What a search carries from round to round. */
+typedef struct {
+    uint64_t imbalance;
+} state;
+
 static uint64_t imbalance_of(const int64_t numbers[CHOSEN])
 {
     int64_t a = numbers[0] / 10000, b = numbers[1] / 10000, c = numbers[2] / 10000;
     return (a - b) * (a - b) + (b - c) * (b - c) + (a - c) * (a - c);
 }
 
+static void begin(const split *s, state *at)
+{
+    at->imbalance = imbalance_of(s->numbers);
+}
+
 /* Carries one stride of component c where that lowers the imbalance. Only the two systems touched are worked out
    again; the numbers are kept with the split. */
-static int move(split *s, int c, int from, int to, uint32_t stride, uint64_t *imbalance)
+static int move(split *s, int c, int from, int to, uint32_t stride, state *at)
 {
     if (s->amounts[from][c] < stride || parts_of(s->amounts[from]) == stride)
         return 0;
@@ -345,9 +359,9 @@ static int move(split *s, int c, int from, int to, uint32_t stride, uint64_t *im
     numbers[from] = number_of(s->systems[from], s->amounts[from]);
     numbers[to] = number_of(s->systems[to], s->amounts[to]);
     uint64_t after = imbalance_of(numbers);
-    if (after < *imbalance) {
+    if (after < at->imbalance) {
         memcpy(s->numbers, numbers, sizeof numbers);
-        *imbalance = after;
+        at->imbalance = after;
         return 1;
     }
     s->amounts[from][c] += stride;
@@ -355,23 +369,26 @@ static int move(split *s, int c, int from, int to, uint32_t stride, uint64_t *im
     return 0;
 }
 
-static int first_move(split *s, uint32_t stride, uint64_t *imbalance)
+static int first_move(split *s, uint32_t stride, state *at)
 {
     for (int c = 0; c < COMPONENTS; c++)
         for (int from = 0; from < CHOSEN; from++)
             for (int to = 0; to < CHOSEN; to++)
                 if (from != to && contains[s->systems[from]][c] && contains[s->systems[to]][c]
-                    && move(s, c, from, to, stride, imbalance))
+                    && move(s, c, from, to, stride, at))
                     return 1;
     return 0;
 }
+
+#endif
 
 static saugrinte_answer find(const uint32_t amounts[CODES], uint32_t allowance, saugrinte_figures *figures, split *s)
 {
     mixture m = simplify(amounts);
     uint32_t stride = 65536, rounds = 0;
+    state at;
     start(&m, s);
-    uint64_t imbalance = imbalance_of(s->numbers);
+    begin(s, &at);
     for (;;) {
         if (spread_of(s->numbers) <= LIMIT) {
             rated(s, &m, rounds, figures);
@@ -379,7 +396,7 @@ static saugrinte_answer find(const uint32_t amounts[CODES], uint32_t allowance, 
         }
         if (rounds == allowance)
             return refused(UNBALANCED, 0);
-        if (first_move(s, stride, &imbalance))
+        if (first_move(s, stride, &at))
             rounds++;
         else if (stride == 1)
             return refused(UNBALANCED, 0);

@@ -1,7 +1,9 @@
 pub mod Amounts
 pub mod Numbers
+pub mod Squares
+pub mod Givers
 pub mod Trials
 pub mod Tries
+pub mod Given
 pub mod Fit
 pub mod Loop
-pub mod Scanned

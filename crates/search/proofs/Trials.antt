@@ -1,10 +1,10 @@
 -- A move's two rows worked out, the others carried.
 use Prim.Native.Nat.{ℕ, _+_, _-_, _≤_, _<_}
-use mathlib.Core.Path.{_≡_, refl, sym, ap, ap₂, _∙_}
+use mathlib.Core.Path.{_≡_, refl, sym, ap, _∙_}
 use mathlib.Core.Bool.{Bool, true, false}
 use mathlib.Core.List.{List}
 use native.Mathlib.Omega.{arith}
-use lib.Dec.{eqb, ltb}
+use lib.Dec.{eqb}
 use lib.IntN.{ℤ, pos, natAbs}
 use lib.ListN.{length, set, length-set}
 use lib.Seq.{getD-set-same, getD-set-other}
@@ -14,11 +14,10 @@ use borrow.Author.Tests.{eqb-true, eqb-false, eq-eqb, ne-eqb}
 use Rattle.ternary.specs.WorkingRule.{LARGEST}
 use Rattle.systems.specs.Systems.{memberOf, Candidate}
 use Rattle.ternary.specs.Partial.{partialNumber}
-use Rattle.split.specs.Fold.{sumTo}
 use Rattle.split.specs.Split.{SYSTEMS, cellOf, systemOf, partsOf, numberAt, Sound}
 use Rattle.split.specs.Rating.{spreadOf}
-use Rattle.split.specs.Move.{squareOf, imbalanceOf, componentOf, giverOf, takerOf, movedOf, lowersOf}
-use Rattle.split.specs.Folds.{sum-same, greatest-same, least-same}
+use Rattle.split.specs.Move.{componentOf, giverOf, takerOf, movedOf}
+use Rattle.split.specs.Folds.{greatest-same, least-same}
 use Rattle.split.specs.Members.{three}
 use Rattle.split.specs.Rows.{parts-few}
 use Rattle.split.specs.Tests.{Fit}
@@ -27,16 +26,7 @@ use Rattle.rows.specs.Rows.{listed, Small}
 use Rattle.rows.specs.Carried.{Carried, Workable}
 use Rattle.integer.specs.Bits.{back}
 
--- the imbalance and the spread depend on the k numbers alone
-pub imbalance-same : (u v : ℕ → ℤ) (k : ℕ) → ((i : ℕ) → i < k → u i ≡ v i) → imbalanceOf u k ≡ imbalanceOf v k
-unfolding imbalanceOf
-imbalance-same u v k h =
-    sum-same (λ i. sumTo (λ j. squareOf (u i) (u j)) i) (λ i. sumTo (λ j. squareOf (v i) (v j)) i) k
-    (λ i l. sum-same (λ j. squareOf (u i) (u j)) (λ j. squareOf (v i) (v j)) i (λ j m. pair i j l m))
-  where
-    pair : (i j : ℕ) → i < k → j < i → squareOf (u i) (u j) ≡ squareOf (v i) (v j)
-    pair i j l m = rw (h i l, h j (omega arith))
-
+-- the spread depends on the k numbers alone
 pub spread-same : (u v : ℕ → ℤ) (k : ℕ) → 0 < k → ((i : ℕ) → i < k → u i ≡ v i) → spreadOf u k ≡ spreadOf v k
 unfolding spreadOf
 spread-same u v k p h = rw (greatest-same u v k k p (omega arith) h, least-same u v k k p (omega arith) h)
@@ -92,13 +82,10 @@ module _ (ch : List ℕ) (k : ℕ) (a : List ℕ) (d m : ℕ) (so : Sound ch k a
         few = rw (p, q, r) (parts-few ch k (movedOf a m d) s (after .stock) h);
       }
 
-  pub giver-workable : Workable ch a (giverOf m) (componentOf m) (cellOf a (giverOf m) (componentOf m) - d)
-  giver-workable = workable (giverOf m) (cellOf a (giverOf m) (componentOf m) - d) (bt ch k a d m so fit .from) (giver-changed ch k a d m so fit)
-
   pub taker-workable : Workable ch a (takerOf m) (componentOf m) (cellOf a (takerOf m) (componentOf m) + d)
   taker-workable = workable (takerOf m) (cellOf a (takerOf m) (componentOf m) + d) (bt ch k a d m so fit .to) (taker-changed ch k a d m so fit)
 
-  with-is : (s n : ℕ) → s < k → Changed a (movedOf a m d) s (componentOf m) n → numberWith ch a s (componentOf m) n ≡ numberAt ch (movedOf a m d) s
+  pub with-is : (s n : ℕ) → s < k → Changed a (movedOf a m d) s (componentOf m) n → numberWith ch a s (componentOf m) n ≡ numberAt ch (movedOf a m d) s
   with-is s n h w = number-with a (movedOf a m d) s (componentOf m) n w ch (three (systemOf ch s) (so .stock .chosen .known s h))
 
   pub renumber-ok : (v : List ℤ) (x y : ℤ) → Carried ch k a v → Small v k
@@ -123,10 +110,3 @@ module _ (ch : List ℕ) (k : ℕ) (a : List ℕ) (d m : ℕ) (so : Sound ch k a
           each = two-put v k (giverOf m) (takerOf m) x y (cv .long) (sm .most) (b .from) (b .to) (λ s z. natAbs z ≤ LARGEST) (λ s h u w. sm .each s h) (p .1) (q .1);
         },
       )
-
-  pub lowers-is : (w : List ℤ) (r was : ℕ) → Carried ch k (movedOf a m d) w → r ≡ imbalanceOf (listed w) k → was ≡ imbalanceOf (numberAt ch a) k → ltb r was ≡ lowersOf ch k a d m
-  unfolding lowersOf
-  lowers-is w r was cw p q = ap₂ ltb (p ∙ imbalance-same (listed w) (numberAt ch (movedOf a m d)) k (cw .are)) q
-
-pub was-is : (ch : List ℕ) (k : ℕ) (a : List ℕ) (v : List ℤ) (r : ℕ) → Carried ch k a v → r ≡ imbalanceOf (listed v) k → r ≡ imbalanceOf (numberAt ch a) k
-was-is ch k a v r cv e = e ∙ imbalance-same (listed v) (numberAt ch a) k (cv .are)

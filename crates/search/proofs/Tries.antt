@@ -14,18 +14,18 @@ use mir.Val.{toZ, ofZ}
 use borrow.Author.Tests.{eqb-true, eqb-false, lt-ltb, le-ltb, ltb-true, ltb-false}
 use Rattle.ternary.specs.WorkingRule.{LARGEST}
 use Rattle.systems.specs.Systems.{COMPONENTS, memberOf}
-use Rattle.split.specs.Split.{SYSTEMS, CELLS, cellOf, systemOf, Sound}
+use Rattle.split.specs.Split.{SYSTEMS, CELLS, cellOf, systemOf, numberAt, Sound}
 use Rattle.split.specs.Move.{componentOf, giverOf, takerOf, movedOf}
 use Rattle.split.specs.Members.{three}
 use Rattle.split.specs.Moves.{cell-row}
 use Rattle.split.specs.Tests.{Fit}
-use Rattle.split.specs.Steps.{numberWith, bt, component-low, may-move}
+use Rattle.split.specs.Steps.{numberWith, Changed, number-with, bt, component-low, may-move, giver-changed, taker-changed}
 use Rattle.rows.specs.Rows.{listed}
 use Rattle.rows.specs.Carried.{Workable}
 use Rattle.search.specs.Tried.{TRIES, UNKNOWN, rowOf, columnIn, triedOf, wantedOf, Tried, Triable, Forgot}
 use Rattle.integer.specs.Bits.{back}
 use Rattle.rows.specs.Machine.{pass}
-use Rattle.search.proofs.Trials.{giver-workable, taker-workable}
+use Rattle.search.proofs.Trials.{taker-workable}
 
 -- the amount that a try leads to
 pub less-is : (a : List ℕ) (d i : ℕ) → i < CELLS → getD a i 0 - d ≡ triedOf a d i
@@ -36,16 +36,64 @@ pub more-is : (a : List ℕ) (d i : ℕ) → CELLS ≤ i → getD a (i - CELLS) 
 unfolding triedOf
 more-is a d i h = rw (le-ltb i CELLS h)
 
--- its number, worked out
-module _ (ch : List ℕ) (k : ℕ) (a : List ℕ) (d i n : ℕ) (e : n ≡ triedOf a d i) where
-  pub may-work : Triable ch k a d i → Workable ch a (rowOf i) (columnIn i) n
-  may-work h = rw e (h .workable)
+-- the two tries of row s's component c
+module _ (ch : List ℕ) (k : ℕ) (a : List ℕ) (d s c : ℕ) (h : s < SYSTEMS) (l : c < COMPONENTS) where
+  less-row : rowOf (s * COMPONENTS + c) ≡ s
+  less-row = omega arith
 
-  pub worked : (z : ℤ) → (z ≡ numberWith ch a (rowOf i) (columnIn i) n) × (natAbs z ≤ LARGEST) → (toZ w64 (ofZ w64 z) ≡ wantedOf ch a d i) × (natAbs (toZ w64 (ofZ w64 z)) ≤ LARGEST)
+  less-column : columnIn (s * COMPONENTS + c) ≡ c
+  less-column = omega arith
+
+  less-low : s * COMPONENTS + c < CELLS
+  less-low = omega arith
+
+  pub less-had : Triable ch k a d (s * COMPONENTS + c) → d ≤ getD a (s * COMPONENTS + c) 0
+  less-had t = t .had less-low
+
+  pub less-work : Triable ch k a d (s * COMPONENTS + c) → Workable ch a s c (getD a (s * COMPONENTS + c) 0 - d)
+  less-work t = rw (less-row, less-column, sym (less-is a d (s * COMPONENTS + c) less-low)) at (t .workable)
+
+  pub less-wanted : numberWith ch a s c (getD a (s * COMPONENTS + c) 0 - d) ≡ wantedOf ch a d (s * COMPONENTS + c)
   unfolding wantedOf
-  worked z p = pass z (wantedOf ch a d i) (p .0 ∙ ap (numberWith ch a (rowOf i) (columnIn i)) e) (p .1)
+  less-wanted = rw (less-row, less-column, sym (less-is a d (s * COMPONENTS + c) less-low))
 
--- a number that is known, and one that is put
+  more-row : rowOf (CELLS + s * COMPONENTS + c) ≡ s
+  more-row = omega arith
+
+  more-column : columnIn (CELLS + s * COMPONENTS + c) ≡ c
+  more-column = omega arith
+
+  more-cell : CELLS + s * COMPONENTS + c - CELLS ≡ s * COMPONENTS + c
+  more-cell = omega arith
+
+  more-amount : triedOf a d (CELLS + s * COMPONENTS + c) ≡ getD a (s * COMPONENTS + c) 0 + d
+  more-amount = sym (more-is a d (CELLS + s * COMPONENTS + c) (omega arith)) ∙ ap (λ i. getD a i 0 + d) more-cell
+
+  pub more-room : Triable ch k a d (CELLS + s * COMPONENTS + c) → getD a (s * COMPONENTS + c) 0 + d ≤ 1000000
+  more-room t = rw more-cell at (t .room (omega arith))
+
+  pub more-work : Triable ch k a d (CELLS + s * COMPONENTS + c) → Workable ch a s c (getD a (s * COMPONENTS + c) 0 + d)
+  more-work t = rw (more-row, more-column, more-amount) at (t .workable)
+
+  pub more-wanted : numberWith ch a s c (getD a (s * COMPONENTS + c) 0 + d) ≡ wantedOf ch a d (CELLS + s * COMPONENTS + c)
+  unfolding wantedOf
+  more-wanted = rw (more-row, more-column, more-amount)
+
+-- a number that is put
+module _ (ch : List ℕ) (k : ℕ) (a : List ℕ) (d : ℕ) (t : List ℤ) (kt : Tried ch k a d t) (i : ℕ) (h : i < TRIES) (y : ℤ) (p : (y ≡ wantedOf ch a d i) × (natAbs y ≤ LARGEST)) where
+  put-known : (j : ℕ) → j < TRIES → rowOf j < k → (listed (set t i y) j ≡ UNKNOWN → ⊥) → (listed (set t i y) j ≡ wantedOf ch a d j) × (natAbs (listed (set t i y) j) ≤ LARGEST)
+  put-known j l r u = go (eqb j i) refl
+    where
+      go : (b : Bool) → eqb j i ≡ b → (listed (set t i y) j ≡ wantedOf ch a d j) × (natAbs (listed (set t i y) j) ≤ LARGEST)
+      go true e = rw (eqb-true j i e, getD-set-same t i y (pos 0) (omega (arith, kt .long))) p
+      go false e =
+          let o = getD-set-other t i j y (pos 0) (eqb-false j i e) in
+          rw o (kt .known j l r (λ v. u (o ∙ v)))
+
+  pub put-tried : Tried ch k a d (set t i y)
+  put-tried = record { long = simp length-set (kt .long); known = put-known }
+
+-- a number that is known, and one that is worked out
 module _ (ch : List ℕ) (k : ℕ) (a : List ℕ) (d : ℕ) (t : List ℤ) (kt : Tried ch k a d t) (i : ℕ) (h : Triable ch k a d i) where
   pub known-is : (ofZ w64 (listed t i) ≡ 4000000000000 → ⊥)
       → (toZ w64 (ofZ w64 (listed t i)) ≡ wantedOf ch a d i) × (natAbs (toZ w64 (ofZ w64 (listed t i))) ≤ LARGEST) × Tried ch k a d t
@@ -54,23 +102,10 @@ module _ (ch : List ℕ) (k : ℕ) (a : List ℕ) (d : ℕ) (t : List ℤ) (kt :
       let q = pass (listed t i) (wantedOf ch a d i) (p .0) (p .1) in
       (q .0, q .1, kt)
 
-  module _ (y : ℤ) (p : (y ≡ wantedOf ch a d i) × (natAbs y ≤ LARGEST)) where
-    put-known : (j : ℕ) → j < TRIES → rowOf j < k → (listed (set t i y) j ≡ UNKNOWN → ⊥) → (listed (set t i y) j ≡ wantedOf ch a d j) × (natAbs (listed (set t i y) j) ≤ LARGEST)
-    put-known j l r u = go (eqb j i) refl
-      where
-        go : (b : Bool) → eqb j i ≡ b → (listed (set t i y) j ≡ wantedOf ch a d j) × (natAbs (listed (set t i y) j) ≤ LARGEST)
-        go true e = rw (eqb-true j i e, getD-set-same t i y (pos 0) (omega (arith, kt .long, h .below))) p
-        go false e =
-            let o = getD-set-other t i j y (pos 0) (eqb-false j i e) in
-            rw o (kt .known j l r (λ v. u (o ∙ v)))
-
-    put-tried : Tried ch k a d (set t i y)
-    put-tried = record { long = simp length-set (kt .long); known = put-known }
-
-    pub put-is : (toZ w64 (ofZ w64 y) ≡ wantedOf ch a d i) × (natAbs (toZ w64 (ofZ w64 y)) ≤ LARGEST) × Tried ch k a d (set t i (toZ w64 (ofZ w64 y)))
-    put-is =
-        let b : toZ w64 (ofZ w64 y) ≡ y = back y (N.le-trans (p .1) (lit≤ tt)) in
-        rw b (p .0, p .1, put-tried)
+  pub put-is : (y : ℤ) → (y ≡ wantedOf ch a d i) × (natAbs y ≤ LARGEST) → (toZ w64 (ofZ w64 y) ≡ wantedOf ch a d i) × (natAbs (toZ w64 (ofZ w64 y)) ≤ LARGEST) × Tried ch k a d (set t i (toZ w64 (ofZ w64 y)))
+  put-is y p =
+      let b : toZ w64 (ofZ w64 y) ≡ y = back y (N.le-trans (p .1) (lit≤ tt)) in
+      rw b (p .0, p .1, put-tried ch k a d t kt i (h .below) y p)
 
 -- the stride under another name
 pub tried-as : (ch : List ℕ) (k : ℕ) (a : List ℕ) (d e : ℕ) (t : List ℤ) → d ≡ e → Tried ch k a e t → Tried ch k a d t
@@ -86,33 +121,10 @@ none-tried ch k a d = record {
 pub none-is : (ch : List ℕ) (k : ℕ) (a : List ℕ) (d : ℕ) (t : List ℤ) → t ≡ replicate TRIES UNKNOWN → Tried ch k a d t
 none-is ch k a d t e = rw e (none-tried ch k a d)
 
--- the two tries of a move that may be made
+-- the taker's try of a move that may be made
 module _ (ch : List ℕ) (k : ℕ) (a : List ℕ) (d m : ℕ) (so : Sound ch k a) (fit : Fit ch k a d m) where
   low : componentOf m < COMPONENTS
   low = component-low ch k a d m so fit
-
-  giver-row : rowOf (giverOf m * COMPONENTS + componentOf m) ≡ giverOf m
-  giver-row = omega (arith, low)
-
-  giver-column : columnIn (giverOf m * COMPONENTS + componentOf m) ≡ componentOf m
-  giver-column = omega (arith, low)
-
-  giver-below : giverOf m * COMPONENTS + componentOf m < CELLS
-  giver-below = omega (arith, low)
-
-  pub giver-triable : Triable ch k a d (giverOf m * COMPONENTS + componentOf m)
-  giver-triable = record {
-    below = omega (arith, giver-below);
-    row = rw giver-row (bt ch k a d m so fit .from);
-    had = λ l. may-move ch k a d m so fit .1;
-    room = λ l. absurd (omega (arith, giver-below));
-    workable = rw (giver-row, giver-column, sym (less-is a d (giverOf m * COMPONENTS + componentOf m) giver-below)) (giver-workable ch k a d m so fit);
-  }
-
-  pub giver-wanted : (x : ℤ) → (x ≡ wantedOf ch a d (giverOf m * COMPONENTS + componentOf m)) × (natAbs x ≤ LARGEST)
-      → (x ≡ numberWith ch a (giverOf m) (componentOf m) (cellOf a (giverOf m) (componentOf m) - d)) × (natAbs x ≤ LARGEST)
-  unfolding wantedOf
-  giver-wanted x p = (p .0 ∙ rw (giver-row, giver-column, sym (less-is a d (giverOf m * COMPONENTS + componentOf m) giver-below)), p .1)
 
   taker-row : rowOf (CELLS + takerOf m * COMPONENTS + componentOf m) ≡ takerOf m
   taker-row = omega (arith, low)
@@ -187,6 +199,57 @@ module _ (ch : List ℕ) (k : ℕ) (a : List ℕ) (d m : ℕ) (so : Sound ch k a
                 let o = fv .kept i h (eqb-false _ _ e) ∙ fu .kept i h (eqb-false _ _ f) in
                 let p = kt .known i h l (λ w. z (o ∙ w)) in
                 (o ∙ p .0 ∙ sym (same-wanted i h l (eqb-false _ _ f) (eqb-false _ _ e)), rw o (p .1))
+
+  -- and the two tries that would take the move back, which lead to the numbers before it
+  pub giver-back : (x : ℤ) → x ≡ numberAt ch a (giverOf m) → x ≡ wantedOf ch (movedOf a m d) d (CELLS + giverOf m * COMPONENTS + componentOf m)
+  unfolding wantedOf
+  giver-back x e = e ∙ sym (rw (row, column, amount) (number-with (movedOf a m d) a (giverOf m) (componentOf m) (cellOf a (giverOf m) (componentOf m)) was ch (three (systemOf ch (giverOf m)) (so .stock .chosen .known (giverOf m) (bt ch k a d m so fit .from)))))
+    where
+      row : rowOf (CELLS + giverOf m * COMPONENTS + componentOf m) ≡ giverOf m
+      row = omega (arith, low)
+
+      column : columnIn (CELLS + giverOf m * COMPONENTS + componentOf m) ≡ componentOf m
+      column = omega (arith, low)
+
+      cell : CELLS + giverOf m * COMPONENTS + componentOf m - CELLS ≡ giverOf m * COMPONENTS + componentOf m
+      cell = omega arith
+
+      amount : triedOf (movedOf a m d) d (CELLS + giverOf m * COMPONENTS + componentOf m) ≡ cellOf a (giverOf m) (componentOf m)
+      amount =
+          sym (more-is (movedOf a m d) d (CELLS + giverOf m * COMPONENTS + componentOf m) (omega arith))
+          ∙ ap (λ i. getD (movedOf a m d) i 0 + d) cell
+          ∙ omega (arith, giver-changed ch k a d m so fit .here, may-move ch k a d m so fit .1)
+
+      was : Changed (movedOf a m d) a (giverOf m) (componentOf m) (cellOf a (giverOf m) (componentOf m))
+      was = record { here = refl; rest = λ e l n. sym (giver-changed ch k a d m so fit .rest e l n) }
+
+  pub taker-back : (x : ℤ) → x ≡ numberAt ch a (takerOf m) → x ≡ wantedOf ch (movedOf a m d) d (takerOf m * COMPONENTS + componentOf m)
+  unfolding wantedOf
+  taker-back x e = e ∙ sym (rw (row, column, amount) (number-with (movedOf a m d) a (takerOf m) (componentOf m) (cellOf a (takerOf m) (componentOf m)) was ch (three (systemOf ch (takerOf m)) (so .stock .chosen .known (takerOf m) (bt ch k a d m so fit .to)))))
+    where
+      row : rowOf (takerOf m * COMPONENTS + componentOf m) ≡ takerOf m
+      row = omega (arith, low)
+
+      column : columnIn (takerOf m * COMPONENTS + componentOf m) ≡ componentOf m
+      column = omega (arith, low)
+
+      amount : triedOf (movedOf a m d) d (takerOf m * COMPONENTS + componentOf m) ≡ cellOf a (takerOf m) (componentOf m)
+      amount =
+          sym (less-is (movedOf a m d) d (takerOf m * COMPONENTS + componentOf m) (omega (arith, low)))
+          ∙ omega (arith, taker-changed ch k a d m so fit .here)
+
+      was : Changed (movedOf a m d) a (takerOf m) (componentOf m) (cellOf a (takerOf m) (componentOf m))
+      was = record { here = refl; rest = λ e l n. sym (taker-changed ch k a d m so fit .rest e l n) }
+
+  pub tried-back : (t : List ℤ) (x y : ℤ) → Tried ch k (movedOf a m d) d t → x ≡ numberAt ch a (giverOf m) → natAbs x ≤ LARGEST → y ≡ numberAt ch a (takerOf m) → natAbs y ≤ LARGEST
+      → Tried ch k (movedOf a m d) d (set (set t (CELLS + giverOf m * COMPONENTS + componentOf m) x) (takerOf m * COMPONENTS + componentOf m) y)
+  tried-back t x y kt e p f q =
+      put-tried ch k (movedOf a m d) d (set t (CELLS + giverOf m * COMPONENTS + componentOf m) x)
+      (put-tried ch k (movedOf a m d) d t kt (CELLS + giverOf m * COMPONENTS + componentOf m) (omega (arith, low)) x (giver-back x e, p))
+      (takerOf m * COMPONENTS + componentOf m)
+      (omega (arith, low))
+      y
+      (taker-back y f, q)
 
 -- forgetting a row, component by component
 abbrev pub Going : List ℤ → ℕ → List ℤ → ℕ → Type 0

@@ -1,4 +1,5 @@
 // The search for a split whose partial numbers agree. No public function has a `requires`.
+mod balance;
 mod moves;
 mod rounds;
 mod state;

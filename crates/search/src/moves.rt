@@ -1,94 +1,36 @@
-// Moves: the imbalance, which moves there are, what one does, and the first that lowers the imbalance.
+// Moves: which there are, what one does, and the first that lowers the imbalance.
 ghost use mathlib.Core.Path.{_≡_};
 ghost use mathlib.Core.Bool.{true};
-ghost use Prim.Native.Nat.{ℕ, _+_, _*_, _-_, _<_, _≤_};
-ghost use lib.IntN.{natAbs};
-ghost use Rattle.ternary.specs.WorkingRule.{LARGEST};
-ghost use Rattle.split.specs.Fold.{sumTo};
-ghost use Rattle.split.specs.Split.{SYSTEMS, cellOf, numberAt, Chosen, Sound};
-ghost use Rattle.split.specs.Move.{MOVES, squareOf, imbalanceOf, componentOf, giverOf, takerOf, movedOf, betweenOf, affordsOf, lowersOf, canOf, firstOf};
+ghost use Prim.Native.Nat.{ℕ, _+_, _*_, _-_, _%_, _<_, _≤_};
+ghost use Rattle.split.specs.Split.{SYSTEMS, cellOf, numberAt, Sound};
+ghost use Rattle.split.specs.Move.{MOVES, componentOf, giverOf, takerOf, movedOf};
+ghost use Rattle.split.specs.Move.{imbalanceOf, affordsOf, lowersOf, canOf, firstOf};
 ghost use Rattle.split.specs.Tests.{Fit};
-ghost use Rattle.rows.specs.Rows.{listed, Small};
+ghost use Rattle.rows.specs.Rows.{Small};
 ghost use Rattle.rows.specs.Carried.{Carried, Held};
 ghost use Rattle.search.specs.Tried.{Tried};
+ghost use Rattle.search.specs.Balance.{Totalled};
+ghost use Rattle.search.specs.Scan.{givenOf, givesOf, takesOf, Past, Scanned};
+use super::balance::Totals;
+use super::balance::imbalance;
+use super::balance::mark;
+use super::balance::replaced;
+use super::balance::total;
 use super::state::parts;
-use super::state::size;
 use super::tried::TRIES;
-use super::tried::number_tried;
+use super::tried::number_less;
+use super::tried::number_more;
 use split::CELLS;
 use systems::COMPONENTS;
 use systems::SYSTEMS;
 use turn::MOVES;
 
 // The pairs of a giver and a taker.
-const PAIRS: usize = SYSTEMS * SYSTEMS;
+pub(crate) const PAIRS: usize = SYSTEMS * SYSTEMS;
 
-// A thousandth of a methane number, in units.
-const THOUSANDTH: i64 = 10000;
-
-// The square of the difference of two numbers cut to thousandths.
-fn square(x: i64, y: i64) -> u64
-    requires { ⌜ (natAbs x ≤ LARGEST) × (natAbs y ≤ LARGEST) ⌝ }
-    ensures { λ r. ⌜ (r ≡ squareOf x y) × (r ≤ 160000000000000000) ⌝ }
-{
-    let d = size(x / THOUSANDTH - y / THOUSANDTH);
-    d * d
-}
-
-// The squares of number i with those before it, added.
-fn squares(v: &[i64; SYSTEMS], k: usize, i: usize) -> u64
-    requires { ⌜ Small (now v) k × (i < k) ⌝ }
-    ensures { λ r. ⌜ (r ≡ sumTo (λ j. squareOf (listed (now (v .entry)) i) (listed (now (v .entry)) j)) i) × (r ≤ 160000000000000000 * i) ⌝ }
-{
-    let mut acc: u64 = 0;
-    let mut j = 0;
-    while j < i {
-        acc += square(v[i], v[j]);
-        j += 1;
-    }
-    acc
-}
-
-// The imbalance of k partial numbers.
-pub(crate) fn imbalance(v: &[i64; SYSTEMS], k: usize) -> u64
-    requires { ⌜ Small (now v) k ⌝ }
-    ensures { λ r. ⌜ r ≡ imbalanceOf (listed (now (v .entry))) k ⌝ }
-{
-    let mut acc: u64 = 0;
-    let mut i = 0;
-    while i < k {
-        acc += squares(v, k, i);
-        i += 1;
-    }
-    acc
-}
-
-// Whether move m is between two chosen systems that differ and contain its component.
-fn between(ch: &[u8; SYSTEMS], k: usize, m: usize) -> bool
-    requires { ⌜ Chosen (now ch) k ⌝ }
-    ensures { λ r. ⌜ r ≡ betweenOf (now (ch .entry)) k m ⌝ }
-{
-    let f = m / SYSTEMS % SYSTEMS;
-    let t = m % SYSTEMS;
-    let c = m / PAIRS;
-    if k <= f {
-        return false;
-    }
-    if k <= t {
-        return false;
-    }
-    if f == t {
-        return false;
-    }
-    if !systems::has(ch[f], c) {
-        return false;
-    }
-    systems::has(ch[t], c)
-}
-
-// Whether the giver has the stride d, and does not end empty.
+// Whether move m's giver has the stride d, and does not end empty.
 fn affords(ch: &[u8; SYSTEMS], k: usize, a: &[u32; CELLS], d: u32, m: usize) -> bool
-    requires { ⌜ Sound (now ch) k (now a) × (m < MOVES) × (betweenOf (now ch) k m ≡ true) ⌝ }
+    requires { ⌜ Sound (now ch) k (now a) × (m < MOVES) × (giverOf m < k) ⌝ }
     ensures { λ r. ⌜ r ≡ affordsOf (now (ch .entry)) (now (a .entry)) d m ⌝ }
 {
     let f = m / SYSTEMS % SYSTEMS;
@@ -100,9 +42,36 @@ fn affords(ch: &[u8; SYSTEMS], k: usize, a: &[u32; CELLS], d: u32, m: usize) -> 
     d < parts(ch, k, a, f)
 }
 
+// Whether move m's giver is a row that contains the component, and affords the stride d.
+fn gives(ch: &[u8; SYSTEMS], k: usize, a: &[u32; CELLS], d: u32, m: usize) -> bool
+    requires { ⌜ Sound (now ch) k (now a) × (m < MOVES) ⌝ }
+    ensures { λ r. ⌜ r ≡ givesOf (now (ch .entry)) k (now (a .entry)) d m ⌝ }
+{
+    let f = m / SYSTEMS % SYSTEMS;
+    if k <= f {
+        return false;
+    }
+    if !systems::has(ch[f], m / PAIRS) {
+        return false;
+    }
+    affords(ch, k, a, d, m)
+}
+
+// Whether the taker t of component c is not the giver f, and contains the component.
+fn takes(ch: &[u8; SYSTEMS], c: usize, f: usize, t: usize) -> bool
+    requires { ⌜ t < SYSTEMS ⌝ }
+    ensures { λ r. ⌜ r ≡ takesOf (now (ch .entry)) c f t ⌝ }
+{
+    if f == t {
+        return false;
+    }
+    systems::has(ch[t], c)
+}
+
 // Move m of the stride d, made.
 pub(crate) fn moved(a: &mut [u32; CELLS], m: usize, d: u32)
-    requires { ⌜ (m < MOVES) × (d ≤ cellOf (now a) (giverOf m) (componentOf m)) × (cellOf (now a) (takerOf m) (componentOf m) + d ≤ 1000000) ⌝ }
+    requires { ⌜ (m < MOVES) × (d ≤ cellOf (now a) (giverOf m) (componentOf m))
+        × (cellOf (now a) (takerOf m) (componentOf m) + d ≤ 1000000) ⌝ }
     ensures { λ _. ⌜ now (a .exit) ≡ movedOf (now (a .entry)) m d ⌝ }
 {
     let c = m / PAIRS;
@@ -114,88 +83,35 @@ pub(crate) fn moved(a: &mut [u32; CELLS], m: usize, d: u32)
     a[j] = y + d;
 }
 
-// The partial numbers after move m: those of its two rows are taken from the tried ones, the others carried.
-pub(crate) fn renumbered(
+// The partial numbers after move m: those of its two rows are the tried ones, the others stay.
+pub(crate) fn renumber(
     ch: &[u8; SYSTEMS],
     k: usize,
     a: &[u32; CELLS],
-    v: &[i64; SYSTEMS],
+    v: &mut [i64; SYSTEMS],
     tried: &mut [i64; TRIES],
     d: u32,
     m: usize,
-) -> [i64; SYSTEMS]
-    requires { ⌜ Held (now ch) k (now a) (now v) × Fit (now ch) k (now a) d m × Tried (now ch) k (now a) d (now tried) ⌝ }
-    ensures { λ r. ⌜ Carried (now (ch .entry)) k (movedOf (now (a .entry)) m d) r × Small r k × Tried (now (ch .entry)) k (now (a .entry)) d (now (tried .exit)) ⌝ }
+)
+    requires { ⌜ Held (now ch) k (now a) (now v) × Fit (now ch) k (now a) d m
+        × Tried (now ch) k (now a) d (now tried) ⌝ }
+    ensures { λ _. ⌜ Carried (now (ch .entry)) k (movedOf (now (a .entry)) m d) (now (v .exit))
+        × Small (now (v .exit)) k × Tried (now (ch .entry)) k (now (a .entry)) d (now (tried .exit)) ⌝ }
 {
     let f = m / SYSTEMS % SYSTEMS;
     let t = m % SYSTEMS;
     let c = m / PAIRS;
-    let mut w = *v;
-    w[f] = number_tried(ch, k, a, tried, d, f * COMPONENTS + c);
-    w[t] = number_tried(ch, k, a, tried, d, CELLS + t * COMPONENTS + c);
-    w
-}
-
-// Whether move m lowers the imbalance, which was `was`.
-fn lowers(
-    ch: &[u8; SYSTEMS],
-    k: usize,
-    a: &[u32; CELLS],
-    v: &[i64; SYSTEMS],
-    tried: &mut [i64; TRIES],
-    d: u32,
-    m: usize,
-    was: u64,
-) -> bool
-    requires { ⌜ Held (now ch) k (now a) (now v) × Fit (now ch) k (now a) d m × (was ≡ imbalanceOf (numberAt (now ch) (now a)) k) × Tried (now ch) k (now a) d (now tried) ⌝ }
-    ensures { λ r. ⌜ (r ≡ lowersOf (now (ch .entry)) k (now (a .entry)) d m) × Tried (now (ch .entry)) k (now (a .entry)) d (now (tried .exit)) ⌝ }
-{
-    let w = renumbered(ch, k, a, v, tried, d, m);
-    imbalance(&w, k) < was
-}
-
-// Whether move m can be made and lowers the imbalance.
-fn can(
-    ch: &[u8; SYSTEMS],
-    k: usize,
-    a: &[u32; CELLS],
-    v: &[i64; SYSTEMS],
-    tried: &mut [i64; TRIES],
-    d: u32,
-    m: usize,
-    was: u64,
-) -> bool
-    requires { ⌜ Held (now ch) k (now a) (now v) × (m < MOVES) × (was ≡ imbalanceOf (numberAt (now ch) (now a)) k) × Tried (now ch) k (now a) d (now tried) ⌝ }
-    ensures { λ r. ⌜ (r ≡ canOf (now (ch .entry)) k (now (a .entry)) d m) × Tried (now (ch .entry)) k (now (a .entry)) d (now (tried .exit)) ⌝ }
-{
-    if !between(ch, k, m) {
-        return false;
-    }
-    if !affords(ch, k, a, d, m) {
-        return false;
-    }
-    lowers(ch, k, a, v, tried, d, m, was)
-}
-
-// The next number from n on whose taker is a row.
-fn next_taker(k: usize, n: usize) -> usize
-    requires { ⌜ n ≤ MOVES ⌝ }
-    ensures { λ r. ⌜ (n ≤ r) × (r ≤ MOVES) × ((s : ℕ) → n ≤ s → s < r → k ≤ takerOf s) ⌝ }
-{
-    if n == MOVES {
-        return n;
-    }
-    let t = n % SYSTEMS;
-    if t < k {
-        return n;
-    }
-    n - t + SYSTEMS
+    let x = number_less(ch, k, a, tried, d, f, c);
+    let y = number_more(ch, k, a, tried, d, t, c);
+    v[f] = x;
+    v[t] = y;
 }
 
 // The next number from n on whose giver is a row.
 fn next_giver(k: usize, n: usize) -> usize
     requires { ⌜ n ≤ MOVES ⌝ }
-    ensures { λ r. ⌜ (n ≤ r) × (r ≤ MOVES) × ((s : ℕ) → n ≤ s → s < r → k ≤ giverOf s) ⌝ }
+    ensures { λ r. ⌜ (n ≤ r) × (r ≤ MOVES) × (n % SYSTEMS ≡ 0 → r % SYSTEMS ≡ 0)
+        × ((s : ℕ) → n ≤ s → s < r → k ≤ giverOf s) ⌝ }
 {
     if n == MOVES {
         return n;
@@ -205,6 +121,144 @@ fn next_giver(k: usize, n: usize) -> usize
         return n;
     }
     n - n % PAIRS + PAIRS
+}
+
+// The totals where move m's giver has given.
+fn given(
+    ch: &[u8; SYSTEMS],
+    k: usize,
+    a: &[u32; CELLS],
+    v: &[i64; SYSTEMS],
+    tried: &mut [i64; TRIES],
+    d: u32,
+    m: usize,
+    w: Totals,
+) -> Totals
+    requires { ⌜ Held (now ch) k (now a) (now v) × (m < MOVES) × (givesOf (now ch) k (now a) d m ≡ true)
+        × Tried (now ch) k (now a) d (now tried) × Totalled (numberAt (now ch) (now a)) k (w .sum) (w .squares) ⌝ }
+    ensures { λ r.
+        ⌜ Totalled (givenOf (now (ch .entry)) (now (a .entry)) d (giverOf m) (componentOf m)) k (r .sum) (r .squares)
+        × Tried (now (ch .entry)) k (now (a .entry)) d (now (tried .exit)) ⌝ }
+{
+    let f = m / SYSTEMS % SYSTEMS;
+    let x = number_less(ch, k, a, tried, d, f, m / PAIRS);
+    replaced(w, mark(v[f]), mark(x))
+}
+
+// Whether move m, of component c to row t, lowers the imbalance, which was `was`. w are the totals where its giver has
+// given.
+fn lowers(
+    ch: &[u8; SYSTEMS],
+    k: usize,
+    a: &[u32; CELLS],
+    v: &[i64; SYSTEMS],
+    tried: &mut [i64; TRIES],
+    d: u32,
+    m: usize,
+    c: usize,
+    t: usize,
+    w: Totals,
+    was: u64,
+) -> bool
+    requires { ⌜ Held (now ch) k (now a) (now v) × Fit (now ch) k (now a) d m
+        × Tried (now ch) k (now a) d (now tried)
+        × Totalled (givenOf (now ch) (now a) d (giverOf m) (componentOf m)) k (w .sum) (w .squares)
+        × (was ≡ imbalanceOf (numberAt (now ch) (now a)) k) × (c ≡ componentOf m) × (t ≡ takerOf m) ⌝ }
+    ensures { λ r. ⌜ (r ≡ lowersOf (now (ch .entry)) k (now (a .entry)) d m)
+        × Tried (now (ch .entry)) k (now (a .entry)) d (now (tried .exit)) ⌝ }
+{
+    let y = number_more(ch, k, a, tried, d, t, c);
+    let x = mark(v[t]);
+    imbalance(replaced(w, x, mark(y)), k) < was
+}
+
+// Whether move m, of component c from row f that gives to row t, can be made and lowers the imbalance.
+fn can(
+    ch: &[u8; SYSTEMS],
+    k: usize,
+    a: &[u32; CELLS],
+    v: &[i64; SYSTEMS],
+    tried: &mut [i64; TRIES],
+    d: u32,
+    m: usize,
+    c: usize,
+    f: usize,
+    t: usize,
+    w: Totals,
+    was: u64,
+) -> bool
+    requires { ⌜ Held (now ch) k (now a) (now v) × (m < MOVES) × (takerOf m < k)
+        × (givesOf (now ch) k (now a) d m ≡ true) × Tried (now ch) k (now a) d (now tried)
+        × Totalled (givenOf (now ch) (now a) d (giverOf m) (componentOf m)) k (w .sum) (w .squares)
+        × (was ≡ imbalanceOf (numberAt (now ch) (now a)) k) × (c ≡ componentOf m) × (f ≡ giverOf m)
+        × (t ≡ takerOf m) ⌝ }
+    ensures { λ r. ⌜ (r ≡ canOf (now (ch .entry)) k (now (a .entry)) d m)
+        × Tried (now (ch .entry)) k (now (a .entry)) d (now (tried .exit)) ⌝ }
+{
+    if !takes(ch, c, f, t) {
+        return false;
+    }
+    lowers(ch, k, a, v, tried, d, m, c, t, w, was)
+}
+
+// Of the moves from n on with n's component c and giver f, the first that can be made and lowers the imbalance, or the
+// number after them.
+fn first_taker(
+    ch: &[u8; SYSTEMS],
+    k: usize,
+    a: &[u32; CELLS],
+    v: &[i64; SYSTEMS],
+    tried: &mut [i64; TRIES],
+    d: u32,
+    n: usize,
+    c: usize,
+    f: usize,
+    w: Totals,
+    was: u64,
+) -> usize
+    requires { ⌜ Held (now ch) k (now a) (now v) × (n < MOVES) × (n % SYSTEMS ≡ 0)
+        × (givesOf (now ch) k (now a) d n ≡ true) × Past (now ch) k (now a) d n
+        × Tried (now ch) k (now a) d (now tried)
+        × Totalled (givenOf (now ch) (now a) d (giverOf n) (componentOf n)) k (w .sum) (w .squares)
+        × (was ≡ imbalanceOf (numberAt (now ch) (now a)) k) × (c ≡ componentOf n) × (f ≡ giverOf n) ⌝ }
+    ensures { λ r. ⌜ Scanned (now (ch .entry)) k (now (a .entry)) d n r
+        × Tried (now (ch .entry)) k (now (a .entry)) d (now (tried .exit)) ⌝ }
+{
+    let mut t = 0;
+    while t < k {
+        if can(ch, k, a, v, tried, d, n + t, c, f, t, w, was) {
+            return n + t;
+        }
+        t += 1;
+    }
+    n + SYSTEMS
+}
+
+// The same of the moves from n on, whether n's giver gives or not.
+fn first_from(
+    ch: &[u8; SYSTEMS],
+    k: usize,
+    a: &[u32; CELLS],
+    v: &[i64; SYSTEMS],
+    tried: &mut [i64; TRIES],
+    d: u32,
+    n: usize,
+    all: Totals,
+    was: u64,
+) -> usize
+    requires { ⌜ Held (now ch) k (now a) (now v) × (n < MOVES) × (n % SYSTEMS ≡ 0) × Past (now ch) k (now a) d n
+        × Tried (now ch) k (now a) d (now tried) × Totalled (numberAt (now ch) (now a)) k (all .sum) (all .squares)
+        × (was ≡ imbalanceOf (numberAt (now ch) (now a)) k) ⌝ }
+    ensures { λ r. ⌜ Scanned (now (ch .entry)) k (now (a .entry)) d n r
+        × Tried (now (ch .entry)) k (now (a .entry)) d (now (tried .exit)) ⌝ }
+{
+    if !gives(ch, k, a, d, n) {
+        return n + SYSTEMS;
+    }
+    let c = n / PAIRS;
+    let f = n / SYSTEMS % SYSTEMS;
+    let w = given(ch, k, a, v, tried, d, n, all);
+    first_taker(ch, k, a, v, tried, d, n, c, f, w, was)
 }
 
 // The first move that can be made and lowers the imbalance, or MOVES.
@@ -217,16 +271,19 @@ pub(crate) fn first_move(
     d: u32,
 ) -> usize
     requires { ⌜ Held (now ch) k (now a) (now v) × Tried (now ch) k (now a) d (now tried) ⌝ }
-    ensures { λ r. ⌜ (r ≡ firstOf (now (ch .entry)) k (now (a .entry)) d) × Tried (now (ch .entry)) k (now (a .entry)) d (now (tried .exit)) ⌝ }
+    ensures { λ r. ⌜ (r ≡ firstOf (now (ch .entry)) k (now (a .entry)) d)
+        × Tried (now (ch .entry)) k (now (a .entry)) d (now (tried .exit)) ⌝ }
 {
-    let was = imbalance(v, k);
+    let all = total(v, k);
+    let was = imbalance(all, k);
     let mut best = MOVES;
-    let mut m = 0;
-    while m < best {
-        if can(ch, k, a, v, tried, d, m, was) {
+    let mut n = 0;
+    while n < best {
+        let m = first_from(ch, k, a, v, tried, d, n, all, was);
+        if m < n + SYSTEMS {
             best = m;
         }
-        m = next_giver(k, next_taker(k, m + 1));
+        n = next_giver(k, n + SYSTEMS);
     }
     best
 }

@@ -6,9 +6,10 @@ ghost use Rattle.split.specs.Tests.{Fit};
 ghost use Rattle.split.specs.Search.{LEVEL, turnOf, found, searchOf};
 ghost use Rattle.rows.specs.Carried.{Held};
 ghost use Rattle.search.specs.Tried.{Tried};
+use super::moves::PAIRS;
 use super::moves::first_move;
 use super::moves::moved;
-use super::moves::renumbered;
+use super::moves::renumber;
 use super::state::spread;
 use super::tried::TRIES;
 use super::tried::forget;
@@ -17,6 +18,7 @@ use split::CELLS;
 use split::Found;
 use split::Search;
 use split::Turn;
+use systems::COMPONENTS;
 use systems::SYSTEMS;
 use turn::Before;
 
@@ -55,7 +57,8 @@ fn next_turn(
     }
 }
 
-// Move m of the stride d made: the cells after it, with their partial numbers and what is still known of tries.
+// Move m of the stride d made: the cells after it, with their partial numbers and what is known of tries: those of the
+// other rows as before, and those that would take the move back.
 fn make_move(
     ch: &[u8; SYSTEMS],
     k: usize,
@@ -65,12 +68,22 @@ fn make_move(
     d: u32,
     m: usize,
 )
-    requires { ⌜ Held (now ch) k (now a) (now v) × Fit (now ch) k (now a) d m × Tried (now ch) k (now a) d (now tried) ⌝ }
-    ensures { λ _. ⌜ (now (a .exit) ≡ movedOf (now (a .entry)) m d) × Held (now (ch .entry)) k (now (a .exit)) (now (v .exit)) × Tried (now (ch .entry)) k (now (a .exit)) d (now (tried .exit)) ⌝ }
+    requires { ⌜ Held (now ch) k (now a) (now v) × Fit (now ch) k (now a) d m
+        × Tried (now ch) k (now a) d (now tried) ⌝ }
+    ensures { λ _. ⌜ (now (a .exit) ≡ movedOf (now (a .entry)) m d)
+        × Held (now (ch .entry)) k (now (a .exit)) (now (v .exit))
+        × Tried (now (ch .entry)) k (now (a .exit)) d (now (tried .exit)) ⌝ }
 {
-    *v = renumbered(ch, k, a, v, tried, d, m);
-    forget(tried, m / SYSTEMS % SYSTEMS);
-    forget(tried, m % SYSTEMS);
+    let f = m / SYSTEMS % SYSTEMS;
+    let t = m % SYSTEMS;
+    let c = m / PAIRS;
+    let x = v[f];
+    let y = v[t];
+    renumber(ch, k, a, v, tried, d, m);
+    forget(tried, f);
+    forget(tried, t);
+    tried[CELLS + f * COMPONENTS + c] = x;
+    tried[t * COMPONENTS + c] = y;
     moved(a, m, d);
 }
 

@@ -12,14 +12,6 @@ use split::CELLS;
 use systems::COMPONENTS;
 use systems::SYSTEMS;
 
-// The magnitude of a number.
-pub(crate) fn size(d: i64) -> u64
-    requires { ⌜ natAbs d ≤ 1000000000000000 ⌝ }
-    ensures { λ r. ⌜ r ≡ natAbs d ⌝ }
-{
-    if d < 0 { (0 - d) as u64 } else { d as u64 }
-}
-
 // The spread of k numbers: the greatest less the least.
 pub(crate) fn spread(v: &[i64; SYSTEMS], k: usize) -> u64
     requires { ⌜ Small (now v) k × (0 < k) ⌝ }

@@ -1,14 +1,14 @@
 // The partial numbers that moves of one stride lead to, each worked out when it is first asked for and kept while its row stays.
 ghost use mathlib.Core.Path.{_≡_};
-ghost use Prim.Native.Nat.{_+_, _*_, _-_, _/_, _%_, _<_, _≤_};
+ghost use Prim.Native.Nat.{_+_, _*_, _<_, _≤_};
 ghost use lib.IntN.{natAbs};
-ghost use lib.ListN.{getD, length, replicate};
+ghost use lib.ListN.{length, replicate};
 ghost use Rattle.ternary.specs.WorkingRule.{LARGEST};
-ghost use Rattle.systems.specs.Systems.{memberOf, Candidate};
+ghost use Rattle.systems.specs.Systems.{COMPONENTS, memberOf, Candidate};
 ghost use Rattle.split.specs.Split.{SYSTEMS, CELLS};
 ghost use Rattle.split.specs.Steps.{insteadOf, numberWith};
 ghost use Rattle.rows.specs.Carried.{Workable};
-ghost use Rattle.search.specs.Tried.{TRIES, UNKNOWN, triedOf, wantedOf, Triable, Tried, Forgot};
+ghost use Rattle.search.specs.Tried.{TRIES, UNKNOWN, wantedOf, Triable, Tried, Forgot};
 use super::state::number;
 use split::CELLS;
 use systems::COMPONENTS;
@@ -47,44 +47,53 @@ fn number_with(ch: &[u8; SYSTEMS], a: &[u32; CELLS], s: usize, c: usize, n: u32)
     )
 }
 
-// The amount that try i leads to: its cell less the stride d, or with d more.
-fn amount_tried(a: &[u32; CELLS], d: u32, i: usize) -> u32
-    requires { ⌜ (i < TRIES) × (i < CELLS → d ≤ getD (now a) i 0) × (CELLS ≤ i → getD (now a) (i - CELLS) 0 + d ≤ 1000000) ⌝ }
-    ensures { λ r. ⌜ r ≡ triedOf (now (a .entry)) d i ⌝ }
-{
-    if i < CELLS {
-        return a[i] - d;
-    }
-    a[i - CELLS] + d
-}
-
-// The number that try i leads to, worked out.
-fn work_out(ch: &[u8; SYSTEMS], k: usize, a: &[u32; CELLS], d: u32, i: usize) -> i64
-    requires { ⌜ Triable (now ch) k (now a) d i ⌝ }
-    ensures { λ r. ⌜ (r ≡ wantedOf (now (ch .entry)) (now (a .entry)) d i) × (natAbs r ≤ LARGEST) ⌝ }
-{
-    let n = amount_tried(a, d, i);
-    number_with(ch, a, i / COMPONENTS % SYSTEMS, i % COMPONENTS, n)
-}
-
-// The number that try i leads to: worked out and kept where it is not known.
-pub(crate) fn number_tried(
+// The number that row s with d of component c less leads to: worked out and kept where it is not known.
+pub(crate) fn number_less(
     ch: &[u8; SYSTEMS],
     k: usize,
     a: &[u32; CELLS],
     tried: &mut [i64; TRIES],
     d: u32,
-    i: usize,
+    s: usize,
+    c: usize,
 ) -> i64
-    requires { ⌜ Triable (now ch) k (now a) d i × Tried (now ch) k (now a) d (now tried) ⌝ }
-    ensures { λ r. ⌜ (r ≡ wantedOf (now (ch .entry)) (now (a .entry)) d i) × (natAbs r ≤ LARGEST) × Tried (now (ch .entry)) k (now (a .entry)) d (now (tried .exit)) ⌝ }
+    requires { ⌜ (s < SYSTEMS) × (c < COMPONENTS) × Triable (now ch) k (now a) d (s * COMPONENTS + c)
+        × Tried (now ch) k (now a) d (now tried) ⌝ }
+    ensures { λ r. ⌜ (r ≡ wantedOf (now (ch .entry)) (now (a .entry)) d (s * COMPONENTS + c)) × (natAbs r ≤ LARGEST)
+        × Tried (now (ch .entry)) k (now (a .entry)) d (now (tried .exit)) ⌝ }
 {
+    let i = s * COMPONENTS + c;
     let x = tried[i];
     if x != UNKNOWN {
         return x;
     }
-    let y = work_out(ch, k, a, d, i);
+    let y = number_with(ch, a, s, c, a[i] - d);
     tried[i] = y;
+    y
+}
+
+// The number that row s with d of component c more leads to: worked out and kept where it is not known.
+pub(crate) fn number_more(
+    ch: &[u8; SYSTEMS],
+    k: usize,
+    a: &[u32; CELLS],
+    tried: &mut [i64; TRIES],
+    d: u32,
+    s: usize,
+    c: usize,
+) -> i64
+    requires { ⌜ (s < SYSTEMS) × (c < COMPONENTS) × Triable (now ch) k (now a) d (CELLS + s * COMPONENTS + c)
+        × Tried (now ch) k (now a) d (now tried) ⌝ }
+    ensures { λ r. ⌜ (r ≡ wantedOf (now (ch .entry)) (now (a .entry)) d (CELLS + s * COMPONENTS + c))
+        × (natAbs r ≤ LARGEST) × Tried (now (ch .entry)) k (now (a .entry)) d (now (tried .exit)) ⌝ }
+{
+    let i = s * COMPONENTS + c;
+    let x = tried[CELLS + s * COMPONENTS + c];
+    if x != UNKNOWN {
+        return x;
+    }
+    let y = number_with(ch, a, s, c, a[i] + d);
+    tried[CELLS + s * COMPONENTS + c] = y;
     y
 }
 

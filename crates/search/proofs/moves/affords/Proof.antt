@@ -1,7 +1,7 @@
 -- `search::moves::affords` meets its contract. Assumes nothing.
 use Prim.Native.Nat.{_-_}
 use borrow.Author.Needs.{needs}
-use Rattle.split.specs.Tests.{not-had, affords-is, between-true}
+use Rattle.split.specs.Tests.{not-had, affords-is}
 use Rattle.search.proofs.moves.affords.Statement.{statement}
 use Rattle.search.proofs.moves.affords.Tie as tie
 
@@ -21,7 +21,7 @@ returns : tie.Need-returns
 returns c = not-had _ (c .before .before .args .k) _ _ _ (c .if1 .taken)
 
 parts-requires : tie.Need-parts-requires
-parts-requires c κs = (c .before .before .pre .0 .stock, between-true _ _ _ (c .before .before .pre .2) .from)
+parts-requires c κs = (c .before .before .pre .0 .stock, c .before .before .pre .2)
 
 returns-2 : tie.Need-returns-2
 returns-2 c = affords-is _ (c .before .before .before .args .k) _ _ _ _ (c .before .if1 .left) (c .parts .ensures)

@@ -1,0 +1,244 @@
+-- The totals of a split's numbers, where a move's giver has given, and where its taker has taken too.
+use Prim.Native.Nat.{ℕ, zero, suc, _+_, _*_, _-_, _≤_, _<_}
+use mathlib.Core.Path.{_≡_, refl, sym, ap, ap₂, _∙_}
+use mathlib.Core.Bool.{Bool, true, false}
+use mathlib.Core.List.{List}
+use native.Mathlib.Omega.{arith}
+use lib.Dec.{eqb, ltb}
+use lib.IntN.{ℤ, natAbs}
+use mir.Syntax.{w64}
+use mir.Val.{toZ, ofZ}
+use borrow.Author.Tests.{eq-eqb, ne-eqb, eqb-true, eqb-false}
+use Rattle.ternary.specs.WorkingRule.{LARGEST}
+use Rattle.ternary.specs.Partial.{partial-small}
+use Rattle.systems.specs.Systems.{COMPONENTS, memberOf, hasOf}
+use Rattle.systems.specs.Members.{has-cases}
+use Rattle.split.specs.Folds.{sum-same}
+use Rattle.split.specs.Split.{SYSTEMS, CELLS, cellOf, systemOf, partsOf, numberAt, Sound}
+use Rattle.split.specs.Move.{MOVES, imbalanceOf, componentOf, giverOf, takerOf, movedOf, lowersOf}
+use Rattle.split.specs.Members.{Three, three}
+use Rattle.split.specs.Rows.{parts-few}
+use Rattle.split.specs.Tests.{Fit, Affords, affords-true}
+use Rattle.split.specs.Steps.{insteadOf, numberWith, bt, rest-same, giver-changed, taker-changed}
+use Rattle.rows.specs.Rows.{listed}
+use Rattle.rows.specs.Carried.{Held, Workable, partsWith}
+use Rattle.rows.specs.Machine.{at-back}
+use Rattle.integer.specs.Bits.{back}
+use Rattle.search.specs.Tried.{rowOf, columnIn, wantedOf, Triable}
+use Rattle.search.specs.Balance.{markOf, Totalled}
+use Rattle.search.specs.Scan.{givenOf, givesOf}
+use Rattle.search.proofs.Squares.{mark-le, sum-few, squares-few, under, imbalance-is, has-mark, put-total}
+use Rattle.search.proofs.Givers.{Gives, gives-true}
+use Rattle.search.proofs.Trials.{with-is}
+use Rattle.search.proofs.Tries.{less-is, taker-triable, taker-wanted}
+
+-- totals of the same numbers, and with one number replaced
+pub total-same : (v w : ℕ → ℤ) (k sum squares : ℕ) → ((s : ℕ) → s < k → v s ≡ w s) → Totalled v k sum squares → Totalled w k sum squares
+total-same v w k sum squares h t = record {
+  added = t .added ∙ sum-same (λ s. markOf (v s)) (λ s. markOf (w s)) k (λ s l. ap markOf (h s l));
+  squared = t .squared ∙ sum-same (λ s. markOf (v s) * markOf (v s)) (λ s. markOf (w s) * markOf (w s)) k (λ s l. ap (λ z. markOf z * markOf z) (h s l));
+}
+
+module _ (v : ℕ → ℤ) (k sum squares : ℕ) (most : k ≤ 8) (small : (s : ℕ) → natAbs (v s) ≤ LARGEST) (t : Totalled v k sum squares) (j : ℕ) (l : j < k) (p q : ℕ) (e : p ≡ markOf (v j)) where
+  pub may-replace : q ≤ 400000000 → (p ≤ sum) × (p * p ≤ squares) × (p ≤ 400000000) × (q ≤ 400000000) × (sum ≤ 3200000000) × (squares ≤ 1280000000000000000)
+  may-replace h =
+      let w = has-mark v k sum squares most (λ s _. small s) t j l in
+      rw e (w .0, w .1, mark-le (v j) (small j), h, sum-few v k sum squares most (λ s _. small s) t, squares-few v k sum squares most (λ s _. small s) t)
+
+  pub replaced-is : (w : ℕ → ℤ) → ((s : ℕ) → s < k → (s ≡ j → ⊥) → v s ≡ w s) → q ≡ markOf (w j) → (x y : ℕ) → x ≡ sum - p + q → y ≡ squares - p * p + q * q → Totalled w k x y
+  replaced-is w h f x y a b = rw (a, b, e, f) (put-total v k sum squares most (λ s _. small s) t w j l h)
+
+-- the numbers are small
+pub number-small : (ch a : List ℕ) (s : ℕ) → natAbs (numberAt ch a s) ≤ LARGEST
+unfolding numberAt
+number-small ch a s = partial-small _ _ _ _
+
+with-small : (ch a : List ℕ) (s c n : ℕ) → natAbs (numberWith ch a s c n) ≤ LARGEST
+unfolding numberWith
+with-small ch a s c n = partial-small _ _ _ _
+
+module _ (ch a : List ℕ) (d f c : ℕ) where
+  given-here : givenOf ch a d f c f ≡ numberWith ch a f c (cellOf a f c - d)
+  unfolding givenOf
+  given-here = rw (eq-eqb f f refl, givenOf)
+
+  given-there : (s : ℕ) → (s ≡ f → ⊥) → givenOf ch a d f c s ≡ numberAt ch a s
+  unfolding givenOf
+  given-there s n = rw (ne-eqb s f n, givenOf)
+
+  pub given-small : (s : ℕ) → natAbs (givenOf ch a d f c s) ≤ LARGEST
+  given-small s = go (eqb s f) refl
+    where
+      go : (b : Bool) → eqb s f ≡ b → natAbs (givenOf ch a d f c s) ≤ LARGEST
+      go true e =
+          let q : s ≡ f = eqb-true s f e in
+          rw (q, given-here) (with-small ch a f c (cellOf a f c - d))
+      go false e = rw (given-there s (eqb-false s f e)) (number-small ch a s)
+
+-- the giver's row can be worked out
+module _ (ch : List ℕ) (k : ℕ) (a : List ℕ) (s c d : ℕ) (so : Sound ch k a) (l : s < k) (has : hasOf (systemOf ch s) c ≡ true) (had : d ≤ cellOf a s c) where
+  less-parts : partsWith ch a s c (cellOf a s c - d) + d ≡ partsOf ch a s
+  unfolding partsOf
+  less-parts = has-cases (systemOf ch s) c (partsWith ch a s c (cellOf a s c - d) + d ≡ partsOf ch a s) has at
+    where
+      w : Three (memberOf (systemOf ch s) 0) (memberOf (systemOf ch s) 1) (memberOf (systemOf ch s) 2)
+      w = three (systemOf ch s) (so .stock .chosen .known s l)
+
+      here : (e : ℕ) → c ≡ e → insteadOf a s c (cellOf a s c - d) e + d ≡ cellOf a s e
+      here e z = rw (eq-eqb e c (sym z), ← z) (omega (arith, had))
+
+      there : (e : ℕ) → (e ≡ c → ⊥) → insteadOf a s c (cellOf a s c - d) e ≡ cellOf a s e
+      there e n = rw (ne-eqb e c n)
+
+      at : (j : ℕ) → j < 3 → c ≡ memberOf (systemOf ch s) j → partsWith ch a s c (cellOf a s c - d) + d ≡ partsOf ch a s
+      at zero h e = omega (arith, here (memberOf (systemOf ch s) 0) e, there (memberOf (systemOf ch s) 1) (λ z. w .ne10 (z ∙ e)), there (memberOf (systemOf ch s) 2) (λ z. w .ne20 (z ∙ e)))
+      at (suc zero) h e = omega (arith, here (memberOf (systemOf ch s) 1) e, there (memberOf (systemOf ch s) 0) (λ z. w .ne10 (sym (z ∙ e))), there (memberOf (systemOf ch s) 2) (λ z. w .ne21 (z ∙ e)))
+      at (suc (suc zero)) h e = omega (arith, here (memberOf (systemOf ch s) 2) e, there (memberOf (systemOf ch s) 0) (λ z. w .ne20 (sym (z ∙ e))), there (memberOf (systemOf ch s) 1) (λ z. w .ne21 (sym (z ∙ e))))
+      at (suc (suc (suc j))) h e = absurd (omega arith)
+
+  less-workable : d < partsOf ch a s → Workable ch a s c (cellOf a s c - d)
+  less-workable kept = record {
+    row = omega (arith, so .stock .chosen .most);
+    known = so .stock .chosen .known s l;
+    some = omega (arith, less-parts);
+    few = omega (arith, less-parts, parts-few ch k a s (so .stock) l);
+  }
+
+-- the place of a row's cell
+row-at : (f c : ℕ) → f < SYSTEMS → c < COMPONENTS → rowOf (f * COMPONENTS + c) ≡ f
+row-at f c h l = omega arith
+
+column-at : (f c : ℕ) → c < COMPONENTS → columnIn (f * COMPONENTS + c) ≡ c
+column-at f c l = omega arith
+
+module _ (ch : List ℕ) (k : ℕ) (a : List ℕ) (v : List ℤ) (held : Held ch k a v) where
+  most : k ≤ 8
+  most = held .sound .stock .chosen .most
+
+  pub row-is : (s : ℕ) → s < k → toZ w64 (ofZ w64 (listed v s)) ≡ numberAt ch a s
+  row-is s l = at-back v k s (held .small) l ∙ held .carried .are s l
+
+  pub first-total : (sum squares : ℕ) → Totalled (listed v) k sum squares → Totalled (numberAt ch a) k sum squares
+  first-total sum squares t = total-same (listed v) (numberAt ch a) k sum squares (held .carried .are) t
+
+  module _ (sum squares : ℕ) (t : Totalled (numberAt ch a) k sum squares) where
+    pub first-may : (k ≤ 8) × (sum ≤ 3200000000) × (squares ≤ 1280000000000000000) × (sum * sum ≤ k * squares)
+    first-may = (
+      most,
+      sum-few (numberAt ch a) k sum squares most (λ s _. number-small ch a s) t,
+      squares-few (numberAt ch a) k sum squares most (λ s _. number-small ch a s) t,
+      under (numberAt ch a) k sum squares most (λ s _. number-small ch a s) t,
+    )
+
+    pub first-imbalance : (r : ℕ) → r ≡ k * squares - sum * sum → r ≡ imbalanceOf (numberAt ch a) k
+    first-imbalance r e = e ∙ imbalance-is (numberAt ch a) k sum squares most (λ s _. number-small ch a s) t
+
+  module _ (d m : ℕ) where
+    -- the giver
+    module _ (h : m < MOVES) (g : givesOf ch k a d m ≡ true) where
+      gv : Gives ch k a d m
+      gv = gives-true ch k a d m g
+
+      af : Affords ch k m a d
+      af = affords-true ch k m a d (gv .affords)
+
+      low : componentOf m < COMPONENTS
+      low = omega (arith, h)
+
+      at-row : rowOf (giverOf m * COMPONENTS + componentOf m) ≡ giverOf m
+      at-row = row-at (giverOf m) (componentOf m) (omega arith) low
+
+      at-column : columnIn (giverOf m * COMPONENTS + componentOf m) ≡ componentOf m
+      at-column = column-at (giverOf m) (componentOf m) low
+
+      at-below : giverOf m * COMPONENTS + componentOf m < CELLS
+      at-below = omega (arith, low)
+
+      pub give-triable : Triable ch k a d (giverOf m * COMPONENTS + componentOf m)
+      give-triable = record {
+        below = omega (arith, at-below);
+        row = rw at-row (gv .from);
+        had = λ l. af .had;
+        room = λ l. absurd (omega (arith, at-below));
+        workable = rw (at-row, at-column, sym (less-is a d (giverOf m * COMPONENTS + componentOf m) at-below))
+            (less-workable ch k a (giverOf m) (componentOf m) d (held .sound) (gv .from) (gv .gives) (af .had) (af .kept));
+      }
+
+      give-wanted : wantedOf ch a d (giverOf m * COMPONENTS + componentOf m) ≡ numberWith ch a (giverOf m) (componentOf m) (cellOf a (giverOf m) (componentOf m) - d)
+      unfolding wantedOf
+      give-wanted = rw (at-row, at-column, sym (less-is a d (giverOf m * COMPONENTS + componentOf m) at-below))
+
+      pub give-worked : (x : ℤ) → (x ≡ wantedOf ch a d (giverOf m * COMPONENTS + componentOf m)) × (natAbs x ≤ LARGEST)
+          → (x ≡ numberWith ch a (giverOf m) (componentOf m) (cellOf a (giverOf m) (componentOf m) - d)) × (natAbs x ≤ LARGEST)
+      give-worked x p = (p .0 ∙ give-wanted, p .1)
+
+      pub giver-small : natAbs (toZ w64 (ofZ w64 (listed v (giverOf m)))) ≤ LARGEST
+      giver-small = rw (row-is (giverOf m) (gv .from)) (number-small ch a (giverOf m))
+
+      module _ (sum squares p q : ℕ) (t : Totalled (numberAt ch a) k sum squares) (e : p ≡ markOf (toZ w64 (ofZ w64 (listed v (giverOf m))))) where
+        mark-old : p ≡ markOf (numberAt ch a (giverOf m))
+        mark-old = e ∙ ap markOf (row-is (giverOf m) (gv .from))
+
+        pub given-may : q ≤ 400000000 → (p ≤ sum) × (p * p ≤ squares) × (p ≤ 400000000) × (q ≤ 400000000) × (sum ≤ 3200000000) × (squares ≤ 1280000000000000000)
+        given-may l = may-replace (numberAt ch a) k sum squares most (number-small ch a) t (giverOf m) (gv .from) p q mark-old l
+
+        pub given-is : (z : ℤ) → (z ≡ wantedOf ch a d (giverOf m * COMPONENTS + componentOf m)) × (natAbs z ≤ LARGEST) → q ≡ markOf (toZ w64 (ofZ w64 z))
+            → (x y : ℕ) → x ≡ sum - p + q → y ≡ squares - p * p + q * q → Totalled (givenOf ch a d (giverOf m) (componentOf m)) k x y
+        given-is z w f x y i j =
+            replaced-is (numberAt ch a) k sum squares most (number-small ch a) t (giverOf m) (gv .from) p q mark-old (givenOf ch a d (giverOf m) (componentOf m))
+            (λ s l n. sym (given-there ch a d (giverOf m) (componentOf m) s n))
+            (f ∙ ap markOf (back z (omega (arith, w .1)) ∙ w .0 ∙ give-wanted ∙ sym (given-here ch a d (giverOf m) (componentOf m))))
+            x
+            y
+            i
+            j
+
+    -- and the taker
+    module _ (fit : Fit ch k a d m) (c t : ℕ) (ec : c ≡ componentOf m) (et : t ≡ takerOf m) where
+      so : Sound ch k a
+      so = held .sound
+
+      pub take-triable : Triable ch k a d (CELLS + t * COMPONENTS + c)
+      take-triable = rw (et, ec) (taker-triable ch k a d m so fit)
+
+      pub taker-small : natAbs (toZ w64 (ofZ w64 (listed v t))) ≤ LARGEST
+      taker-small = rw (et, row-is (takerOf m) (bt ch k a d m so fit .to)) (number-small ch a (takerOf m))
+
+      both-done : (s : ℕ) → s < k → (s ≡ takerOf m → ⊥) → givenOf ch a d (giverOf m) (componentOf m) s ≡ numberAt ch (movedOf a m d) s
+      both-done s l n = go (eqb s (giverOf m)) refl
+        where
+          go : (b : Bool) → eqb s (giverOf m) ≡ b → givenOf ch a d (giverOf m) (componentOf m) s ≡ numberAt ch (movedOf a m d) s
+          go true e =
+              let q : s ≡ giverOf m = eqb-true s (giverOf m) e in
+              rw q (given-here ch a d (giverOf m) (componentOf m) ∙ with-is ch k a d m so fit (giverOf m) (cellOf a (giverOf m) (componentOf m) - d) (bt ch k a d m so fit .from) (giver-changed ch k a d m so fit))
+          go false e = given-there ch a d (giverOf m) (componentOf m) s (eqb-false s (giverOf m) e) ∙ sym (rest-same ch k a d m so fit s l (eqb-false s (giverOf m) e) n)
+
+      module _ (sum squares p q : ℕ) (tot : Totalled (givenOf ch a d (giverOf m) (componentOf m)) k sum squares) (e : p ≡ markOf (toZ w64 (ofZ w64 (listed v t)))) where
+        mark-was : p ≡ markOf (givenOf ch a d (giverOf m) (componentOf m) (takerOf m))
+        mark-was = e ∙ ap (λ s. markOf (toZ w64 (ofZ w64 (listed v s)))) et ∙ ap markOf (row-is (takerOf m) (bt ch k a d m so fit .to) ∙ sym (given-there ch a d (giverOf m) (componentOf m) (takerOf m) (λ z. bt ch k a d m so fit .apart (sym z))))
+
+        pub taken-may : q ≤ 400000000 → (p ≤ sum) × (p * p ≤ squares) × (p ≤ 400000000) × (q ≤ 400000000) × (sum ≤ 3200000000) × (squares ≤ 1280000000000000000)
+        taken-may l = may-replace (givenOf ch a d (giverOf m) (componentOf m)) k sum squares most (given-small ch a d (giverOf m) (componentOf m)) tot (takerOf m) (bt ch k a d m so fit .to) p q mark-was l
+
+        module _ (z : ℤ) (w : (z ≡ wantedOf ch a d (CELLS + t * COMPONENTS + c)) × (natAbs z ≤ LARGEST)) (f : q ≡ markOf (toZ w64 (ofZ w64 z))) (x y : ℕ) (i : x ≡ sum - p + q) (j : y ≡ squares - p * p + q * q) where
+          taken-is : Totalled (numberAt ch (movedOf a m d)) k x y
+          taken-is =
+              replaced-is (givenOf ch a d (giverOf m) (componentOf m)) k sum squares most (given-small ch a d (giverOf m) (componentOf m)) tot (takerOf m) (bt ch k a d m so fit .to) p q mark-was (numberAt ch (movedOf a m d))
+              both-done
+              (f ∙ ap markOf (back z (omega (arith, w .1)) ∙ taker-wanted ch k a d m so fit z (w .0 ∙ ap₂ (λ x y. wantedOf ch a d (CELLS + x * COMPONENTS + y)) et ec, w .1) .0 ∙ with-is ch k a d m so fit (takerOf m) (cellOf a (takerOf m) (componentOf m) + d) (bt ch k a d m so fit .to) (taker-changed ch k a d m so fit)))
+              x
+              y
+              i
+              j
+
+          pub after-may : (k ≤ 8) × (x ≤ 3200000000) × (y ≤ 1280000000000000000) × (x * x ≤ k * y)
+          after-may = (
+            most,
+            sum-few (numberAt ch (movedOf a m d)) k x y most (λ s _. number-small ch (movedOf a m d) s) taken-is,
+            squares-few (numberAt ch (movedOf a m d)) k x y most (λ s _. number-small ch (movedOf a m d) s) taken-is,
+            under (numberAt ch (movedOf a m d)) k x y most (λ s _. number-small ch (movedOf a m d) s) taken-is,
+          )
+
+          pub lowers-is : (r was : ℕ) → r ≡ k * y - x * x → was ≡ imbalanceOf (numberAt ch a) k → ltb r was ≡ lowersOf ch k a d m
+          unfolding lowersOf
+          lowers-is r was u o = ap₂ ltb (u ∙ imbalance-is (numberAt ch (movedOf a m d)) k x y most (λ s _. number-small ch (movedOf a m d) s) taken-is) o

@@ -1,0 +1,237 @@
+-- Moves by their giver and their taker, and the scan over them.
+use Prim.Native.Nat.{ℕ, _+_, _-_, _%_, _≤_, _<_}
+use mathlib.Core.Path.{_≡_, refl, sym, ap, _∙_}
+use mathlib.Core.Bool.{Bool, true, false, not}
+use mathlib.Core.List.{List}
+use native.Mathlib.Omega.{arith}
+use lib.Dec.{eqb, ltb}
+use borrow.Author.Tests.{lt-ltb, le-ltb, eq-eqb, ne-eqb, ltb-true, ltb-false}
+use Rattle.systems.specs.Systems.{hasOf}
+use Rattle.split.specs.Split.{SYSTEMS, systemOf}
+use Rattle.split.specs.Members.{both-left, both-right}
+use Rattle.split.specs.Move.{MOVES, componentOf, giverOf, takerOf, betweenOf, affordsOf, canOf, firstOf}
+use Rattle.split.specs.Folds.{first-here, first-none}
+use Rattle.split.specs.Scan.{first-skip}
+use Rattle.split.specs.Tests.{Fit, Can, can-true, between-true}
+use Rattle.search.specs.Balance.{Totalled}
+use Rattle.search.specs.Scan.{givenOf, givesOf, takesOf, Past, Scanned}
+
+clash : {A : Type 0} (b : Bool) → b ≡ true → b ≡ false → A
+clash b p q = absurd (let z : _≡_ {A = ℕ} 0 1 = ap (λ x. elim x [ true ↦ 0 | false ↦ 1 ]) (sym p ∙ q) in omega arith)
+
+by-test : (P : Bool → Type 0) (b : Bool) → (b ≡ true → P true) → (b ≡ false → P false) → P b
+by-test P true p q = p refl
+by-test P false p q = q refl
+
+-- what the giver's tests come to
+module _ (ch : List ℕ) (k : ℕ) (a : List ℕ) (d m : ℕ) where
+  pub give-past : k ≤ giverOf m → false ≡ givesOf ch k a d m
+  unfolding givesOf
+  give-past h = rw (le-ltb (giverOf m) k h, givesOf)
+
+  module _ (h : giverOf m < k) (b : Bool) (f : b ≡ hasOf (systemOf ch (giverOf m)) (componentOf m)) where
+    pub give-lacks : b ≡ false → false ≡ givesOf ch k a d m
+    unfolding givesOf
+    give-lacks u = rw (lt-ltb (giverOf m) k h, sym f ∙ u, givesOf)
+
+    pub give-is : b ≡ true → (r : Bool) → r ≡ affordsOf ch a d m → r ≡ givesOf ch k a d m
+    unfolding givesOf
+    give-is u r e = rw (lt-ltb (giverOf m) k h, sym f ∙ u, givesOf) e
+
+  pub record Gives : Type 0 where
+    pub from : giverOf m < k
+    pub gives : hasOf (systemOf ch (giverOf m)) (componentOf m) ≡ true
+    pub affords : affordsOf ch a d m ≡ true
+
+  pub gives-true : givesOf ch k a d m ≡ true → Gives
+  unfolding givesOf
+  gives-true e =
+      let p = both-right (ltb (giverOf m) k) _ e in
+      record {
+        from = ltb-true (giverOf m) k (both-left (ltb (giverOf m) k) _ e);
+        gives = both-left (hasOf (systemOf ch (giverOf m)) (componentOf m)) _ p;
+        affords = both-right (hasOf (systemOf ch (giverOf m)) (componentOf m)) _ p;
+      }
+
+  true-gives : Gives → givesOf ch k a d m ≡ true
+  unfolding givesOf
+  true-gives g = rw (lt-ltb (giverOf m) k (g .from), g .gives, g .affords, givesOf)
+
+  pub fit-gives : Fit ch k a d m → givesOf ch k a d m ≡ true
+  fit-gives f =
+      let b = between-true ch k m (f .between) in
+      true-gives (record { from = b .from; gives = b .gives; affords = f .affords })
+
+  -- another move of the same giver and component
+  pub gives-same : (n : ℕ) → giverOf n ≡ giverOf m → componentOf n ≡ componentOf m → givesOf ch k a d n ≡ givesOf ch k a d m
+  unfolding givesOf affordsOf
+  gives-same n p q = rw (p, q)
+
+-- and the taker's
+module _ (ch : List ℕ) (c f t : ℕ) where
+  pub take-same : f ≡ t → false ≡ takesOf ch c f t
+  unfolding takesOf
+  take-same e = rw (eq-eqb f t e, takesOf)
+
+  pub take-is : (f ≡ t → ⊥) → (b : Bool) → b ≡ hasOf (systemOf ch t) c → b ≡ takesOf ch c f t
+  unfolding takesOf
+  take-is n b e = rw (ne-eqb f t n, takesOf) e
+
+-- which moves cannot be made
+module _ (ch : List ℕ) (k : ℕ) (a : List ℕ) (d m : ℕ) where
+  unless : ((Can ch k m a d) → ⊥) → canOf ch k a d m ≡ false
+  unless h = by-test (λ b. b ≡ false) (canOf ch k a d m) (λ e. absurd (h (can-true ch k m a d e))) (λ e. refl)
+
+  pub no-take : takesOf ch (componentOf m) (giverOf m) (takerOf m) ≡ false → canOf ch k a d m ≡ false
+  no-take e = unless (λ c. clash (takesOf ch (componentOf m) (giverOf m) (takerOf m)) (sym (take-is ch (componentOf m) (giverOf m) (takerOf m) (c .between .apart) true (sym (c .between .takes)))) e)
+
+  pub no-give : givesOf ch k a d m ≡ false → canOf ch k a d m ≡ false
+  unfolding canOf
+  no-give e = by-test (λ b. b ≡ false) (canOf ch k a d m) (λ t. clash (givesOf ch k a d m) (true-gives ch k a d m (gives t)) e) (λ t. refl)
+    where
+      affords : canOf ch k a d m ≡ true → affordsOf ch a d m ≡ true
+      affords t = both-left (affordsOf ch a d m) _ (both-right (betweenOf ch k m) _ t)
+
+      gives : canOf ch k a d m ≡ true → Gives ch k a d m
+      gives t =
+          let c = can-true ch k m a d t in
+          record { from = c .between .from; gives = c .between .gives; affords = affords t }
+
+  pub no-row : k ≤ takerOf m → canOf ch k a d m ≡ false
+  no-row h = unless (λ c. absurd (omega (arith, c .between .to)))
+
+  pub no-giver-row : k ≤ giverOf m → canOf ch k a d m ≡ false
+  no-giver-row h = unless (λ c. absurd (omega (arith, c .between .from)))
+
+  -- and which may be
+  pub may : m < MOVES → givesOf ch k a d m ≡ true → takerOf m < k → takesOf ch (componentOf m) (giverOf m) (takerOf m) ≡ true → Fit ch k a d m
+  unfolding betweenOf takesOf
+  may h g l t =
+      let w = gives-true ch k a d m g in
+      let p = both-left (not (eqb (giverOf m) (takerOf m))) _ t in
+      let q = both-right (not (eqb (giverOf m) (takerOf m))) _ t in
+      record { below = h; between = rw (lt-ltb (giverOf m) k (w .from), lt-ltb (takerOf m) k l, p, w .gives, q, betweenOf); affords = w .affords }
+
+pub takes-at : (ch : List ℕ) (m c f t : ℕ) (b r : Bool) → c ≡ componentOf m → f ≡ giverOf m → t ≡ takerOf m → r ≡ takesOf ch c f t → r ≡ b → takesOf ch (componentOf m) (giverOf m) (takerOf m) ≡ b
+takes-at ch m c f t b r p q s e u = rw (p, q, s) at (sym e ∙ u)
+
+-- the moves of one giver and component: n and those after it
+module _ (k n t : ℕ) (z : n % SYSTEMS ≡ 0) (h : t < k) (most : k ≤ SYSTEMS) (below : n < MOVES) where
+  pub scan-below : n + t < MOVES
+  scan-below = omega arith
+
+  pub scan-taker : takerOf (n + t) ≡ t
+  scan-taker = omega arith
+
+  pub scan-takes : takerOf (n + t) < k
+  scan-takes = omega arith
+
+  pub scan-giver : giverOf (n + t) ≡ giverOf n
+  scan-giver = omega arith
+
+  pub scan-component : componentOf (n + t) ≡ componentOf n
+  scan-component = omega arith
+
+-- the scan
+module _ (ch : List ℕ) (k : ℕ) (a : List ℕ) (d : ℕ) where
+  pub past-none : Past ch k a d 0
+  past-none = record { none = λ s l. absurd (omega arith) }
+
+  pub past-to : (m r : ℕ) → Past ch k a d m → ((s : ℕ) → m ≤ s → s < r → canOf ch k a d s ≡ false) → Past ch k a d r
+  past-to m r p h = record { none = λ s l. by-test (λ b. ltb s m ≡ b → canOf ch k a d s ≡ false) (ltb s m) (λ e f. p .none s (ltb-true s m e)) (λ e f. h s (ltb-false s m e) l) refl }
+
+  pub past-here : (n : ℕ) → Past ch k a d n → Past ch k a d (n + 0)
+  past-here n p = record { none = λ s l. p .none s (omega arith) }
+
+  pub past-on : (n t : ℕ) → Past ch k a d (n + t) → canOf ch k a d (n + t) ≡ false → Past ch k a d (n + (t + 1))
+  past-on n t p e =
+      past-to (n + t) (n + (t + 1)) p (λ s l h. let q : s ≡ n + t = omega arith in rw q e)
+
+  pub found-first : (m : ℕ) → m < MOVES → Past ch k a d m → canOf ch k a d m ≡ true → m ≡ firstOf ch k a d
+  unfolding firstOf
+  found-first m l p e = sym (first-skip (canOf ch k a d) MOVES 0 m (omega arith) (omega arith) (λ s _ h. p .none s h) ∙ first-here (canOf ch k a d) MOVES m l e)
+
+  pub none-first : (m : ℕ) → MOVES ≤ m → Past ch k a d m → MOVES ≡ firstOf ch k a d
+  unfolding firstOf
+  none-first m l p = sym (first-skip (canOf ch k a d) MOVES 0 MOVES (omega arith) (omega arith) (λ s _ h. p .none s (omega arith)) ∙ first-none (canOf ch k a d) MOVES MOVES (omega arith))
+
+  module _ (n : ℕ) (z : n % SYSTEMS ≡ 0) where
+    pub same-giver : (m : ℕ) → n ≤ m → m < n + SYSTEMS → giverOf m ≡ giverOf n
+    same-giver m p q = omega arith
+
+    pub same-component : (m : ℕ) → n ≤ m → m < n + SYSTEMS → componentOf m ≡ componentOf n
+    same-component m p q = omega arith
+
+    pub scan-ends : (t : ℕ) → t ≡ k → Past ch k a d (n + t) → Scanned ch k a d n (n + SYSTEMS)
+    scan-ends t e p = record {
+      past = past-to (n + t) (n + SYSTEMS) p (λ s l h. no-row ch k a d s (omega arith));
+      most = omega arith;
+      found = λ l. absurd (omega arith);
+    }
+
+    pub past-giver : Past ch k a d n → givesOf ch k a d n ≡ false → Scanned ch k a d n (n + SYSTEMS)
+    past-giver p e = record {
+      past = past-to n (n + SYSTEMS) p (λ s l h. no-give ch k a d s (gives-same ch k a d n s (same-giver s l h) (same-component s l h) ∙ e));
+      most = omega arith;
+      found = λ l. absurd (omega arith);
+    }
+
+    -- the one whose taker is row t
+    module _ (t : ℕ) (h : t < k) (most : k ≤ SYSTEMS) (below : n < MOVES) where
+      pub scan-gives : givesOf ch k a d n ≡ true → givesOf ch k a d (n + t) ≡ true
+      scan-gives g = gives-same ch k a d n (n + t) (scan-giver k n t z h most below) (scan-component k n t z h most below) ∙ g
+
+      pub scan-total : (x y : ℕ) → Totalled (givenOf ch a d (giverOf n) (componentOf n)) k x y → Totalled (givenOf ch a d (giverOf (n + t)) (componentOf (n + t))) k x y
+      scan-total x y w = rw (scan-giver k n t z h most below, scan-component k n t z h most below) w
+
+      pub scan-found : Past ch k a d (n + t) → canOf ch k a d (n + t) ≡ true → Scanned ch k a d n (n + t)
+      scan-found p e = record { past = p; most = omega arith; found = λ _. e }
+
+  -- up to n nothing was found and best is MOVES, or best is the first move
+  pub record Looked (best n : ℕ) : Type 0 where
+    pub low : n ≤ MOVES
+    pub whole : n % SYSTEMS ≡ 0
+    pub least : best ≤ MOVES
+    pub ahead : n ≤ best → (best ≡ MOVES) × Past ch k a d n
+    pub behind : best < n → best ≡ firstOf ch k a d
+
+  pub look-starts : Looked MOVES 0
+  look-starts = record {
+    low = omega arith;
+    whole = refl;
+    least = omega arith;
+    ahead = λ l. (refl, past-none);
+    behind = λ l. absurd (omega arith);
+  }
+
+  module _ (best n m y next : ℕ) (z : Looked best n) (l : n < best) (s : Scanned ch k a d n m)
+      (p : (n + SYSTEMS ≤ y) × (y ≤ MOVES) × ((n + SYSTEMS) % SYSTEMS ≡ 0 → y % SYSTEMS ≡ 0) × ((x : ℕ) → n + SYSTEMS ≤ x → x < y → k ≤ giverOf x)) where
+    on : y % SYSTEMS ≡ 0
+    on = p .2 (omega (arith, z .whole))
+
+    pub look-found : m < n + SYSTEMS → next ≡ m → Looked next y
+    look-found h e = record {
+      low = p .1;
+      whole = on;
+      least = omega (arith, p .0, p .1, e);
+      ahead = λ j. absurd (omega (arith, p .0, e, j));
+      behind = λ j. e ∙ found-first m (omega (arith, p .0, p .1)) (s .past) (s .found h);
+    }
+
+    pub look-past : n + SYSTEMS ≤ m → next ≡ best → Looked next y
+    look-past h e = record {
+      low = p .1;
+      whole = on;
+      least = omega (arith, z .least, e);
+      ahead = λ j. (e ∙ z .ahead (omega arith) .0, past-to (n + SYSTEMS) y before (λ x i j. no-giver-row ch k a d x (p .3 x i j)));
+      behind = λ j. absurd (omega (arith, z .ahead (omega arith) .0, p .1, e, j));
+    }
+      where
+        before : Past ch k a d (n + SYSTEMS)
+        before = record { none = λ x i. s .past .none x (omega arith) }
+
+  pub look-ends : (best n : ℕ) → Looked best n → best ≤ n → best ≡ firstOf ch k a d
+  look-ends best n z l = by-test (λ b. ltb best n ≡ b → best ≡ firstOf ch k a d) (ltb best n) (λ e f. z .behind (ltb-true best n e)) (λ e f. all (ltb-false best n e)) refl
+    where
+      all : n ≤ best → best ≡ firstOf ch k a d
+      all h = z .ahead h .0 ∙ none-first n (omega (arith, z .ahead h .0)) (z .ahead h .1)

@@ -1,0 +1,84 @@
+-- `search::tried::number_more` meets its contract. Assumes nothing.
+use mathlib.Core.Path.{_∙_}
+use native.Mathlib.Omega.{arith}
+use Rattle.search.proofs.Tries.{known-is, put-is, more-room, more-work, more-wanted}
+use borrow.Author.Needs.{needs}
+use Rattle.search.proofs.tried.number_more.Statement.{statement}
+use Rattle.search.proofs.tried.number_more.Tie as tie
+
+mul-i : tie.Need-mul-i
+mul-i c = search needs
+
+add-i : tie.Need-add-i
+add-i c = search needs
+
+mul-x : tie.Need-mul-x
+mul-x c = search needs
+
+add-x : tie.Need-add-x
+add-x c = search needs
+
+add-x-2 : tie.Need-add-x-2
+add-x-2 c = search needs
+
+mul-x-2 : tie.Need-mul-x-2
+mul-x-2 c = search needs
+
+element-copy-out-x : tie.Need-element-copy-out-x
+element-copy-out-x c = search needs
+
+returns : tie.Need-returns
+returns c = known-is _ _ _ _ _ (c .before .before .pre .3) _ (c .before .before .pre .2) (c .if1 .taken)
+
+mul-number-with : tie.Need-mul-number-with
+mul-number-with c = search needs
+
+element-copy-out-number-with : tie.Need-element-copy-out-number-with
+element-copy-out-number-with c = search needs
+
+add-number-with : tie.Need-add-number-with
+add-number-with c = omega (arith, more-room (c .before .before .before .args .ch .now) _ _ _ _ _ (c .before .before .before .pre .0) (c .before .before .before .pre .1) (c .before .before .before .pre .2))
+
+number-with-requires : tie.Need-number-with-requires
+number-with-requires c κs = more-work _ _ _ _ _ _ (c .before .before .before .pre .0) (c .before .before .before .pre .1) (c .before .before .before .pre .2)
+
+mul-y : tie.Need-mul-y
+mul-y c = search needs
+
+add-y : tie.Need-add-y
+add-y c = search needs
+
+add-y-2 : tie.Need-add-y-2
+add-y-2 c = search needs
+
+mul-y-2 : tie.Need-mul-y-2
+mul-y-2 c = search needs
+
+element-set-from-y : tie.Need-element-set-from-y
+element-set-from-y c = search needs
+
+returns-2 : tie.Need-returns-2
+returns-2 c = put-is _ _ _ _ _ (c .before .before .before .before .pre .3) _ (c .before .before .before .before .pre .2) _ (c .number-with .ensures .0 ∙ more-wanted _ (c .before .before .before .before .args .k) _ _ _ _ (c .before .before .before .before .pre .0) (c .before .before .before .before .pre .1), c .number-with .ensures .1)
+
+pub number-more-spec : {M : Type 1} → statement M
+number-more-spec =
+    tie.close
+    (tie.spec
+    mul-i
+    add-i
+    mul-x
+    add-x
+    add-x-2
+    mul-x-2
+    element-copy-out-x
+    returns
+    mul-number-with
+    element-copy-out-number-with
+    add-number-with
+    number-with-requires
+    mul-y
+    add-y
+    add-y-2
+    mul-y-2
+    element-set-from-y
+    returns-2)

@@ -1,0 +1,15 @@
+-- The imbalance of some numbers from two sums. Assumes nothing.
+use Prim.Native.Nat.{ℕ, _*_}
+use mathlib.Core.Path.{_≡_}
+use lib.IntN.{ℤ, pos, natAbs, _+ℤ_}
+use lib.Signed.{quotZ}
+use Rattle.split.specs.Fold.{sumTo}
+
+-- a number cut to thousandths of a methane number, counted from one that is below every partial number
+unfoldable pub markOf : ℤ → ℕ
+markOf x = natAbs (quotZ x (pos 10000) +ℤ pos 200000000)
+
+-- the marks of k numbers, added, and their squares
+pub record Totalled (v : ℕ → ℤ) (k sum squares : ℕ) : Type 0 where
+  pub added : sum ≡ sumTo (λ s. markOf (v s)) k
+  pub squared : squares ≡ sumTo (λ s. markOf (v s) * markOf (v s)) k
