@@ -1,8 +1,8 @@
 -- What the C interface answers, and what it leaves in each buffer. Assumes nothing.
 --
--- A reply is an answer's number with its place, and a refusal leaves every buffer as it was: by what each case of the answer
--- is, as the crate that has it says (`AnswerCases`, `PartialCases`, `ReadingCases`, `WrittenCases`). `x` is the answer of
--- the library's function, and `l` or `old` is what the buffer held.
+-- A reply is an answer's number with its place, and a refusal leaves every buffer as it was: by what each case of the
+-- answer is, as the crate that has it says (`AnswerCases`, `PartialCases`, `ReadingCases`, `WrittenCases`). `x` is the
+-- answer of the library's function, and `l` or `old` is what the buffer held.
 use mathlib.Core.Bool.{cond}
 use mathlib.Core.List.{List}
 use Prim.Native.Nat.{ℕ, _<_}

@@ -22,12 +22,16 @@ proposalFit mix ch k n1 = both (chosenFit ch k) (both (mixtureFit mix) (leb n1 1
 
 -- the answer; other input is a misfit
 unfoldable pub answerOf : ℕ → List ℕ → ℕ → List ℕ → List ℕ → ℕ → Answer
-answerOf limit ch k mix a n1 = elim (proposalFit mix ch k n1) [ true ↦ proposedOf limit ch k mix a n1 | false ↦ Refused MISFIT 0 ]
+answerOf limit ch k mix a n1 =
+    elim (proposalFit mix ch k n1) [ true ↦ proposedOf limit ch k mix a n1 | false ↦ Refused MISFIT 0 ]
 
 -- the answer to a split that re-sums and has no empty system
 unfoldable pub ratedOf : ℕ → List ℕ → ℕ → List ℕ → ℕ → Answer
 ratedOf limit ch k a n1 =
-    elim (ltb limit (spreadOf (numberAt ch a) k)) [ true ↦ Refused WIDE 0 | false ↦ Rated (ratingOf ch k a n1) (spreadOf (numberAt ch a) k) 0 ]
+    elim (ltb limit (spreadOf (numberAt ch a) k)) [
+      | true ↦ Refused WIDE 0
+      | false ↦ Rated (ratingOf ch k a n1) (spreadOf (numberAt ch a) k) 0
+    ]
 
 -- input that is answered by the rules
 pub record Proposal (mix ch : List ℕ) (k n1 : ℕ) : Type 0 where
