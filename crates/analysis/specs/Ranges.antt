@@ -1,5 +1,5 @@
--- What the check's answer says of an analysis, and what holds of one that is not refused, for those who compute with it.
--- Assumes nothing.
+-- What the check's answer says of an analysis, and what holds of one that is not refused, for those who compute with
+-- it. Assumes nothing.
 use mathlib.Core.Path.{_≡_, refl, sym, ap, _∙_}
 use mathlib.Core.List.{List, [], _∷_}
 use mathlib.Core.Bool.{Bool, true, false, not}

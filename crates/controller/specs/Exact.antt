@@ -1,9 +1,9 @@
 -- A count of at most 2^53 converts exactly, and the division is the one rounding (document 01, "Writer, display,
 -- controller"; "Which form to use where": "exact conversion of a whole number below 2^53, then one rounded division").
 -- Assumes nothing.
-use mathlib.Core.Path.{_≡_, refl, sym, ap, _∙_, subst}
+use mathlib.Core.Path.{_≡_, refl, ap, _∙_}
 use mathlib.Core.Bool.{Bool, true, false}
-use Prim.Native.Nat.{ℕ, suc, _*_, _≤_, _<_}
+use Prim.Native.Nat.{ℕ, suc, _*_, _≤_}
 use native.Mathlib.Nat.{mul-assoc, mul-comm, mul-pos}
 use native.Mathlib.Omega.{arith}
 use lib.Dec.{T, le→leb, lt→ltb}
@@ -48,8 +48,8 @@ abbrev pub negative : ℤ → Bool
 negative (pos n) = false
 negative (negsuc n) = true
 
--- x is a count of units divided once: a double that is the count exactly, over the double that is 10000000 exactly; and so
--- x is the fraction of the count over 10000000, rounded once
+-- x is a count of units divided once: a double that is the count exactly, over the double that is 10000000 exactly; and
+-- so x is the fraction of the count over 10000000, rounded once
 pub record DividedOnce (x : Float) (units : ℤ) : Type 0 where
   pub count : Float
   pub count-exact : Exactly count units
@@ -59,18 +59,24 @@ pub record DividedOnce (x : Float) (units : ℤ) : Type 0 where
 -- ---- the quotient of a whole double is the fraction rounded once
 
 same-fraction : (m u n d : ℕ) → m * u * 1 ≡ n * d → m * u * 1 * 10000000 ≡ n * (10000000 * d)
-same-fraction m u n d h = ap (λ (x : ℕ). x * 10000000) h ∙ mul-assoc n d 10000000 ∙ ap (λ (x : ℕ). n * x) (mul-comm d 10000000)
+same-fraction m u n d h =
+    ap (λ (x : ℕ). x * 10000000) h ∙ mul-assoc n d 10000000 ∙ ap (λ (x : ℕ). n * x) (mul-comm d 10000000)
+
+-- the two fractions, whatever the sign
+reduced : (s : Bool) (m : ℕ) (e : ℤ) (n : ℕ) → m * up e * 1 ≡ n * down e
+    → round binary64 s (m * up e * 1) (10000000 * down e) ≡ round binary64 s n 10000000
+reduced s m e n h =
+    round-same binary64 s (m * up e * 1) (10000000 * down e) n 10000000
+    (mul-pos (omega arith) (down-pos e)) (omega arith) (same-fraction m (up e) n (down e) h)
 
 over : (x : Float) (s : Bool) (n : ℕ) → HasValue x s n 1 → div binary64 x tenMillion ≡ round binary64 s n 10000000
 unfolding div ofBits
 over nan s n v = absurd v
 over (inf t) s n v = absurd v
 over (fin true m e) s n v =
-    round-same binary64 true (m * up e * 1) (10000000 * down e) n 10000000 (mul-pos (omega arith) (down-pos e)) (omega arith) (same-fraction m (up e) n (down e) (v .1))
-    ∙ ap (λ (t : Bool). round binary64 t n 10000000) (v .0)
+    reduced true m e n (v .1) ∙ ap (λ (t : Bool). round binary64 t n 10000000) (v .0)
 over (fin false m e) s n v =
-    round-same binary64 false (m * up e * 1) (10000000 * down e) n 10000000 (mul-pos (omega arith) (down-pos e)) (omega arith) (same-fraction m (up e) n (down e) (v .1))
-    ∙ ap (λ (t : Bool). round binary64 t n 10000000) (v .0)
+    reduced false m e n (v .1) ∙ ap (λ (t : Bool). round binary64 t n 10000000) (v .0)
 
 quotient-rounded : (units : ℤ) → natAbs units ≤ 9007199254740992
     → div binary64 (ofInt binary64 units) tenMillion ≡ round binary64 (negative units) (natAbs units) 10000000
@@ -81,9 +87,16 @@ quotient-rounded (negsuc n) h = over (round binary64 true (suc n) 1) true (suc n
 pub divided-once : (units : ℤ) → natAbs units ≤ 9007199254740992 → DividedOnce (methaneNumber units) units
 unfolding methaneNumber
 divided-once units h =
-    record { count = ofInt binary64 units; count-exact = exact units h; quotient = refl; rounded = quotient-rounded units h }
+    record {
+      count = ofInt binary64 units;
+      count-exact = exact units h;
+      quotient = refl;
+      rounded = quotient-rounded units h;
+    }
 
 -- 250000000 units are 25.0; -12345678 units are the double nearest to -1.2345678
-pub examples : (methaneNumber (pos 250000000) ≡ ofBits binary64 0x4039_0000_0000_0000) × (toBits binary64 (methaneNumber (negsuc 12345677)) ≡ 0xbff3_c0ca_2a5b_1d5d)
+pub examples :
+    (methaneNumber (pos 250000000) ≡ ofBits binary64 0x4039_0000_0000_0000)
+    × (toBits binary64 (methaneNumber (negsuc 12345677)) ≡ 0xbff3_c0ca_2a5b_1d5d)
 unfolding methaneNumber div ofInt ofBits toBits
 examples = (refl, refl)

@@ -56,7 +56,9 @@ checkedBy number code rated = ifElse (eqb number 0) rated (Refused number (ifEls
 -- of chosen systems, a mixture and its inert part: 7 where its records are not those expected, else the answer to its cells
 unfoldable pub splitBy : List ℕ → ℕ → List ℕ → ℕ → Split → Answer
 splitBy ch k mix n1 p =
-    ifElse (fitsOf ch k (p .count) (p .systems) (p .codes)) (proposedOf LIMIT ch k mix (cellsOf ch k (p .amounts)) n1) (Refused MISFIT 0)
+    ifElse (fitsOf ch k (p .count) (p .systems) (p .codes))
+    (proposedOf LIMIT ch k mix (cellsOf ch k (p .amounts)) n1)
+    (Refused MISFIT 0)
 
 -- of an analysis
 unfoldable pub splitAnswer : List ℕ → Split → ℕ → Answer

@@ -50,9 +50,9 @@ NO_SYSTEM = 13
 abbrev pub SHORT_BLANK : ℕ
 SHORT_BLANK = 14
 
--- what a refusal is tested of: 1 of the whole sheet, first; 2 to 4 record by record; then 5 and 6 of an analysis; then 7
--- to 10 of a proposed split, or 11 of the search. Of a partial number the system comes before the mixture. Of a writer's
--- buffer comes after its analysis.
+-- what a refusal is tested of: 1 of the whole sheet, first; 2 to 4 record by record; then 5 and 6 of an analysis; then
+-- 7 to 10 of a proposed split, or 11 of the search. Of a partial number 13 comes before 12, and the writer tests its
+-- buffer after the analysis.
 pub data Tested : Type 0 where
   wholeSheet : Tested
   componentRecord : Tested

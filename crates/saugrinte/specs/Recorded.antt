@@ -1,12 +1,13 @@
 -- THE CONTROLLER'S RECORD OF EVERY RATING (document 01, "Writer, display, controller"). Assumes nothing.
 --
--- "The controller's record holds rating and spread as doubles, each count of units divided by 10000000 and rounded once."
+-- "The controller's record holds rating and spread as doubles, each count of units divided by 10000000 and rounded
+-- once."
 --
 -- Of every rating that a call answers, to a proposed split, by the search or to a sheet, the record's rating is
--- `div binary64 d tenMillion`, where the double d is the rating exactly (it has no fraction, and turned back into a whole
--- number it is the rating) and tenMillion is 10000000 exactly; so it is the fraction rating / 10000000, rounded once. The
--- same holds of the spread. `DividedOnce` says so of a field; `controller::record` and `saugrinte_controller` promise
--- `recordOf`. `code` is the code that refusal 5 carries.
+-- `div binary64 d tenMillion`, where the double d is the rating exactly (it has no fraction, and turned back into a
+-- whole number it is the rating) and tenMillion is 10000000 exactly; so it is the fraction rating / 10000000, rounded
+-- once. The same holds of the spread. `DividedOnce` says so of a field; `controller::record` and `saugrinte_controller`
+-- promise `recordOf`. `code` is the code that refusal 5 carries.
 use mathlib.Core.Path.{_≡_}
 use mathlib.Core.List.{List}
 use Prim.Native.Nat.{ℕ}
@@ -31,7 +32,8 @@ Recorded (Refused number place) = Unit {0}
 
 small-recorded : (x : Answer) → SmallFigures x → Recorded x
 unfolding recordOf
-small-recorded (Rated rating spread rounds) h = (divided-once rating (omega (arith, h .0)), divided-once (pos spread) (omega (arith, h .1)))
+small-recorded (Rated rating spread rounds) h =
+    (divided-once rating (omega (arith, h .0)), divided-once (pos spread) (omega (arith, h .1)))
 small-recorded (Refused number place) h = tt
 
 -- every rating: of a proposed split, by the search, of a sheet

@@ -24,7 +24,8 @@ refusalBy unknown = UNKNOWN
 
 -- the refusal of `code` after the code `p` (0 before the first), 2 or 3, then 4 where it is not above that; or 0
 unfoldable pub codeRefusal : ℕ → ℕ → ℕ
-codeRefusal code p = ifElse (eqb (refusalBy (statusOf code)) 0) (ifElse (leb code p) OUT_OF_ORDER 0) (refusalBy (statusOf code))
+codeRefusal code p =
+    ifElse (eqb (refusalBy (statusOf code)) 0) (ifElse (leb code p) OUT_OF_ORDER 0) (refusalBy (statusOf code))
 
 -- record by record: the first of `n` records at `at` that is refused, with its place, that of the first of them being `i`
 abbrev pub codesReading : ℕ → List ℕ → ℕ → ℕ → ℕ → Reading

@@ -1,5 +1,6 @@
--- What each case of `Reading` is (document 01, "What is turned away"): a refusal's number, 0 where there is none; what it
--- carries, the record's place with 2 to 4 and the code at fault with 5; and what a lent buffer then holds. Assumes nothing.
+-- What each case of `Reading` is (document 01, "What is turned away"): a refusal's number, 0 where there is none; what
+-- it carries, the record's place with 2 to 4 and the code at fault with 5; and what a lent buffer then holds. Assumes
+-- nothing.
 use Prim.Native.Nat.{ℕ}
 use lib.Dec.{eqb}
 use Rattle.refusal.specs.Register.{OUT_OF_RANGE}

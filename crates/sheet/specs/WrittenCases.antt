@@ -1,5 +1,5 @@
--- What each case of `Written` is (document 01, "What is turned away"): a refusal's number, 0 where there is none; what it
--- carries, the code at fault with 5; and the sheet's length. Assumes nothing.
+-- What each case of `Written` is (document 01, "What is turned away"): a refusal's number, 0 where there is none; what
+-- it carries, the code at fault with 5; and the sheet's length. Assumes nothing.
 use Prim.Native.Nat.{ℕ}
 use Rattle.sheet.specs.declared.Written.{Written}
 use Rattle.sheet.specs.declared.Written.the-variants.{Length, Refused}

@@ -1,6 +1,6 @@
--- What each case of `Answer` is (document 01, "What is turned away"): a refusal's number, 0 where there is none; what it
--- carries, the record's place with 2 to 4 and the code at fault with 5; a rating's figures; and what a lent buffer then
--- holds. Assumes nothing.
+-- What each case of `Answer` is (document 01, "What is turned away"): a refusal's number, 0 where there is none; what
+-- it carries, the record's place with 2 to 4 and the code at fault with 5; a rating's figures; and what a lent buffer
+-- then holds. Assumes nothing.
 use mathlib.Core.Bool.{cond}
 use mathlib.Core.List.{List, [], _∷_}
 use Prim.Native.Nat.{ℕ}

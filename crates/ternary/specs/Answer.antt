@@ -44,7 +44,8 @@ partialOf system n1 n2 n3 =
 
 -- ---- each case
 
-numbered : (b m : Bool) (n : ℤ) → numberOf (cond b (cond m (Number n) (Refused 12)) (Refused 13)) ≡ cond b (cond m 0 12) 13
+numbered : (b m : Bool) (n : ℤ)
+    → numberOf (cond b (cond m (Number n) (Refused 12)) (Refused 13)) ≡ cond b (cond m 0 12) 13
 numbered true true n = refl
 numbered true false n = refl
 numbered false m n = refl

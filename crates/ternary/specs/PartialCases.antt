@@ -1,5 +1,5 @@
--- What each case of `Partial` is (document 01, "What is turned away"): a refusal's number, 0 where there is none; it carries
--- no place; and the partial number in units. Assumes nothing.
+-- What each case of `Partial` is (document 01, "What is turned away"): a refusal's number, 0 where there is none; it
+-- carries no place; and the partial number in units. Assumes nothing.
 use Prim.Native.Nat.{ℕ}
 use lib.IntN.{ℤ}
 use Rattle.ternary.specs.declared.Partial.{Partial}
