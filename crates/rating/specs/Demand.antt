@@ -12,7 +12,7 @@
 -- `sheetOutcome`, of which these theorems speak. An analysis is its 16 amounts, that of code k at index k; it is in
 -- range when neither 5 nor 6 turns it away, `refusalOf a ≡ 0`. A split is rated when the answer to it is a rating, with
 -- its spread, and no refusal: `IsRated`. `code` is the code that refusal 5 carries: any code at fault.
-use mathlib.Core.Path.{_≡_, refl, sym, ap, _∙_, subst}
+use mathlib.Core.Path.{_≡_, refl, sym, _∙_, subst}
 use mathlib.Core.Bool.{Bool, true, false}
 use mathlib.Core.Logic.{_↔_, _⊎_}
 use mathlib.Core.List.{List}
@@ -22,7 +22,7 @@ use lib.IntN.{ℤ, natAbs, _-ℤ_}
 use lib.ListN.{getD, length}
 use Rattle.integer.specs.Fraction.{Fraction, Within}
 use Rattle.ternary.specs.Partial.{partialNumber}
-use Rattle.analysis.specs.Register.{CODES, ifElse}
+use Rattle.analysis.specs.Register.{CODES}
 use Rattle.analysis.specs.Check.{refusalOf}
 use Rattle.sheet.specs.Read.{readOf}
 use Rattle.sheet.specs.declared.Split.{Split}
@@ -33,7 +33,7 @@ use Rattle.systems.specs.Systems.{COMPONENTS, memberOf}
 use Rattle.systems.specs.Chosen.{choice-choosable}
 use Rattle.split.specs.Fold.{sumTo}
 use Rattle.split.specs.Split.{cellOf, systemOf, cellsOf, partsOf, columnOf, numberAt}
-use Rattle.split.specs.Rating.{spreadOf, ratingOf, proposedOf}
+use Rattle.split.specs.Rating.{spreadOf, ratingOf}
 use Rattle.split.specs.Exact.{exactRating}
 use Rattle.split.specs.Spread.{near-spread}
 use Rattle.split.specs.Fits.{Fit}
@@ -115,7 +115,7 @@ spreadAt a xs = spreadOf (number a xs) (countFor a)
 abbrev pub exactAt : List ℕ → List ℕ → Fraction
 exactAt a xs = exactRating (systemsFor a) (countFor a) (cellsIn a xs) (inertFirst a)
 
--- what `split` has its theorems of is these three and nothing else
+-- the three are all that `split` proves a rating of
 is-fit : (a xs : List ℕ) → ReSums a xs × NoneEmpty a xs × AllNear a xs
     → Fit LIMIT (systemsFor a) (countFor a) (mixOf a) (cellsIn a xs)
 unfolding columnOf partsOf numberAt
