@@ -13,9 +13,9 @@ use ternary::Partial;
 
 // Whether each row has a partial number; then these and the rows' parts, 0 beyond the last row.
 pub struct Rows {
-    pub fit: bool,
     pub numbers: [i64; SYSTEMS],
     pub parts: [u32; SYSTEMS],
+    pub fit: bool,
 }
 
 fn wide(x: u8) -> u32
@@ -69,9 +69,9 @@ fn unfit() -> Rows
     ensures { λ r. ⌜ r ≡ none ⌝ }
 {
     Rows {
-        fit: false,
         numbers: [0; SYSTEMS],
         parts: [0; SYSTEMS],
+        fit: false,
     }
 }
 
@@ -101,8 +101,8 @@ pub fn evaluate(choice: Choice, cells: [u32; CELLS]) -> Rows
         s += 1;
     }
     Rows {
-        fit: true,
         numbers,
         parts: shares,
+        fit: true,
     }
 }

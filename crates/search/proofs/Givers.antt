@@ -187,51 +187,8 @@ module _ (ch : List ℕ) (k : ℕ) (a : List ℕ) (d : ℕ) where
       pub scan-found : Past ch k a d (n + t) → canOf ch k a d (n + t) ≡ true → Scanned ch k a d n (n + t)
       scan-found p e = record { past = p; most = omega arith; found = λ _. e }
 
-  -- up to n nothing was found and best is MOVES, or best is the first move
-  pub record Looked (best n : ℕ) : Type 0 where
-    pub low : n ≤ MOVES
-    pub whole : n % SYSTEMS ≡ 0
-    pub least : best ≤ MOVES
-    pub ahead : n ≤ best → (best ≡ MOVES) × Past ch k a d n
-    pub behind : best < n → best ≡ firstOf ch k a d
+  pub past-rows : (n r : ℕ) → Past ch k a d n → ((s : ℕ) → n ≤ s → s < r → k ≤ giverOf s) → Past ch k a d r
+  past-rows n r p h = past-to n r p (λ s l m. no-giver-row ch k a d s (h s l m))
 
-  pub look-starts : Looked MOVES 0
-  look-starts = record {
-    low = omega arith;
-    whole = refl;
-    least = omega arith;
-    ahead = λ l. (refl, past-none);
-    behind = λ l. absurd (omega arith);
-  }
-
-  module _ (best n m y next : ℕ) (z : Looked best n) (l : n < best) (s : Scanned ch k a d n m)
-      (p : (n + SYSTEMS ≤ y) × (y ≤ MOVES) × ((n + SYSTEMS) % SYSTEMS ≡ 0 → y % SYSTEMS ≡ 0) × ((x : ℕ) → n + SYSTEMS ≤ x → x < y → k ≤ giverOf x)) where
-    on : y % SYSTEMS ≡ 0
-    on = p .2 (omega (arith, z .whole))
-
-    pub look-found : m < n + SYSTEMS → next ≡ m → Looked next y
-    look-found h e = record {
-      low = p .1;
-      whole = on;
-      least = omega (arith, p .0, p .1, e);
-      ahead = λ j. absurd (omega (arith, p .0, e, j));
-      behind = λ j. e ∙ found-first m (omega (arith, p .0, p .1)) (s .past) (s .found h);
-    }
-
-    pub look-past : n + SYSTEMS ≤ m → next ≡ best → Looked next y
-    look-past h e = record {
-      low = p .1;
-      whole = on;
-      least = omega (arith, z .least, e);
-      ahead = λ j. (e ∙ z .ahead (omega arith) .0, past-to (n + SYSTEMS) y before (λ x i j. no-giver-row ch k a d x (p .3 x i j)));
-      behind = λ j. absurd (omega (arith, z .ahead (omega arith) .0, p .1, e, j));
-    }
-      where
-        before : Past ch k a d (n + SYSTEMS)
-        before = record { none = λ x i. s .past .none x (omega arith) }
-
-  pub look-ends : (best n : ℕ) → Looked best n → best ≤ n → best ≡ firstOf ch k a d
-  look-ends best n z l = by-test (λ b. ltb best n ≡ b → best ≡ firstOf ch k a d) (ltb best n) (λ e f. z .behind (ltb-true best n e)) (λ e f. all (ltb-false best n e)) refl
-    where
-      all : n ≤ best → best ≡ firstOf ch k a d
-      all h = z .ahead h .0 ∙ none-first n (omega (arith, z .ahead h .0)) (z .ahead h .1)
+  pub past-block : (n r : ℕ) → Scanned ch k a d n r → n + SYSTEMS ≤ r → Past ch k a d (n + SYSTEMS)
+  past-block n r s l = record { none = λ x h. s .past .none x (omega arith) }

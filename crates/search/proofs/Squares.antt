@@ -111,10 +111,10 @@ module _ (u : ℕ → ℕ) (P : ℕ → ℕ → ℕ) where
         N.mul-add k (sumTo (λ j. u j * u j) k) (u k * u k),
       )
 
-sum-le : (f : ℕ → ℕ) (b n : ℕ) → ((i : ℕ) → i < n → f i ≤ b) → sumTo f n ≤ b * n
+sum-most : (f : ℕ → ℕ) (b n : ℕ) → ((i : ℕ) → i < n → f i ≤ b) → sumTo f n ≤ b * n
 unfolding sumTo
-sum-le f b zero h = omega arith
-sum-le f b (suc n) h = omega (arith, sum-le f b n (λ i l. h i (omega arith)), h n (omega arith), N.mul-suc b n)
+sum-most f b zero h = omega arith
+sum-most f b (suc n) h = omega (arith, sum-most f b n (λ i l. h i (omega arith)), h n (omega arith), N.mul-suc b n)
 
 -- the totals of k numbers
 module _ (v : ℕ → ℤ) (k sum squares : ℕ) (most : k ≤ 8) (small : (i : ℕ) → i < k → natAbs (v i) ≤ LARGEST) (t : Totalled v k sum squares) where
@@ -122,10 +122,10 @@ module _ (v : ℕ → ℤ) (k sum squares : ℕ) (most : k ≤ 8) (small : (i : 
   u s = markOf (v s)
 
   pub sum-few : sum ≤ 3200000000
-  sum-few = omega (arith, t .added, sum-le u 400000000 k (λ i l. mark-le (v i) (small i l)))
+  sum-few = omega (arith, t .added, sum-most u 400000000 k (λ i l. mark-le (v i) (small i l)))
 
   pub squares-few : squares ≤ 1280000000000000000
-  squares-few = omega (arith, t .squared, sum-le (λ s. u s * u s) 160000000000000000 k (λ i l. N.mul-le-mul (mark-le (v i) (small i l)) (mark-le (v i) (small i l))))
+  squares-few = omega (arith, t .squared, sum-most (λ s. u s * u s) 160000000000000000 k (λ i l. N.mul-le-mul (mark-le (v i) (small i l)) (mark-le (v i) (small i l))))
 
   together : imbalanceOf v k + sum * sum ≡ k * squares
   unfolding imbalanceOf

@@ -276,14 +276,13 @@ pub(crate) fn first_move(
 {
     let all = total(v, k);
     let was = imbalance(all, k);
-    let mut best = MOVES;
     let mut n = 0;
-    while n < best {
+    while n < MOVES {
         let m = first_from(ch, k, a, v, tried, d, n, all, was);
         if m < n + SYSTEMS {
-            best = m;
+            return m;
         }
         n = next_giver(k, n + SYSTEMS);
     }
-    best
+    MOVES
 }

@@ -1,10 +1,10 @@
 -- The tests of a move, by their cases. Assumes nothing.
 use Prim.Native.Nat.{ℕ, _≤_, _<_}
-use mathlib.Core.Path.{_≡_, sym, ap, _∙_}
-use mathlib.Core.Bool.{Bool, true, false, not}
+use mathlib.Core.Path.{_≡_, ap}
+use mathlib.Core.Bool.{true, false, not}
 use mathlib.Core.List.{List}
 use lib.Dec.{leb, ltb, eqb}
-use borrow.Author.Tests.{le-leb, lt-leb, lt-ltb, le-ltb, eq-eqb, ne-eqb, leb-true, ltb-true, eqb-false, not-true}
+use borrow.Author.Tests.{le-leb, lt-leb, leb-true, ltb-true, eqb-false, not-true}
 use Rattle.systems.specs.Systems.{hasOf}
 use Rattle.split.specs.Split.{cellOf, systemOf, partsOf}
 use Rattle.split.specs.Move.{MOVES, componentOf, giverOf, takerOf, betweenOf, affordsOf, lowersOf, canOf}
@@ -17,30 +17,6 @@ pub record Fit (ch : List ℕ) (k : ℕ) (a : List ℕ) (d m : ℕ) : Type 0 whe
   pub affords : affordsOf ch a d m ≡ true
 
 module _ (ch : List ℕ) (k m : ℕ) where
-  pub no-giver : k ≤ giverOf m → false ≡ betweenOf ch k m
-  unfolding betweenOf
-  no-giver h = rw (le-ltb (giverOf m) k h, betweenOf)
-
-  pub no-taker : giverOf m < k → k ≤ takerOf m → false ≡ betweenOf ch k m
-  unfolding betweenOf
-  no-taker h l = rw (lt-ltb (giverOf m) k h, le-ltb (takerOf m) k l, betweenOf)
-
-  pub no-move : giverOf m < k → takerOf m < k → giverOf m ≡ takerOf m → false ≡ betweenOf ch k m
-  unfolding betweenOf
-  no-move h l e = rw (lt-ltb (giverOf m) k h, lt-ltb (takerOf m) k l, eq-eqb (giverOf m) (takerOf m) e, betweenOf)
-
-  module _ (h : giverOf m < k) (l : takerOf m < k) (n : giverOf m ≡ takerOf m → ⊥) (system : ℕ) (b : Bool) (e : system ≡ systemOf ch (giverOf m)) (f : b ≡ hasOf system (componentOf m)) where
-    has-is : b ≡ hasOf (systemOf ch (giverOf m)) (componentOf m)
-    has-is = f ∙ ap (λ s. hasOf s (componentOf m)) e
-
-    pub no-has : b ≡ false → false ≡ betweenOf ch k m
-    unfolding betweenOf
-    no-has u = rw (lt-ltb (giverOf m) k h, lt-ltb (takerOf m) k l, ne-eqb (giverOf m) (takerOf m) n, sym has-is ∙ u, betweenOf)
-
-    pub between-is : (system′ : ℕ) (b′ : Bool) → system′ ≡ systemOf ch (takerOf m) → b′ ≡ hasOf system′ (componentOf m) → b ≡ true → b′ ≡ betweenOf ch k m
-    unfolding betweenOf
-    between-is system′ b′ e′ f′ u = rw (lt-ltb (giverOf m) k h, lt-ltb (takerOf m) k l, ne-eqb (giverOf m) (takerOf m) n, sym has-is ∙ u, betweenOf) (f′ ∙ ap (λ s. hasOf s (componentOf m)) e′)
-
   -- what is so of a move between two rows
   pub record Between : Type 0 where
     pub from : giverOf m < k
@@ -82,14 +58,6 @@ module _ (ch : List ℕ) (k m : ℕ) where
       had = leb-true d (cellOf a (giverOf m) (componentOf m)) (both-left (leb d (cellOf a (giverOf m) (componentOf m))) _ e);
       kept = ltb-true d (partsOf ch a (giverOf m)) (both-right (leb d (cellOf a (giverOf m) (componentOf m))) _ e);
     }
-
-    pub not-between : betweenOf ch k m ≡ false → false ≡ canOf ch k a d m
-    unfolding canOf
-    not-between e = rw (e, canOf)
-
-    pub not-affords : betweenOf ch k m ≡ true → affordsOf ch a d m ≡ false → false ≡ canOf ch k a d m
-    unfolding canOf
-    not-affords e f = rw (e, f, canOf)
 
     pub can-is : betweenOf ch k m ≡ true → affordsOf ch a d m ≡ true → lowersOf ch k a d m ≡ canOf ch k a d m
     unfolding canOf
