@@ -43,8 +43,8 @@ module _ (x : Answer) (w : ℤ) (s r : ℕ) (e : x ≡ Rated w s r) where
   )
 
 module _ (x : Answer) (number place : ℕ) (e : x ≡ Refused number place) where
-  pub put-refused : (l : List ℤ) → (reply number place ≡ replyOf x) × (l ≡ figuresOf x l)
-  put-refused l = (sym (ap replyOf e), sym (ap (λ (y : Answer). figuresOf y l) e))
+  pub put-refused : (o : Reply) → o ≡ reply number place → (l : List ℤ) → (o ≡ replyOf x) × (l ≡ figuresOf x l)
+  put-refused o q l = (q ∙ sym (ap replyOf e), sym (ap (λ (y : Answer). figuresOf y l) e))
 
   pub left : {A : Type 0} → (new old : A) → old ≡ heldOf x new old
   left new old = sym (ap (λ (y : Answer). heldOf y new old) e)

@@ -48,6 +48,13 @@ pub extern "C" fn saugrinte_version() -> u32
     VERSION
 }
 
+// A refusal's reply.
+fn refused(number: u32, place: u32) -> Reply
+    ensures { λ r. ⌜ r ≡ reply number place ⌝ }
+{
+    Reply { number, place }
+}
+
 // The rating of a sheet, with figures that fit.
 fn rated(sheet: &[u8]) -> Outcome
     ensures { λ r. ⌜ (r ≡ sheetOutcome (now (sheet .entry)) (codeOf (r .answer)))
@@ -90,7 +97,7 @@ fn put_figures(answer: Answer, figures: &mut [i64; FIGURES]) -> Reply
                 place: 0,
             }
         }
-        Answer::Refused { number, place } => Reply { number, place },
+        Answer::Refused { number, place } => refused(number, place),
     }
 }
 
@@ -254,13 +261,6 @@ pub extern "C" fn saugrinte_partial_number(
         }
         Partial::Refused(refusal) => refused(refusal, 0),
     }
-}
-
-// A refusal's reply.
-fn refused(number: u32, place: u32) -> Reply
-    ensures { λ r. ⌜ r ≡ reply number place ⌝ }
-{
-    Reply { number, place }
 }
 
 // Reads a sheet.
