@@ -29,19 +29,23 @@ module _ (x : Answer) (w : ℤ) (s r : ℕ) (e : x ≡ Rated w s r) where
   rating-back : SmallFigures x → toZ w64 (ofZ w64 w) ≡ w
   rating-back h = let z = small h in toZ-ofZ w64 w (record { sfits = omega (arith, z .0, mag-le w) })
 
-  pub put-rated : SmallFigures x → SFits w64 (pos r) → (l : List ℤ)
-      → (reply 0 0 ≡ replyOf x) × (toZ w64 (ofZ w64 w) ∷ toZ w64 s ∷ toZ w64 r ∷ [] ≡ figuresOf x l)
-  put-rated h few l = (
-    sym (ap replyOf e),
-    ap (λ (z : ℤ). z ∷ toZ w64 s ∷ toZ w64 r ∷ []) (rating-back h)
-        ∙ ap (λ (z : ℤ). w ∷ z ∷ toZ w64 r ∷ []) (toZ-ofZ w64 (pos s) (spread-fits h))
-        ∙ ap (λ (z : ℤ). w ∷ pos s ∷ z ∷ []) (toZ-ofZ w64 (pos r) few)
-        ∙ sym (ap (λ (y : Answer). figuresOf y l) e),
-  )
+  pub figures-put : SmallFigures x → SFits w64 (pos r) → (l : List ℤ)
+      → toZ w64 (ofZ w64 w) ∷ toZ w64 s ∷ toZ w64 r ∷ [] ≡ figuresOf x l
+  figures-put h few l =
+      ap (λ (z : ℤ). z ∷ toZ w64 s ∷ toZ w64 r ∷ []) (rating-back h)
+      ∙ ap (λ (z : ℤ). w ∷ z ∷ toZ w64 r ∷ []) (toZ-ofZ w64 (pos s) (spread-fits h))
+      ∙ ap (λ (z : ℤ). w ∷ pos s ∷ z ∷ []) (toZ-ofZ w64 (pos r) few)
+      ∙ sym (ap (λ (y : Answer). figuresOf y l) e)
+
+  pub reply-done : reply 0 0 ≡ replyOf x
+  reply-done = sym (ap replyOf e)
 
 module _ (x : Answer) (number place : ℕ) (e : x ≡ Refused number place) where
-  pub put-refused : (l : List ℤ) → (reply number place ≡ replyOf x) × (l ≡ figuresOf x l)
-  put-refused l = (sym (ap replyOf e), sym (ap (λ (y : Answer). figuresOf y l) e))
+  pub reply-refused : reply number place ≡ replyOf x
+  reply-refused = sym (ap replyOf e)
+
+  pub figures-left : (l : List ℤ) → l ≡ figuresOf x l
+  figures-left l = sym (ap (λ (y : Answer). figuresOf y l) e)
 
   pub left : {A : Type 0} → (new old : A) → old ≡ heldOf x new old
   left new old = sym (ap (λ (y : Answer). heldOf y new old) e)

@@ -48,6 +48,13 @@ pub extern "C" fn saugrinte_version() -> u32
     VERSION
 }
 
+// A refusal's reply.
+fn refused(number: u32, place: u32) -> Reply
+    ensures { λ r. ⌜ r ≡ reply number place ⌝ }
+{
+    Reply { number, place }
+}
+
 // The rating of a sheet, with figures that fit.
 fn rated(sheet: &[u8]) -> Outcome
     ensures { λ r. ⌜ (r ≡ sheetOutcome (now (sheet .entry)) (codeOf (r .answer)))
@@ -73,24 +80,36 @@ fn proposed(amounts: [u32; CODES], split: Split) -> Answer
     rating::rate_split(Analysis { amounts }, split)
 }
 
-// The figures of a rating; a refusal leaves them.
-fn put_figures(answer: Answer, figures: &mut [i64; FIGURES]) -> Reply
-    requires { ⌜ SmallFigures answer ⌝ }
-    ensures { λ r. ⌜ (r ≡ replyOf answer) × (now (figures .exit) ≡ figuresOf answer (now (figures .entry))) ⌝ }
+// The reply of a rating, or of its refusal.
+fn reply_of(answer: Answer) -> Reply
+    ensures { λ r. ⌜ r ≡ replyOf answer ⌝ }
 {
     match answer {
         Answer::Rated {
-            rating,
-            spread,
-            rounds,
-        } => {
-            *figures = [rating, spread as i64, rounds as i64];
-            Reply {
-                number: 0,
-                place: 0,
-            }
-        }
+            rating: _,
+            spread: _,
+            rounds: _,
+        } => Reply {
+            number: 0,
+            place: 0,
+        },
         Answer::Refused { number, place } => Reply { number, place },
+    }
+}
+
+// The figures of a rating; a refusal leaves them.
+fn put_figures(answer: Answer, figures: &mut [i64; FIGURES])
+    requires { ⌜ SmallFigures answer ⌝ }
+    ensures { λ _. ⌜ now (figures .exit) ≡ figuresOf answer (now (figures .entry)) ⌝ }
+{
+    if let Answer::Rated {
+        rating,
+        spread,
+        rounds,
+    } = answer {
+        let signed_spread = spread as i64;
+        let signed_rounds = rounds as i64;
+        *figures = [rating, signed_spread, signed_rounds];
     }
 }
 
@@ -144,7 +163,8 @@ fn put_outcome(
     let answer = x.answer;
     let split = x.split;
     put_split(answer, split, count, systems, codes, parts);
-    put_figures(answer, figures)
+    put_figures(answer, figures);
+    reply_of(answer)
 }
 
 // Rates a sheet.
@@ -227,8 +247,9 @@ pub extern "C" fn saugrinte_rate_split(
 {
     let split = split_from(count, systems, codes, parts);
     let gas = *amounts;
-    let answer = proposed(gas, split);
-    put_figures(answer, figures)
+    let rated = proposed(gas, split);
+    put_figures(rated, figures);
+    reply_of(rated)
 }
 
 // The partial number of a system.
@@ -254,13 +275,6 @@ pub extern "C" fn saugrinte_partial_number(
         }
         Partial::Refused(refusal) => refused(refusal, 0),
     }
-}
-
-// A refusal's reply.
-fn refused(number: u32, place: u32) -> Reply
-    ensures { λ r. ⌜ r ≡ reply number place ⌝ }
-{
-    Reply { number, place }
 }
 
 // Reads a sheet.

@@ -19,19 +19,25 @@ proposed-requires c κs = search needs
 put-figures-requires : tie.Need-put-figures-requires
 put-figures-requires c κs = search needs
 
+reply-of-requires : tie.Need-reply-of-requires
+reply-of-requires c κs = search needs
+
 returns : tie.Need-returns
 returns c =
-    let s = c .before .before .proposed in
-    let x = c .before .before .before .before .before .args in
+    let b = c .before .before .before in
+    let s = b .proposed in
+    let x = b .before .before .before .args in
     let p = splitFrom (x .count) (x .systems .now) (x .codes .now) (x .parts .now) in
-    let h = s .ensures .0 ∙ ap (λ (y : Split). splitAnswer (x .amounts .now) y (codeOf (s .result))) (c .before .before .before .before .split-from .ensures) in
-    let e = c .put-figures .ensures .0 in (
+    let h = s .ensures .0 ∙ ap (λ (y : Split). splitAnswer (x .amounts .now) y (codeOf (s .result))) (b .before .before .split-from .ensures) in
+    let e = c .reply-of .ensures in (
       (
         reply-is (splitAnswer (x .amounts .now) p) _ h _ e,
-        figures-are (splitAnswer (x .amounts .now) p) _ h _ e _ _ (c .put-figures .ensures .1),
+        figures-are (splitAnswer (x .amounts .now) p) _ h _ e _ _ (c .before .put-figures .ensures),
       ),
       fault-at (s .result) _ e (AtFault (x .amounts .now)) (s .ensures .1),
     )
 
 pub saugrinte-rate-split-spec : {M : Type 1} → statement M
-saugrinte-rate-split-spec = tie.close (tie.spec split-from-requires proposed-requires put-figures-requires returns)
+saugrinte-rate-split-spec =
+    tie.close
+    (tie.spec split-from-requires proposed-requires put-figures-requires reply-of-requires returns)
