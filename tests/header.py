@@ -75,8 +75,12 @@ def main():
     if re.search(r'\[(?!SAUGRINTE_CODES\]|SAUGRINTE_RECORDS\]|k\]|i\])', header):
         fail('an array without its named size')
 
-    # refusals: README has document 01's table
+    # refusals: README has document 01's table, and the register its words
     words = {int(n): w for n, w in re.findall(r'^\| ([0-9]+) \| ([a-z ]+) \|', text('README.md'), re.M)}
+    register = text('crates', 'refusal', 'specs', 'Register.antt')
+    entries = [(upper(w), name) for name, w in re.findall(r'^    entry ([A-Z_]+) "([a-z ]+)"', register, re.M)]
+    if [w for w, _ in entries] != [name for _, name in entries] or {w for w, _ in entries} != set(map(upper, words.values())):
+        fail("the words of the register of refusals are not document 01's")
     if refusals.pop('DONE') != 0 or refusals != {upper(w): n for n, w in words.items()}:
         fail('other refusals than in README.md: %s' % refusals)
     for name, n in refusals.items():

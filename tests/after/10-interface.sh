@@ -2,13 +2,14 @@
 # The C interface: builds the library's archive, compiles the driver and the example against it with the header, and
 # compares the header's constants with the sources, its version with the library's, and what the example prints.
 # SAUGRINTE_LIB names another archive or a C file to take in the archive's place. The driver gets its name once it is
-# whole: the other tests wait for it, or for a file `failed`. So does a second driver, `plain`, of the plain C program.
+# whole: the other tests wait for it, or for a file `failed`. So do the drivers of
+# the plain C program, `plain` and, with the library's ideas in its search, `kept`.
 set -euo pipefail
 cd "$(dirname "$0")/../.."
 
 out=target/interface
 mkdir -p "$out"
-rm -f "$out/failed" "$out/driver" "$out/plain"
+rm -f "$out/failed" "$out/driver" "$out/plain" "$out/kept"
 trap 'status=$?; [ "$status" -eq 0 ] || touch "$out/failed"; exit "$status"' EXIT
 lib=${SAUGRINTE_LIB:-target/staticlib/libsaugrinte.a}
 if [ -z "${SAUGRINTE_LIB:-}" ]; then
@@ -20,6 +21,8 @@ gcc -O3 $warnings -Iinclude tests/driver.c "$lib" -o "$out/driver.new"
 mv "$out/driver.new" "$out/driver"
 gcc -O3 $warnings -Iinclude tests/driver.c tests/plain/saugrinte.c -o "$out/plain.new"
 mv "$out/plain.new" "$out/plain"
+gcc -O3 $warnings -DKEPT -Iinclude tests/driver.c tests/plain/saugrinte.c -o "$out/kept.new"
+mv "$out/kept.new" "$out/kept"
 gcc -O3 $warnings -Iinclude examples/rate.c "$lib" -o "$out/rate-example"
 echo '#include "saugrinte.h"' | g++ -x c++ -fsyntax-only -Wall -Wextra -Werror -Iinclude -
 

@@ -5,6 +5,7 @@ use mathlib.Core.List.{List, [], _∷_}
 use mathlib.Core.Bool.{Bool, true, false}
 use Prim.Native.Nat.{ℕ}
 use lib.Dec.{eqb}
+use lib.ListN.{take}
 use Rattle.refusal.specs.Keys.{distinct, rising}
 
 -- a code is live, with the least and the greatest amount in parts and whether it must be present; or retired; or legal in
@@ -102,3 +103,9 @@ retired-for-ever = (refl, refl)
 -- and no other key is
 pub none-else-retired : retiredIn register ≡ 9 ∷ 13 ∷ []
 none-else-retired = refl
+
+-- the first fourteen are document 01's for ever, 14 in splits only: a request adds to them
+pub keys-kept : (take 14 (keysOf register) ≡ 1 ∷ 2 ∷ 3 ∷ 4 ∷ 5 ∷ 6 ∷ 7 ∷ 8 ∷ 9 ∷ 10 ∷ 11 ∷ 12 ∷ 13 ∷ 14 ∷ [])
+    × (statusOf 14 ≡ splitsOnly)
+unfolding statusOf
+keys-kept = (refl, refl)

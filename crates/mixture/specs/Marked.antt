@@ -10,7 +10,7 @@ use Rattle.mixture.specs.Inert.{methaneShare, inertOf}
 
 -- the gas of 001 Table A.1, by codes
 abbrev pub tableA1 : List ℕ
-tableA1 = 0 ∷ 970797 ∷ 16658 ∷ 2417 ∷ 346 ∷ 245 ∷ 11 ∷ 73 ∷ 125 ∷ 0 ∷ 84 ∷ 528 ∷ 8715 ∷ 0 ∷ []
+tableA1 = 0 ∷ 970797 ∷ 16658 ∷ 2417 ∷ 346 ∷ 245 ∷ 11 ∷ 73 ∷ 125 ∷ 0 ∷ 84 ∷ 528 ∷ 8715 ∷ 0 ∷ 0 ∷ 0 ∷ []
 
 pub total : totalOf tableA1 ≡ 999999
 total = refl
@@ -21,13 +21,13 @@ marked = (refl, refl)
 
 -- equal remainders of ethane and propane, of which one gets a part
 pub equal-remainders :
-    simplifiedOf (0 ∷ 856641 ∷ 19981 ∷ 19981 ∷ 18632 ∷ 19263 ∷ 0 ∷ 0 ∷ 0 ∷ 0 ∷ 0 ∷ 65502 ∷ 0 ∷ 0 ∷ [])
+    simplifiedOf (0 ∷ 856641 ∷ 19981 ∷ 19981 ∷ 18632 ∷ 19263 ∷ 0 ∷ 0 ∷ 0 ∷ 0 ∷ 0 ∷ 65502 ∷ 0 ∷ 0 ∷ 0 ∷ 0 ∷ [])
     ≡ 916686 ∷ 21382 ∷ 21381 ∷ 40551 ∷ []
 unfolding greatestTo distributed scaledOf tenthsOf
 equal-remainders = refl
 
 -- n1 at a half
 pub half-up :
-    inertOf (0 ∷ 913669 ∷ 145 ∷ 170 ∷ 10 ∷ 10 ∷ 0 ∷ 0 ∷ 0 ∷ 0 ∷ 0 ∷ 85932 ∷ 0 ∷ 0 ∷ []) ≡ 914063 ∷ 85937 ∷ 0 ∷ []
+    inertOf (0 ∷ 913669 ∷ 145 ∷ 170 ∷ 10 ∷ 10 ∷ 0 ∷ 0 ∷ 0 ∷ 0 ∷ 0 ∷ 85932 ∷ 0 ∷ 0 ∷ 0 ∷ 0 ∷ []) ≡ 914063 ∷ 85937 ∷ 0 ∷ []
 unfolding tenthsOf methaneShare
 half-up = refl

@@ -32,9 +32,10 @@ use Rattle.mixture.specs.Inert.{inertFirst}
 use Rattle.systems.specs.Systems.{COMPONENTS, memberOf}
 use Rattle.systems.specs.Chosen.{choice-choosable}
 use Rattle.split.specs.Fold.{sumTo}
-use Rattle.split.specs.Split.{cellOf, systemOf, cellsOf, partsOf, columnOf, numberAt}
+use Rattle.split.specs.Split.{cellOf, systemOf, componentAt, cellsOf, partsOf, columnOf, numberAt}
 use Rattle.split.specs.Rating.{spreadOf, ratingOf}
 use Rattle.split.specs.Exact.{exactRating}
+use Rattle.split.specs.Places.{components-rise}
 use Rattle.split.specs.Spread.{near-spread}
 use Rattle.split.specs.Fits.{Fit}
 use Rattle.split.specs.Rated.{IsRated, fit-rated, rated-fit}
@@ -65,6 +66,16 @@ proposal a xs = record {
   codes = codesOf (systemsFor a) (countFor a);
   amounts = xs;
 }
+
+-- the chosen systems rise, and so do the components of each one's three records
+pub records-rise : (a : List ℕ)
+    → ((i j : ℕ) → i < j → j < countFor a → systemOf (systemsFor a) i < systemOf (systemsFor a) j)
+    × ((s : ℕ) → s < countFor a
+    → (componentAt (systemOf (systemsFor a) s) 0 < componentAt (systemOf (systemsFor a) s) 1)
+    × (componentAt (systemOf (systemsFor a) s) 1 < componentAt (systemOf (systemsFor a) s) 2))
+records-rise a =
+    let x = choice-choosable (simplifiedOf a) in
+    (x .rising, λ s l. components-rise (systemOf (systemsFor a) s) (x .known s l))
 
 -- a split has these records: as many, each of the system and of the code expected of it
 pub record Expected (a : List ℕ) (p : Split) : Type 0 where

@@ -1,4 +1,5 @@
 pub mod Records
+pub mod SplitCodes
 pub mod Rate
 pub mod Given
 pub mod Ready

@@ -20,6 +20,7 @@ use analysis::Analysis;
 use analysis::CODES;
 use controller::ControllerRecord;
 use rating::Outcome;
+use refusal::OUT_OF_RANGE;
 use sheet::RECORDS;
 use sheet::Reading;
 use sheet::Split;
@@ -325,7 +326,7 @@ fn read_refused(number: u32, place: u32, code: u32) -> Reply
 {
     Reply {
         number,
-        place: if number == 5 { code } else { place },
+        place: if number == OUT_OF_RANGE { code } else { place },
     }
 }
 

@@ -3,7 +3,7 @@
 use mathlib.Core.Path.{_≡_, refl, ap, sym, _∙_, subst}
 use mathlib.Core.List.{List, [], _∷_, _++_, append-nil}
 use mathlib.Core.Bool.{Bool, true, false}
-use Prim.Native.Nat.{ℕ, zero, suc, _+_, _-_, _*_, _≤_}
+use Prim.Native.Nat.{ℕ, zero, suc, _+_, _-_, _*_, _≤_, _<_}
 use native.Mathlib.Omega.{arith}
 use lib.ListN.{length, getD, take, drop, replicate, length-append}
 use lib.Seq.{length-take-le, drop-length, getD-at, drop-at, take-at}
@@ -12,17 +12,19 @@ use borrow.Author.Tests.{eqb-true, eqb-false}
 use Rattle.analysis.specs.Register.{CODES, statusOf, ifElse}
 use Rattle.analysis.specs.Check.{greatestOf, inRange, allInRange, refusalOf}
 use Rattle.analysis.specs.Ranges.{passed-ranges}
-use Rattle.sheet.specs.declared.Reading.the-variants.{Read}
-use Rattle.sheet.specs.declared.Sections.the-variants.{Both}
+use Rattle.refusal.specs.Register.{TORN}
+use Rattle.sheet.specs.declared.Reading.the-variants.{Read, Refused}
+use Rattle.sheet.specs.declared.Sections.{Sections}
+use Rattle.sheet.specs.declared.Sections.the-variants.{Torn, Both}
 use Rattle.sheet.specs.declared.Sheet.{Sheet}
 use Rattle.sheet.specs.declared.Split.{Split}
 use Rattle.sheet.specs.declared.Written.the-variants as w
 use Rattle.sheet.specs.Components.{codesReading, amountsFrom, zeroListed, countOf, componentBytes}
 use Rattle.sheet.specs.Split.{RECORDS, allowedCount, splitBytes, byteColumn, amountColumn, padded, splitAt, trimmed}
 use Rattle.sheet.specs.Sheet.{LISTED, SHEET, sheetOf, sectionsOf}
-use Rattle.sheet.specs.Read.{amountsOf, amountsRefusal, contentOf, readOf}
+use Rattle.sheet.specs.Read.{amountsOf, amountsRefusal, refusedSheet, contentOf, readOf}
 use Rattle.sheet.specs.Write.{writeRefusal, writtenOf, leftOf}
-use Rattle.sheet.specs.Cases.{both-true, allowed-most, allowed-room, Sectioned, sectioned, sections-both, read-good, Whole, read-whole, amounts-checked, amounts-back, length-components, length-sheet, number-none, number-back, written-length, written-back, left-sheet}
+use Rattle.sheet.specs.Cases.{both-true, allowed-most, allowed-room, Sectioned, sectioned, sections-both, read-torn, read-good, Whole, read-whole, amounts-checked, amounts-back, length-components, length-sheet, number-none, number-back, written-length, written-back, left-sheet}
 use Rattle.sheet.specs.Back.{unlisted, codes-back, zero-back, amounts-filled, rest-here, cut, cut-take, split-back}
 use Rattle.sheet.specs.Forth.{Bytes, one, Filled, filled-forth, split-forth, column-forth, length-byte-column, length-amount-column}
 
@@ -68,6 +70,18 @@ longest-read s code h =
     let n = g .few in
     let m = allowed-most (x .m) (g .allowed) in
     omega (arith, g .size)
+
+-- so a longer one is torn, whatever its bytes are
+pub longer-torn : (s : List ℕ) (code : ℕ) → SHEET < length s → readOf s code ≡ refusedSheet (Refused TORN 0 0)
+longer-torn s code h = by (sectionsOf s) refl
+  where
+    by : (x : Sections) → sectionsOf s ≡ x → readOf s code ≡ refusedSheet (Refused TORN 0 0)
+    by Torn e = read-torn s code e
+    by (Both n m first) e =
+        let g = sectioned s e in
+        let few = g .few in
+        let most = allowed-most m (g .allowed) in
+        absurd (omega (arith, g .size))
 
 -- ---- a split's places that are not used
 

@@ -57,3 +57,21 @@ module _ (system : ℕ) (cand : Candidate system) (j : ℕ) (low : j < 3) where
   pub rank-component : rankOf system (componentAt system j) ≡ j
   unfolding filled
   rank-component = eqb→eq (rankOf system (componentAt system j)) j (and-r (hasOf system (componentAt system j)) _ (and-r (ltb (componentAt system j) COMPONENTS) _ at-test))
+
+-- the components of a system's three records rise: methane, ethane, propane, butane as contained
+rises : ℕ → Bool
+rises system = ltb (componentAt system 0) (componentAt system 1) && ltb (componentAt system 1) (componentAt system 2)
+
+module _ (system : ℕ) (cand : Candidate system) where
+  rise-test : T (rises system)
+  unfolding rises hasOf memberOf rankOf componentAt sumTo first
+  rise-test = each-candidate rises tt system cand
+
+  pub components-rise : (componentAt system 0 < componentAt system 1) × (componentAt system 1 < componentAt system 2)
+  unfolding rises
+  components-rise = (
+    ltb→lt (componentAt system 0) (componentAt system 1)
+        (and-l (ltb (componentAt system 0) (componentAt system 1)) _ rise-test),
+    ltb→lt (componentAt system 1) (componentAt system 2)
+        (and-r (ltb (componentAt system 0) (componentAt system 1)) _ rise-test),
+  )
