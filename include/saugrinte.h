@@ -24,8 +24,8 @@
 
    Platform: the archive is for x86-64 Linux with its usual calling convention; the toolchain makes no other.
    Stack, measured: saugrinte_rate and saugrinte_search 4 KiB, saugrinte_rate_split 2 KiB, all others 1 KiB at most.
-   Longest call, measured on an Intel Xeon (family 6, model 173): 1.5 ms for saugrinte_rate and saugrinte_search, of a
-   gas whose search uses all 4000 rounds; all others 1 microsecond. tests/bench/limits.c measures both. */
+   Longest call of the sheets in tests/data, measured on an Intel Xeon (family 6, model 173): 0.5 ms for saugrinte_rate
+   and saugrinte_search, of a gas whose search uses all 4000 rounds; all others 1 microsecond. tests/bench/limits.c measures both. */
 #ifndef SAUGRINTE_H
 #define SAUGRINTE_H
 
