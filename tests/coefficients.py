@@ -2,7 +2,7 @@
 """Compares the coefficients of the five systems, in units, with the decimals printed in the papers.
 
 tests/data/coefficients.txt holds the printed decimals. Each is read exactly, multiplied by 100^(k+l) * 10^7, and must be a
-whole count of units: the figure in specs/Coefficients.antt and in src/coefficients.rt of the crate ternary.
+whole count of units: the figure in specs/Coefficients.antt of the crate formula and in src/coefficients.rt of the crate ternary.
 Exit status 1 and a message where a figure differs, is missing, or stands there in excess."""
 import os
 import re
@@ -11,7 +11,7 @@ from decimal import Decimal, localcontext
 
 ROOT = os.path.dirname(os.path.dirname(os.path.abspath(__file__)))
 DATA = 'tests/data/coefficients.txt'
-SPEC = 'crates/ternary/specs/Coefficients.antt'
+SPEC = 'crates/formula/specs/Coefficients.antt'
 CODE = 'crates/ternary/src/coefficients.rt'
 
 SYSTEMS = [2, 4, 7, 8, 20]

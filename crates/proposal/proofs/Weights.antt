@@ -12,7 +12,7 @@ use lib.ListN.{getD}
 use lib.Signed.{quotZ}
 use borrow.Author.Tests.{lt-ltb, le-ltb}
 use Rattle.integer.specs.Ring.{natAbs-+, natAbs-*}
-use Rattle.ternary.specs.WorkingRule.{LARGEST}
+use Rattle.formula.specs.WorkingRule.{LARGEST}
 use Rattle.split.specs.Fold.{sumTo, sumToZ}
 use Rattle.split.specs.Rating.{spreadOf, inertNumber}
 use Rattle.split.specs.declared.Answer.the-variants.{Rated, Refused}

@@ -3,7 +3,7 @@ ghost use mathlib.Core.Path.{_≡_};
 ghost use Prim.Native.Nat.{_+_, _*_, _<_, _≤_};
 ghost use lib.IntN.{ℤ, pos, negsuc, natAbs, _+ℤ_, _*ℤ_};
 ghost use lib.Signed.{quotZ};
-ghost use Rattle.ternary.specs.WorkingRule.{LARGEST};
+ghost use Rattle.formula.specs.WorkingRule.{LARGEST};
 ghost use Rattle.systems.specs.Systems.{COMPONENTS};
 ghost use Rattle.split.specs.Split.{SYSTEMS, columnOf, Stock};
 ghost use Rattle.split.specs.Rating.{resums, spreadOf, inertNumber};

@@ -21,7 +21,7 @@ use native.Mathlib.Omega.{arith}
 use lib.IntN.{ℤ, natAbs, _-ℤ_}
 use lib.ListN.{getD, length}
 use Rattle.integer.specs.Fraction.{Fraction, Within}
-use Rattle.ternary.specs.Partial.{partialNumber}
+use Rattle.formula.specs.Partial.{partialNumber}
 use Rattle.analysis.specs.Register.{CODES}
 use Rattle.analysis.specs.Check.{refusalOf}
 use Rattle.sheet.specs.Read.{readOf}

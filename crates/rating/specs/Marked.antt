@@ -3,7 +3,7 @@ use mathlib.Core.Path.{_≡_, refl, ap, _∙_}
 use mathlib.Core.List.{List, [], _∷_}
 use Prim.Native.Nat.{ℕ}
 use lib.ListN.{length}
-use Rattle.ternary.specs.Marked.{MarkedNumbers, marked-numbers}
+use Rattle.formula.specs.Marked.{MarkedNumbers, marked-numbers}
 use Rattle.whole.specs.Marked.{MarkedWholes, marked-wholes}
 use Rattle.analysis.specs.Check.{totalOf}
 use Rattle.mixture.specs.Simplification.{simplifiedOf}

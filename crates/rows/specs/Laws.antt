@@ -15,7 +15,7 @@ use lib.ListN.{length, getD, set, length-set, replicate, length-replicate, getD-
 use lib.Seq.{getD-set-same, getD-set-other, ext-getD}
 use borrow.Author.Tests.{ltb-true, ltb-false, lt-ltb, le-leb, lt-leb, leb-true}
 use borrow.Author.Count.{below-more}
-use Rattle.ternary.specs.Partial.{partialNumber, partial-small}
+use Rattle.formula.specs.Partial.{partialNumber, partial-small}
 use Rattle.ternary.specs.Answer.{isIn, isSystem, isMixture, mixture-yes, partialOf, partial-is, partial-12}
 use Rattle.ternary.specs.declared.Partial.{Partial}
 use Rattle.ternary.specs.declared.Partial.the-variants.{Number, Refused}

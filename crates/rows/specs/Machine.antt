@@ -9,7 +9,7 @@ use mir.Syntax.{w64}
 use mir.Val.{toZ, ofZ}
 use Rattle.integer.specs.Bits.{back}
 use mathlib.Core.List.{List}
-use Rattle.ternary.specs.WorkingRule.{LARGEST}
+use Rattle.formula.specs.WorkingRule.{LARGEST}
 use Rattle.rows.specs.Rows.{listed, Small}
 
 -- elements of a list of values, from their bits

@@ -13,7 +13,7 @@ use mir.Val.{SFits, Fits, toZ, ofZ}
 use Rattle.integer.specs.Ring.{natAbs--}
 use Rattle.integer.specs.Normal.{X, _⊕_, ⊖, solve, env}
 use Rattle.integer.specs.Order.{≤ℤ-diff, ≤ℤ-trans}
-use Rattle.ternary.specs.WorkingRule.{LARGEST}
+use Rattle.formula.specs.WorkingRule.{LARGEST}
 use Rattle.split.specs.Fold.{greatestTo, leastTo}
 use Rattle.split.specs.Rating.{spreadOf}
 use Rattle.split.specs.Spread.{at-most, at-least, greatest-in, least-in}

@@ -9,8 +9,8 @@ use lib.IntN.{ℤ, natAbs}
 use mir.Syntax.{w64}
 use mir.Val.{toZ, ofZ}
 use borrow.Author.Tests.{eq-eqb, ne-eqb, eqb-true, eqb-false}
-use Rattle.ternary.specs.WorkingRule.{LARGEST}
-use Rattle.ternary.specs.Partial.{partial-small}
+use Rattle.formula.specs.WorkingRule.{LARGEST}
+use Rattle.formula.specs.Partial.{partial-small}
 use Rattle.systems.specs.Systems.{COMPONENTS, memberOf, hasOf}
 use Rattle.systems.specs.Members.{has-cases}
 use Rattle.split.specs.Folds.{sum-same}

@@ -6,8 +6,8 @@ use native.Mathlib.Omega.{arith}
 use lib.IntN.{ℤ, pos, natAbs}
 use mir.Syntax.{w64}
 use mir.Val.{toZ, ofZ}
-use Rattle.ternary.specs.WorkingRule.{LARGEST}
-use Rattle.ternary.specs.Partial.{partialNumber, partial-small}
+use Rattle.formula.specs.WorkingRule.{LARGEST}
+use Rattle.formula.specs.Partial.{partialNumber, partial-small}
 use Rattle.ternary.specs.Answer.{isIn, isSystem, partialOf, partial-is}
 use Rattle.ternary.specs.declared.Partial.{Partial}
 use Rattle.ternary.specs.declared.Partial.the-variants.{Number, Refused}

@@ -13,7 +13,7 @@ use Rattle.integer.specs.Bits.{sfits-small, back}
 use Rattle.integer.specs.Ring.{natAbs-quot}
 use Rattle.integer.specs.Order.{sub-ge}
 use Rattle.integer.specs.Normal.{X, K, _⊕_, _⊗_, ⊖, solve, env}
-use Rattle.ternary.specs.WorkingRule.{LARGEST}
+use Rattle.formula.specs.WorkingRule.{LARGEST}
 use Rattle.split.specs.Fold.{sumTo}
 use Rattle.split.specs.Folds.{sum-but, sum-has}
 use Rattle.split.specs.Move.{squareOf, imbalanceOf}

@@ -11,9 +11,9 @@ use lib.Seq.{getD-set-same, getD-set-other}
 use mir.Syntax.{w64}
 use mir.Val.{toZ, ofZ}
 use borrow.Author.Tests.{eqb-true, eqb-false, eq-eqb, ne-eqb}
-use Rattle.ternary.specs.WorkingRule.{LARGEST}
+use Rattle.formula.specs.WorkingRule.{LARGEST}
 use Rattle.systems.specs.Systems.{memberOf, Candidate}
-use Rattle.ternary.specs.Partial.{partialNumber}
+use Rattle.formula.specs.Partial.{partialNumber}
 use Rattle.split.specs.Split.{SYSTEMS, cellOf, systemOf, partsOf, numberAt, Sound}
 use Rattle.split.specs.Rating.{spreadOf}
 use Rattle.split.specs.Move.{componentOf, giverOf, takerOf, movedOf}

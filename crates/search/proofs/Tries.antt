@@ -12,7 +12,7 @@ use lib.Seq.{getD-set-same, getD-set-other}
 use mir.Syntax.{w64}
 use mir.Val.{toZ, ofZ}
 use borrow.Author.Tests.{eqb-true, eqb-false, lt-ltb, le-ltb, ltb-true, ltb-false}
-use Rattle.ternary.specs.WorkingRule.{LARGEST}
+use Rattle.formula.specs.WorkingRule.{LARGEST}
 use Rattle.systems.specs.Systems.{COMPONENTS, memberOf}
 use Rattle.split.specs.Split.{SYSTEMS, CELLS, cellOf, systemOf, numberAt, Sound}
 use Rattle.split.specs.Move.{componentOf, giverOf, takerOf, movedOf}

@@ -2,7 +2,7 @@
 ghost use mathlib.Core.Path.{_≡_};
 ghost use Prim.Native.Nat.{_+_, _*_, _-_, _≤_};
 ghost use lib.IntN.{natAbs};
-ghost use Rattle.ternary.specs.WorkingRule.{LARGEST};
+ghost use Rattle.formula.specs.WorkingRule.{LARGEST};
 ghost use Rattle.rows.specs.Rows.{listed, Small};
 ghost use Rattle.search.specs.Balance.{markOf, Totalled};
 use systems::SYSTEMS;

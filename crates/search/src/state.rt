@@ -2,8 +2,8 @@
 ghost use mathlib.Core.Path.{_≡_};
 ghost use Prim.Native.Nat.{_+_, _*_, _<_, _≤_};
 ghost use lib.IntN.{natAbs};
-ghost use Rattle.ternary.specs.WorkingRule.{LARGEST};
-ghost use Rattle.ternary.specs.Partial.{partialNumber};
+ghost use Rattle.formula.specs.WorkingRule.{LARGEST};
+ghost use Rattle.formula.specs.Partial.{partialNumber};
 ghost use Rattle.systems.specs.Systems.{memberOf, Candidate};
 ghost use Rattle.split.specs.Split.{SYSTEMS, cellOf, partsOf, Stock};
 ghost use Rattle.split.specs.Rating.{spreadOf};

@@ -3,7 +3,7 @@ ghost use mathlib.Core.Path.{_≡_};
 ghost use Prim.Native.Nat.{_+_, _*_, _<_, _≤_};
 ghost use lib.IntN.{natAbs};
 ghost use lib.ListN.{length, replicate};
-ghost use Rattle.ternary.specs.WorkingRule.{LARGEST};
+ghost use Rattle.formula.specs.WorkingRule.{LARGEST};
 ghost use Rattle.systems.specs.Systems.{COMPONENTS, memberOf, Candidate};
 ghost use Rattle.split.specs.Split.{SYSTEMS, CELLS};
 ghost use Rattle.split.specs.Steps.{insteadOf, numberWith};

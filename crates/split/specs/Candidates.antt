@@ -6,7 +6,7 @@ use native.Mathlib.Omega.{arith}
 use lib.Dec.{T, ltb}
 use borrow.Author.Tests.{ltb-true, ltb-false}
 use Rattle.refusal.specs.Keys.{allIn}
-use Rattle.ternary.specs.Coefficients.{systems}
+use Rattle.formula.specs.Coefficients.{systems}
 use Rattle.systems.specs.Systems.{COMPONENTS, candidates, memberOf, elem}
 use Rattle.systems.specs.Members.{candidate-le, member-none}
 use Rattle.systems.specs.Table.{eachTo}

@@ -8,7 +8,7 @@ use native.Mathlib.Omega.{arith}
 use lib.IntN.{pos, negsuc}
 use Rattle.integer.specs.Fraction.{Fraction, whole, plus, times, over, Within, Close}
 use Rattle.integer.specs.Distance.{close, looser, close-looser, close-whole, close-plus, close-times, within-plus, within-over}
-use Rattle.ternary.specs.Partial.{exactNumber, partial-within}
+use Rattle.formula.specs.Partial.{exactNumber, partial-within}
 use Rattle.split.specs.Fold.{sumTo, sumToZ}
 use Rattle.split.specs.Split.{systemOf, amountOf, partsOf, numberAt}
 use Rattle.split.specs.Rating.{weightedOf, meanOf, inertNumber, ratingOf}

@@ -7,7 +7,7 @@ use lib.ListN.{getD}
 use lib.IntN.{ℤ, pos, negsuc, natAbs, _+ℤ_, _-ℤ_, _*ℤ_}
 use lib.Signed.{quotZ}
 use Rattle.refusal.specs.Register.{UNSUMMED, EMPTY_SYSTEM, WIDE}
-use Rattle.ternary.specs.Partial.{partialNumber}
+use Rattle.formula.specs.Partial.{partialNumber}
 use Rattle.systems.specs.Systems.{COMPONENTS}
 use Rattle.split.specs.Fold.{sumToZ, greatestTo, leastTo, allTo, someTo}
 use Rattle.split.specs.Split.{partsOf, columnOf, numberAt}

@@ -5,8 +5,8 @@ use native.Mathlib.Nat as N
 use native.Mathlib.Omega.{arith}
 use lib.IntN.{ℤ, pos, negsuc, natAbs, _+ℤ_, _*ℤ_}
 use Rattle.integer.specs.Ring.{natAbs-+, natAbs--, natAbs-*, natAbs-quot}
-use Rattle.ternary.specs.WorkingRule.{LARGEST}
-use Rattle.ternary.specs.Partial.{partial-small}
+use Rattle.formula.specs.WorkingRule.{LARGEST}
+use Rattle.formula.specs.Partial.{partial-small}
 use Rattle.split.specs.Fold.{sumTo, sumToZ}
 use Rattle.split.specs.Split.{systemOf, amountOf, partsOf, numberAt}
 use Rattle.split.specs.Rating.{spreadOf, weightedOf, meanOf, inertNumber, ratingOf}

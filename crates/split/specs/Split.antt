@@ -10,7 +10,7 @@ use mathlib.Core.Path.{_≡_}
 use lib.Dec.{ltb, eqb}
 use lib.ListN.{getD, length}
 use lib.IntN.{ℤ}
-use Rattle.ternary.specs.Partial.{partialNumber}
+use Rattle.formula.specs.Partial.{partialNumber}
 use Rattle.systems.specs.Systems.{COMPONENTS, memberOf, hasOf, Candidate}
 use Rattle.split.specs.Fold.{sumTo, first, table}
 

@@ -8,7 +8,7 @@ use lib.Dec.{eqb}
 use lib.IntN.{ℤ}
 use borrow.Author.Tests.{eqb-true, eqb-false}
 use Rattle.systems.specs.Systems.{COMPONENTS, memberOf}
-use Rattle.ternary.specs.Partial.{partialNumber}
+use Rattle.formula.specs.Partial.{partialNumber}
 use Rattle.split.specs.Split.{SYSTEMS, cellOf, systemOf, columnOf, numberAt, Sound}
 use Rattle.split.specs.Move.{MOVES, componentOf, giverOf, takerOf, movedOf}
 use Rattle.split.specs.Members.{Three}

@@ -6,7 +6,7 @@ use lib.Signed.{mag}
 use mir.Syntax.{w64}
 use mir.Val.{toZ, ofZ}
 use Rattle.integer.specs.Bits.{read-back}
-use Rattle.ternary.specs.WorkingRule.{stepZ}
+use Rattle.formula.specs.WorkingRule.{stepZ}
 
 -- a call's result that its contract says to be x
 pub result-back : {z x : ℤ} → mag z < 2 ^ 63 → z ≡ x → toZ w64 (ofZ w64 z) ≡ x

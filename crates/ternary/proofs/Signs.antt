@@ -12,7 +12,7 @@ use mir.Val.{Fits, SFits, toZ, ofZ}
 use mir.ValLaws.{toZ-ofZ, toZ-pos}
 use Rattle.integer.specs.Bits.{sfits-small}
 use Rattle.integer.specs.Ring.{natAbs-+, natAbs--, natAbs-neg}
-use Rattle.ternary.specs.WorkingRule.{stepZ, LARGEST}
+use Rattle.formula.specs.WorkingRule.{stepZ, LARGEST}
 
 -- ---- over whole numbers
 

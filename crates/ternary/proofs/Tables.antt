@@ -5,11 +5,11 @@ use mathlib.Core.List.{List}
 use Prim.Native.Nat.{ℕ, _+_, _-_, _≤_, _<_}
 use native.Mathlib.Omega.{arith}
 use lib.IntN.{ℤ}
-use Rattle.ternary.specs.WorkingRule.{worked, rowsOf}
-use Rattle.ternary.specs.Coefficients.{systems, placeIn, coeffOf}
-use Rattle.ternary.specs.Bound.{small}
+use Rattle.formula.specs.WorkingRule.{worked, rowsOf}
+use Rattle.formula.specs.Coefficients.{systems, placeIn, coeffOf}
+use Rattle.formula.specs.Bound.{small}
 use Rattle.ternary.specs.Table.{inTable, Bounded}
-use Rattle.ternary.specs.Partial.{partialNumber}
+use Rattle.formula.specs.Partial.{partialNumber}
 use Rattle.ternary.specs.Answer.{isSystem, tableOf, isMixture, refusalOf, partialOf, partial-refusal, partial-is, partial-12}
 use Rattle.ternary.specs.PartialCases.{numberOf}
 use Rattle.ternary.specs.declared.Partial.{Partial}

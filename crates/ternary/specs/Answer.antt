@@ -11,8 +11,8 @@ use Rattle.refusal.specs.Register.{NO_MIXTURE, NO_SYSTEM}
 use Rattle.ternary.specs.declared.Partial.{Partial}
 use Rattle.ternary.specs.declared.Partial.the-variants.{Number, Refused}
 use Rattle.ternary.specs.PartialCases.{numberOf}
-use Rattle.ternary.specs.Coefficients.{tables, systems, placeIn}
-use Rattle.ternary.specs.Partial.{partialNumber}
+use Rattle.formula.specs.Coefficients.{tables, systems, placeIn}
+use Rattle.formula.specs.Partial.{partialNumber}
 
 -- whether a number is in a list
 unfoldable pub isIn : List ℕ → ℕ → Bool

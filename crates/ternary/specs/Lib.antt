@@ -1,11 +1,4 @@
-pub mod WorkingRule
-pub mod Coefficients
-pub mod Error
-pub mod Size
-pub mod Bound
-pub mod Partial
 pub mod PartialCases
 pub mod Answer
 pub mod Precomputed
 pub mod Table
-pub mod Marked

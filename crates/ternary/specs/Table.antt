@@ -3,7 +3,7 @@ use mathlib.Core.List.{List}
 use Prim.Native.Nat.{ℕ, _≤_}
 use lib.IntN.{ℤ, pos}
 use lib.ListN.{getD}
-use Rattle.ternary.specs.WorkingRule.{coefs, sumAbs, LARGEST}
+use Rattle.formula.specs.WorkingRule.{coefs, sumAbs, LARGEST}
 
 abbrev pub inTable : List ℤ → ℕ → ℤ
 inTable t i = getD t i (pos 0)

@@ -5,7 +5,7 @@ ghost use Prim.Native.Nat.{_+_, _*_, _/_, _<_, _≤_};
 ghost use lib.IntN.{pos, natAbs};
 ghost use lib.Dec.{T};
 ghost use lib.Signed.{nonNeg};
-ghost use Rattle.ternary.specs.WorkingRule.{stepZ, LARGEST};
+ghost use Rattle.formula.specs.WorkingRule.{stepZ, LARGEST};
 ghost use Rattle.ternary.specs.Precomputed.{Precomputed};
 
 // 1 / d is counted in 2^63ths.

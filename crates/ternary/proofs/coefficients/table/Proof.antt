@@ -1,6 +1,6 @@
 -- `ternary::coefficients::table` meets its contract. Assumes nothing.
 use mathlib.Core.Path.{ap, sym}
-use Rattle.ternary.specs.Coefficients.{placeIn}
+use Rattle.formula.specs.Coefficients.{placeIn}
 use Rattle.ternary.specs.Answer.{tableOf}
 use Rattle.ternary.proofs.Systems.{last-system}
 use Rattle.ternary.proofs.coefficients.table.Statement.{statement}

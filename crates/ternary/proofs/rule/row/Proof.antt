@@ -5,7 +5,7 @@ use Prim.Native.Nat.{ℕ, _+_, _-_, _≤_, _<_}
 use native.Mathlib.Omega.{arith}
 use mir.Syntax.{w64}
 use mir.Val.{toZ}
-use Rattle.ternary.specs.WorkingRule.{stepZ, horner, coefs}
+use Rattle.formula.specs.WorkingRule.{stepZ, horner, coefs}
 use Rattle.ternary.specs.Table.{inTable}
 use Rattle.integer.specs.Bits.{read-back}
 use Rattle.ternary.proofs.Rows.{row-none, row-more, row-room}

@@ -5,9 +5,9 @@ use mathlib.Core.List.{List, [], _∷_, map}
 use Prim.Native.Nat.{ℕ}
 use lib.IntN.{ℤ, pos, _+ℤ_, _*ℤ_}
 use Rattle.integer.specs.Floor.{floorOver}
-use Rattle.ternary.specs.WorkingRule.{worked, rowsOf, horner, coefs}
-use Rattle.ternary.specs.Coefficients.{coeffOf, placeIn}
-use Rattle.ternary.specs.Partial.{partialNumber}
+use Rattle.formula.specs.WorkingRule.{worked, rowsOf, horner, coefs}
+use Rattle.formula.specs.Coefficients.{coeffOf, placeIn}
+use Rattle.formula.specs.Partial.{partialNumber}
 
 -- at all methane; system 2 at all propane, and at all butane
 pub record MarkedNumbers : Type 0 where

@@ -8,9 +8,9 @@ use lib.Ieee.Fits.{and-l, and-r}
 use lib.Dec.{T, leb, leb→le}
 use lib.ListN.{getD}
 use lib.IntN.{ℤ, pos, natAbs}
-use Rattle.ternary.specs.Size.{innerOf, horner-le, worked-is, inner-le}
-use Rattle.ternary.specs.WorkingRule.{coefs, sumAbs, worked, rowsOf, LARGEST}
-use Rattle.ternary.specs.Coefficients.{tables, coeff}
+use Rattle.formula.specs.Size.{innerOf, horner-le, worked-is, inner-le}
+use Rattle.formula.specs.WorkingRule.{coefs, sumAbs, worked, rowsOf, LARGEST}
+use Rattle.formula.specs.Coefficients.{tables, coeff}
 
 size : List ℤ → ℕ
 size t = sumAbs (coefs (λ (i : ℕ). getD t i (pos 0)) 0 20)

@@ -8,7 +8,7 @@ use lib.IntN.{ℤ, pos, negℤ, natAbs, _*ℤ_}
 use lib.Signed.{quotZ}
 use lib.ListN.{getD}
 use Rattle.integer.specs.Ring.{natAbs-+, share-le}
-use Rattle.ternary.specs.WorkingRule.{stepZ, horner, coefs, sumAbs, worked, rowsOf}
+use Rattle.formula.specs.WorkingRule.{stepZ, horner, coefs, sumAbs, worked, rowsOf}
 
 -- a step drops its fraction towards zero, above it and below it
 pub step-cut : (stepZ (pos 3) 1 2 (pos 0) ≡ pos 1) × (stepZ (negℤ (pos 3)) 1 2 (pos 0) ≡ negℤ (pos 1))

@@ -4,10 +4,10 @@ use native.Mathlib.Nat as N
 use native.Mathlib.Omega.{arith}
 use lib.IntN.{ℤ, natAbs}
 use Rattle.integer.specs.Fraction.{Fraction, Within}
-use Rattle.ternary.specs.WorkingRule.{worked, rowsOf, exact, LARGEST}
-use Rattle.ternary.specs.Coefficients.{coeffOf, systems, placeIn}
-use Rattle.ternary.specs.Error.{within}
-use Rattle.ternary.specs.Bound.{worked-small}
+use Rattle.formula.specs.WorkingRule.{worked, rowsOf, exact, LARGEST}
+use Rattle.formula.specs.Coefficients.{coeffOf, systems, placeIn}
+use Rattle.formula.specs.Error.{within}
+use Rattle.formula.specs.Bound.{worked-small}
 
 -- as worked out, 19 divisions; n1 and n2 are the amounts of the formula's two variables
 unfoldable pub partialNumber : ℕ → ℕ → ℕ → ℕ → ℤ

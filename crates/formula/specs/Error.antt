@@ -10,7 +10,7 @@ use lib.ListN.{length}
 use Rattle.integer.specs.Ring.{ring}
 use Rattle.integer.specs.Fraction.{ratio, Within, Close}
 use Rattle.integer.specs.Distance.{close, close-looser, close-over, within-same, close-times, within-over}
-use Rattle.ternary.specs.WorkingRule.{stepZ, horner, worked, rowSum, tableSum, exact, coefs, rowsOf}
+use Rattle.formula.specs.WorkingRule.{stepZ, horner, worked, rowSum, tableSum, exact, coefs, rowsOf}
 
 -- ---- one division: less than one unit more
 

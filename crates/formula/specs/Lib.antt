@@ -1,0 +1,7 @@
+pub mod WorkingRule
+pub mod Coefficients
+pub mod Error
+pub mod Size
+pub mod Bound
+pub mod Partial
+pub mod Marked
