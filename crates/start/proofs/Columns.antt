@@ -1,7 +1,7 @@
 -- The components' columns, one after the other, are the start.
 use Prim.Native.Nat.{ℕ, zero, suc, _+_, _*_, _-_, _/_, _%_, _≤_, _<_, max, min}
 use mathlib.Core.Path.{_≡_, refl, sym, ap, _∙_}
-use mathlib.Core.Bool.{Bool, true, false}
+use mathlib.Core.Bool.{Bool, true, false, cond}
 use mathlib.Core.List.{List}
 use native.Mathlib.Nat.{not-suc-le-zero, add-zero}
 use native.Mathlib.Numerals.{add-one}
@@ -9,7 +9,7 @@ use native.Mathlib.Omega.{arith}
 use lib.Dec.{ltb, eqb}
 use lib.ListN.{getD, length, replicate, length-set, length-replicate, getD-replicate, List·getD-eq-default}
 use lib.Seq.{getD-set-same, getD-set-other, ext-getD}
-use borrow.Author.Tests.{ltb-true, ltb-false, eqb-true, eqb-false}
+use borrow.Author.Tests.{ltb-true, ltb-false, le-ltb, eqb-true, eqb-false}
 use Rattle.systems.specs.Systems.{COMPONENTS, hasOf}
 use Rattle.systems.specs.Table.{none-has}
 use Rattle.split.specs.Fold.{sumTo, table}
@@ -17,7 +17,7 @@ use Rattle.split.specs.Tables.{length-table, getD-table}
 use Rattle.split.specs.Split.{SYSTEMS, CELLS, systemOf}
 use Rattle.split.specs.Start.{sharersOf, shareOf, givenOf, startCell, startOf}
 use Rattle.split.specs.Starts.{cell-past, cell-off, cell-on, some-sharer}
-use Rattle.start.specs.Column.{partOf, rowOf, columnTo, sharedOf, sharedTo}
+use Rattle.start.specs.Column.{Cells, Marked, partOf, rowOf, columnTo, sharedOf, sharedTo}
 
 -- ---- one column
 
@@ -48,6 +48,52 @@ module _ (ch : List ℕ) (c share odd : ℕ) (a : List ℕ) where
       go false e next =
           let d = eqb-false s n e in
           getD-set-other (columnTo ch c share odd a n) (n * COMPONENTS + c) (s * COMPONENTS + c) (rowOf ch c share odd n) 0 (λ q. d (omega arith)) ∙ next (omega arith)
+
+-- ---- a column of marks: shares of 1
+
+row-mark : (ch : List ℕ) (c s : ℕ) → rowOf ch c 1 0 s ≡ cond (hasOf (systemOf ch s) c) 1 0
+unfolding rowOf partOf
+row-mark ch c s = go (hasOf (systemOf ch s) c)
+  where
+    go : (b : Bool) → cond (eqb (cond b 1 0) 0) 0 (1 + cond (ltb (sharersOf ch c s) 0) 1 0) ≡ cond b 1 0
+    go true = rw (le-ltb (sharersOf ch c s) 0 (omega arith)) refl
+    go false = refl
+
+module _ (ch : List ℕ) (c : ℕ) (a : List ℕ) (low : c < COMPONENTS) (n : ℕ) (room : n * COMPONENTS ≤ length a) where
+  mark-length : length (columnTo ch c 1 0 a n) ≡ length a
+  mark-length = column-length ch c 1 0 a n
+
+  -- parts written over the marks
+  pub over-marks : (share odd : ℕ) → columnTo ch c share odd (columnTo ch c 1 0 a n) n ≡ columnTo ch c share odd a n
+  over-marks share odd =
+      ext-getD 0 (columnTo ch c share odd (columnTo ch c 1 0 a n) n) (columnTo ch c share odd a n)
+      (column-length ch c share odd (columnTo ch c 1 0 a n) n ∙ mark-length ∙ sym (column-length ch c share odd a n))
+      (λ j l. at j (eqb (j % COMPONENTS) c) refl (ltb (j / COMPONENTS) n) refl)
+    where
+      other : (j : ℕ) → ((i : ℕ) → i < n → j ≡ i * COMPONENTS + c → ⊥)
+          → getD (columnTo ch c share odd (columnTo ch c 1 0 a n) n) j 0 ≡ getD (columnTo ch c share odd a n) j 0
+      other j h =
+          column-other ch c share odd (columnTo ch c 1 0 a n) n j h ∙ column-other ch c 1 0 a n j h
+          ∙ sym (column-other ch c share odd a n j h)
+
+      at : (j : ℕ) (b : Bool) → eqb (j % COMPONENTS) c ≡ b → (d : Bool) → ltb (j / COMPONENTS) n ≡ d
+          → getD (columnTo ch c share odd (columnTo ch c 1 0 a n) n) j 0 ≡ getD (columnTo ch c share odd a n) j 0
+      at j false e d f = let q = eqb-false (j % COMPONENTS) c e in other j (λ i h p. q (omega (arith, low)))
+      at j true e false f = let q = ltb-false (j / COMPONENTS) n f in other j (λ i h p. omega (arith, low))
+      at j true e true f =
+          let q = ltb-true (j / COMPONENTS) n f in
+          let p : j ≡ j / COMPONENTS * COMPONENTS + c = omega (arith, eqb-true (j % COMPONENTS) c e) in
+          ap (λ x. getD (columnTo ch c share odd (columnTo ch c 1 0 a n) n) x 0) p
+          ∙ column-row ch c share odd (columnTo ch c 1 0 a n) n (j / COMPONENTS) q low (omega (arith, mark-length))
+          ∙ sym (column-row ch c share odd a n (j / COMPONENTS) q low room)
+          ∙ sym (ap (λ x. getD (columnTo ch c share odd a n) x 0) p)
+
+pub marks : (ch : List ℕ) (end c : ℕ) (a b : List ℕ) → Cells end c → length a ≡ CELLS → b ≡ columnTo ch c 1 0 a (end / COMPONENTS)
+    → Marked ch end c b
+marks ch end c a b z long e = record {
+  mark = λ s h. ap (λ l. getD l (s * COMPONENTS + c) 0) e
+      ∙ column-row ch c 1 0 a (end / COMPONENTS) s h (z .low) (omega (arith, z .room, long)) ∙ row-mark ch c s;
+}
 
 -- ---- the columns
 
@@ -174,6 +220,9 @@ pub done-all : (mix ch : List ℕ) (k : ℕ) (a : List ℕ) (n : ℕ) → COMPON
 done-all mix ch k a n h z =
     let q : n ≡ COMPONENTS = omega (arith, z .most) in
     z .cells ∙ ap (sharedTo mix ch k (replicate CELLS 0)) q
+
+pub done-length : (mix ch : List ℕ) (k : ℕ) (a : List ℕ) (n : ℕ) → Done mix ch k a n → length a ≡ CELLS
+done-length mix ch k a n z = ap length (z .cells) ∙ shared-length mix ch k (replicate CELLS 0) n ∙ length-replicate {A = ℕ} CELLS 0
 
 pub start-is : (mix ch : List ℕ) (k r : ℕ) (a : List ℕ) → length ch ≤ SYSTEMS → r ≡ min SYSTEMS k * COMPONENTS → a ≡ sharedTo mix ch (r / COMPONENTS) (replicate CELLS 0) COMPONENTS → a ≡ startOf mix ch k
 start-is mix ch k r a long e z =

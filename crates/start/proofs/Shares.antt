@@ -1,18 +1,21 @@
 -- A component's parts, row by row.
 use Prim.Native.Nat.{ℕ, zero, suc, _+_, _*_, _-_, _/_, _%_, _≤_, _<_, max}
-use mathlib.Core.Path.{_≡_, refl, ap, ap₂, _∙_}
-use mathlib.Core.Bool.{cond}
+use mathlib.Core.Path.{_≡_, refl, sym, ap, ap₂, _∙_, subst⁻¹}
+use mathlib.Core.Bool.{Bool, true, false, cond}
 use mathlib.Core.List.{List}
 use native.Mathlib.Nat as N
 use native.Mathlib.Numerals.{add-one}
 use native.Mathlib.Omega.{arith}
-use lib.ListN.{set}
-use borrow.Author.Tests.{lt-ltb, le-ltb, eq-eqb, ne-eqb}
+use lib.Dec.{eqb}
+use lib.ListN.{getD, set, length}
+use lib.Seq.{getD-set-other}
+use borrow.Author.Tests.{lt-ltb, le-ltb, eq-eqb, ne-eqb, eqb-true, eqb-false}
 use Rattle.systems.specs.Systems.{COMPONENTS, hasOf}
 use Rattle.split.specs.Folds.{sum-none, sum-more}
-use Rattle.split.specs.Split.{systemOf}
+use Rattle.split.specs.Split.{CELLS, systemOf}
 use Rattle.split.specs.Start.{sharersOf}
-use Rattle.start.specs.Column.{Cells, containedAt, partOf, rowOf, columnTo, sharedOf}
+use Rattle.start.proofs.Columns.{over-marks}
+use Rattle.start.specs.Column.{Cells, Marked, containedAt, partOf, rowOf, columnTo, sharedOf}
 
 -- the three cases of a part
 module _ (here share odd rank : ℕ) where
@@ -27,6 +30,16 @@ module _ (here share odd rank : ℕ) where
   pub part-share : (here ≡ 0 → ⊥) → odd ≤ rank → share ≡ partOf here share odd rank
   unfolding partOf
   part-share n h = rw (ne-eqb here 0 n, le-ltb rank odd h) (omega arith)
+
+-- a part of a share of 1 is a mark
+pub part-mark : (here rank : ℕ) → here ≤ 1 → here ≡ partOf here 1 0 rank
+part-mark here rank h = go (eqb here 0) refl
+  where
+    go : (b : Bool) → eqb here 0 ≡ b → here ≡ partOf here 1 0 rank
+    go true e = eqb-true here 0 e ∙ part-none here 1 0 rank (eqb-true here 0 e)
+    go false e =
+        let one : here ≡ 1 = omega (arith, eqb-false here 0 e) in
+        one ∙ part-share here 1 0 rank (eqb-false here 0 e) (omega arith)
 
 -- how many of the rows before cell i's share
 pub record Counted (ch : List ℕ) (end c r i : ℕ) : Type 0 where
@@ -102,6 +115,47 @@ module _ (ch : List ℕ) (end c share odd : ℕ) (a : List ℕ) (z : Cells end c
     pub written-all : end ≤ i → b ≡ columnTo ch c share odd a (end / COMPONENTS)
     written-all h = w .cells ∙ ap (columnTo ch c share odd a) (row-end ch end c z rank i (w .counted) h)
 
+-- the same, of cells that held marks: those of the rows from cell i's on still do
+pub record Rewritten (ch : List ℕ) (end c share odd : ℕ) (a b : List ℕ) (rank i : ℕ) : Type 0 where
+  pub written : Written ch end c share odd a b rank i
+  pub rest : (s : ℕ) → written .counted .row ≤ s → s < end / COMPONENTS
+      → getD b (s * COMPONENTS + c) 0 ≡ cond (hasOf (systemOf ch s) c) 1 0
+
+one-most : (b : Bool) → cond b 1 0 ≤ 1
+one-most true = omega arith
+one-most false = omega arith
+
+module _ (ch : List ℕ) (end c share odd : ℕ) (a : List ℕ) (z : Cells end c) where
+  pub rewritten-none : Marked ch end c a → Rewritten ch end c share odd a a 0 c
+  rewritten-none m = record { written = written-none ch end c share odd a z; rest = λ s l h. m .mark s h }
+
+  module _ (b : List ℕ) (rank i : ℕ) (w : Rewritten ch end c share odd a b rank i) where
+    -- the mark that is read
+    mark-read : i < end → (here : ℕ) → here ≡ getD b i 0 → (here ≡ containedAt ch i) × (here ≤ 1)
+    mark-read h here e =
+        let n = w .written .counted in
+        let row : i / COMPONENTS ≡ n .row = omega (arith, n .at, z .low) in
+        let d : i % COMPONENTS ≡ c = omega (arith, n .at, z .low) in
+        let m = w .rest (n .row) (omega arith) (omega (arith, n .at, z .whole, z .low)) in
+        let is : here ≡ cond (hasOf (systemOf ch (n .row)) c) 1 0 = e ∙ ap (λ x. getD b x 0) (n .at) ∙ m in
+        (is ∙ sym (ap₂ (λ x u. cond (hasOf (systemOf ch x) u) 1 0) row d), subst⁻¹ (λ (x : ℕ). x ≤ 1) is (one-most (hasOf (systemOf ch (n .row)) c)))
+
+    pub rewritten-more : (here v : ℕ) → i < end → here ≡ getD b i 0 → v ≡ partOf here share odd rank
+        → Rewritten ch end c share odd a (set b i v) (rank + here) (i + COMPONENTS)
+    unfolding written-more counted-more
+    rewritten-more here v h e p = record {
+      written = written-more ch end c share odd a z b rank i (w .written) here v h (mark-read h here e) p;
+      rest = λ s l u.
+          getD-set-other b i (s * COMPONENTS + c) v 0 (λ q. omega (arith, l, w .written .counted .at))
+          ∙ w .rest s (omega (arith, l)) u;
+    }
+
+    pub rank-fits : i < end → (here : ℕ) → here ≡ getD b i 0 → rank + here ≤ 9
+    rank-fits h here e = omega (arith, counted-few ch end c z rank i (w .written .counted) h, mark-read h here e .1)
+
+    pub rewritten-all : end ≤ i → b ≡ columnTo ch c share odd a (end / COMPONENTS)
+    rewritten-all h = written-all ch end c share odd a z b rank i (w .written) h
+
 -- share and odd parts add up to the component's parts at most
 small : (q n r t : ℕ) → 1 ≤ n → q * n + r ≡ t → q + r ≤ t
 small q zero r t h e = absurd (omega arith)
@@ -110,6 +164,10 @@ small q (suc n) r t h e = omega (arith, N.mul-suc q n, e)
 pub shares-fit : (t n : ℕ) → 1 ≤ n → t / n + t % n ≤ t
 shares-fit t n h = small (t / n) n (t % n) t h (N.div-add-mod' t n)
 
-pub shared-is : (ch : List ℕ) (k c t n : ℕ) (a b : List ℕ) → n ≡ max 1 (sharersOf ch c k) → b ≡ columnTo ch c (t / n) (t % n) a k → b ≡ sharedOf ch k c t a
+pub shared-is : (ch : List ℕ) (end c t n : ℕ) (a m b : List ℕ) → Cells end c → length a ≡ CELLS → n ≡ max 1 (sharersOf ch c (end / COMPONENTS))
+    → m ≡ columnTo ch c 1 0 a (end / COMPONENTS) → b ≡ columnTo ch c (t / n) (t % n) m (end / COMPONENTS) → b ≡ sharedOf ch (end / COMPONENTS) c t a
 unfolding sharedOf
-shared-is ch k c t n a b e p = p ∙ ap (λ m. columnTo ch c (t / m) (t % m) a k) e
+shared-is ch end c t n a m b z long e q p =
+    p ∙ ap (λ l. columnTo ch c (t / n) (t % n) l (end / COMPONENTS)) q
+    ∙ over-marks ch c a (z .low) (end / COMPONENTS) (omega (arith, z .room, long)) (t / n) (t % n)
+    ∙ ap (λ x. columnTo ch c (t / x) (t % x) a (end / COMPONENTS)) e

@@ -19,6 +19,10 @@ pub record Cells (end c : ℕ) : Type 0 where
   pub whole : end % COMPONENTS ≡ 0
   pub low : c < COMPONENTS
 
+-- the rows' cells of component c hold 1 where the row's system contains it, else 0
+pub record Marked (ch : List ℕ) (end c : ℕ) (a : List ℕ) : Type 0 where
+  pub mark : (s : ℕ) → s < end / COMPONENTS → getD a (s * COMPONENTS + c) 0 ≡ cond (hasOf (systemOf ch s) c) 1 0
+
 -- what a row gets: nothing where it does not share, else its share, and 1 more where its rank is below the odd parts
 unfoldable pub partOf : ℕ → ℕ → ℕ → ℕ → ℕ
 partOf here share odd rank = cond (eqb here 0) 0 (share + cond (ltb rank odd) 1 0)

@@ -1,12 +1,12 @@
 // Whether an input can be worked on, and the split that a search begins with. No public function has a `requires`.
 ghost use mathlib.Core.Path.{_≡_};
 ghost use Prim.Native.Nat.{_+_, _*_, _/_, _<_, _≤_, max, min};
-ghost use lib.ListN.{replicate};
+ghost use lib.ListN.{length, replicate};
 ghost use Rattle.systems.specs.Systems.{COMPONENTS};
 ghost use Rattle.split.specs.Split.{SYSTEMS, CELLS, both};
 ghost use Rattle.split.specs.Start.{sharersOf, startOf};
 ghost use Rattle.split.specs.Find.{chosenFit, mixtureFit};
-ghost use Rattle.start.specs.Column.{Cells, containedAt, partOf, columnTo, sharedOf, sharedTo};
+ghost use Rattle.start.specs.Column.{Cells, Marked, containedAt, partOf, columnTo, sharedOf, sharedTo};
 use split::CELLS;
 use systems::COMPONENTS;
 use systems::Choice;
@@ -77,14 +77,18 @@ fn contains(ch: &[u8; SYSTEMS], i: usize) -> u32
 }
 
 // Among how many systems of the cells before the end component c is shared: those that contain it, or 1 where none does.
-fn sharers(ch: &[u8; SYSTEMS], end: usize, c: usize) -> u32
+// The component's cells then hold 1 where their system contains it, else 0.
+fn sharers(a: &mut [u32; CELLS], ch: &[u8; SYSTEMS], end: usize, c: usize) -> u32
     requires { ⌜ Cells end c ⌝ }
-    ensures { λ r. ⌜ (r ≡ max 1 (sharersOf (now (ch .entry)) c (end / COMPONENTS))) × (1 ≤ r) ⌝ }
+    ensures { λ r. ⌜ (r ≡ max 1 (sharersOf (now (ch .entry)) c (end / COMPONENTS))) × (1 ≤ r)
+        × (now (a .exit) ≡ columnTo (now (ch .entry)) c 1 0 (now (a .entry)) (end / COMPONENTS)) ⌝ }
 {
     let mut r: u32 = 0;
     let mut i = c;
     while i < end {
-        r += contains(ch, i);
+        let here = contains(ch, i);
+        a[i] = here;
+        r += here;
         i += COMPONENTS;
     }
     if r == 0 { 1 } else { r }
@@ -104,15 +108,15 @@ fn part(here: u32, share: u32, odd: u32, rank: u32) -> u32
     share
 }
 
-// The cells of component c before the end.
+// The cells of component c before the end, which hold 1 where their system, of those in ch, contains it, else 0.
 fn column(a: &mut [u32; CELLS], ch: &[u8; SYSTEMS], end: usize, c: usize, share: u32, odd: u32)
-    requires { ⌜ Cells end c × (share + odd ≤ 4294967295) ⌝ }
+    requires { ⌜ Cells end c × (share + odd ≤ 4294967295) × Marked (now ch) end c (now a) ⌝ }
     ensures { λ _. ⌜ now (a .exit) ≡ columnTo (now (ch .entry)) c share odd (now (a .entry)) (end / COMPONENTS) ⌝ }
 {
     let mut rank: u32 = 0;
     let mut i = c;
     while i < end {
-        let here = contains(ch, i);
+        let here = a[i];
         a[i] = part(here, share, odd, rank);
         rank += here;
         i += COMPONENTS;
@@ -121,10 +125,10 @@ fn column(a: &mut [u32; CELLS], ch: &[u8; SYSTEMS], end: usize, c: usize, share:
 
 // The t parts of component c shared among the rows before the end.
 fn shared(a: &mut [u32; CELLS], ch: &[u8; SYSTEMS], end: usize, c: usize, t: u32)
-    requires { ⌜ Cells end c ⌝ }
+    requires { ⌜ Cells end c × (length (now a) ≡ CELLS) ⌝ }
     ensures { λ _. ⌜ now (a .exit) ≡ sharedOf (now (ch .entry)) (end / COMPONENTS) c t (now (a .entry)) ⌝ }
 {
-    let n = sharers(ch, end, c);
+    let n = sharers(a, ch, end, c);
     column(a, ch, end, c, t / n, t % n);
 }
 

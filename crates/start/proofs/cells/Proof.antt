@@ -1,7 +1,7 @@
 -- `start::cells` meets its contract. Assumes nothing.
 use borrow.Author.Needs.{needs}
 use Prim.Native.Nat.{_-_, _/_}
-use Rattle.start.proofs.Columns.{Done, done-none, done-more, done-all}
+use Rattle.start.proofs.Columns.{Done, done-none, done-more, done-all, done-length}
 use Rattle.start.proofs.cells.Statement.{statement}
 use Rattle.start.proofs.cells.Tie as tie
 
@@ -21,7 +21,10 @@ element-copy-out-shared : tie.Need-element-copy-out-shared Inv-loop μ-loop
 element-copy-out-shared c = search needs
 
 shared-requires : tie.Need-shared-requires Inv-loop μ-loop
-shared-requires c κs = record { room = c .before .before .before .before .pre .room; whole = c .before .before .before .before .pre .whole; low = c .before .before .loop-test .taken }
+shared-requires c κs = (
+  record { room = c .before .before .before .before .pre .room; whole = c .before .before .before .before .pre .whole; low = c .before .before .loop-test .taken },
+  done-length _ _ _ _ _ (c .before .before .before .loop .inv),
+)
 
 add-c : tie.Need-add-c Inv-loop μ-loop
 add-c c = search needs
