@@ -48,9 +48,8 @@ use Rattle.split.specs.Accuracy.{fit-few}
 use Rattle.split.specs.PutBack.{balance-fit}
 use Rattle.split.specs.Size.{rating-small}
 use Rattle.rating.specs.Given.{FoundFit}
-use Rattle.rating.specs.Answers.{never-unfit}
 use Rattle.rating.specs.Ready.{chosen, room, million, inert-million, shared, input}
-use Rattle.rating.specs.Sheets.{split-ends, search-ends, split-wider, search-wider, not-five}
+use Rattle.rating.specs.Ends.{never-unfit, split-ends, search-ends, split-wider, search-wider, not-five}
 use Rattle.rating.specs.declared.Outcome.{Outcome}
 use Rattle.integer.specs.Bits.{read-back}
 

@@ -21,7 +21,7 @@ use Rattle.split.specs.AnswerCases.{numberOf, codeOf}
 use Rattle.split.specs.declared.Answer.{Answer}
 use Rattle.split.specs.declared.Answer.the-variants.{Rated, Refused}
 use Rattle.rating.specs.Rate.{splitAnswer, outcome, searchOutcome, readBy, sheetOutcome}
-use Rattle.rating.specs.Sheets.{RatedOr, split-ends, search-ends, read-passed, split-wider, search-wider, not-five}
+use Rattle.rating.specs.Ends.{RatedOr, split-ends, search-ends, read-passed, split-wider, search-wider, not-five}
 use Rattle.rating.specs.declared.Outcome.{Outcome}
 
 -- ---- a refused sheet

@@ -3,9 +3,4 @@ pub mod SplitCodes
 pub mod Rate
 pub mod Given
 pub mod Ready
-pub mod Answers
-pub mod Sheets
-pub mod RatedSheets
-pub mod Demand
-pub mod Lasting
-pub mod Marked
+pub mod Ends

@@ -74,7 +74,7 @@ abbrev pub outcome : Answer → Split → Outcome
 outcome answer split = record { answer = answer; split = split }
 
 -- what the search came to: a rating with its split, or its refusal and no split. No search of an analysis is unfit
--- (`Answers.never-unfit`); its line has the number 0, which is no refusal's
+-- (`Ends.never-unfit`); its line has the number 0, which is no refusal's
 abbrev pub foundBy : List ℕ → ℕ → ℕ → List ℕ → Search → Outcome
 foundBy ch k n1 a (Balanced spread rounds) = outcome (Rated (ratingOf ch k a n1) spread rounds) (recordsOf ch k a)
 foundBy ch k n1 a Unbalanced = outcome (Refused (search.numberOf Unbalanced) 0) noSplit

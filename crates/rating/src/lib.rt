@@ -1,7 +1,7 @@
 // The rating of an analysis by a proposed split or by the search, and of a sheet.
 //
 // No public function has a `requires`. What they promise is in specs/Rate.antt; the third demand, which is proved of
-// those promises, is in specs/Demand.antt.
+// those promises, is in crate `demand`, specs/Demand.antt.
 mod records;
 
 ghost use mathlib.Core.Path.{_≡_};

@@ -14,7 +14,8 @@ use Rattle.split.specs.declared.Answer.{Answer}
 use Rattle.split.specs.declared.Answer.the-variants.{Rated, Refused}
 use Rattle.split.specs.AnswerCases.{numberOf, codeOf, figuresOf, heldOf}
 use Rattle.rating.specs.declared.Outcome.{Outcome}
-use Rattle.saugrinte.specs.Interface.{reply, codeIn, replyOf, SmallFigures, partialReply, partialIn}
+use Rattle.demand.specs.Small.{SmallFigures}
+use Rattle.saugrinte.specs.Interface.{reply, codeIn, replyOf, partialReply, partialIn}
 use Rattle.saugrinte.specs.declared.Reply.{Reply}
 
 -- ---- the figures of a rating

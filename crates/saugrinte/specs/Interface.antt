@@ -5,10 +5,10 @@
 -- answer of the library's function, and `old` is what the buffer held.
 use mathlib.Core.Bool.{cond}
 use mathlib.Core.List.{List}
-use Prim.Native.Nat.{ℕ, _<_}
+use Prim.Native.Nat.{ℕ}
 use lib.Dec.{eqb}
 use lib.ListN.{length}
-use lib.IntN.{ℤ, natAbs}
+use lib.IntN.{ℤ}
 use Rattle.refusal.specs.Register.{OUT_OF_RANGE}
 use Rattle.ternary.specs.declared.Partial.{Partial}
 use Rattle.ternary.specs.PartialCases as partial
@@ -19,7 +19,6 @@ use Rattle.sheet.specs.declared.Written.{Written}
 use Rattle.sheet.specs.WrittenCases as written
 use Rattle.split.specs.AnswerCases as answer
 use Rattle.split.specs.declared.Answer.{Answer}
-use Rattle.split.specs.declared.Answer.the-variants.{Rated, Refused}
 use Rattle.saugrinte.specs.declared.Reply.{Reply}
 
 -- the version, 1.0.0: 10000, 100 and 1 times its three figures
@@ -37,11 +36,6 @@ codeIn r = cond (eqb (r .number) OUT_OF_RANGE) (r .place) 0
 
 abbrev pub replyOf : Answer → Reply
 replyOf x = reply (answer.numberOf x) (answer.placeOf x)
-
--- rating and spread below 2^53, so that they fit 64 bits with a sign and a double holds them exactly
-abbrev pub SmallFigures : Answer → Type 0
-SmallFigures (Rated rating spread rounds) = (natAbs rating < 9007199254740992) × (spread < 9007199254740992)
-SmallFigures (Refused number place) = Unit {0}
 
 -- ---- a partial number
 

@@ -2,8 +2,7 @@
 use mathlib.Core.Path.{_≡_, sym, subst}
 use lib.ListN.{length}
 use Rattle.analysis.specs.Register.{CODES}
-use Rattle.saugrinte.specs.Interface.{SmallFigures}
-use Rattle.saugrinte.specs.Small.{split-small}
+use Rattle.demand.specs.Small.{SmallFigures, split-small}
 use borrow.Author.Needs.{needs}
 use Rattle.saugrinte.proofs.proposed.Statement.{statement}
 use Rattle.saugrinte.proofs.proposed.Tie as tie

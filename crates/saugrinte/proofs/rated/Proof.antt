@@ -1,8 +1,7 @@
 -- `saugrinte::rated` meets its contract. Assumes nothing.
 use mathlib.Core.Path.{sym, ap, subst}
 use Rattle.rating.specs.declared.Outcome.{Outcome}
-use Rattle.saugrinte.specs.Interface.{SmallFigures}
-use Rattle.saugrinte.specs.Small.{sheet-small}
+use Rattle.demand.specs.Small.{SmallFigures, sheet-small}
 use borrow.Author.Needs.{needs}
 use Rattle.saugrinte.proofs.rated.Statement.{statement}
 use Rattle.saugrinte.proofs.rated.Tie as tie

@@ -3,8 +3,7 @@ use mathlib.Core.Path.{_≡_, sym, ap, subst}
 use lib.ListN.{length}
 use Rattle.analysis.specs.Register.{CODES}
 use Rattle.rating.specs.declared.Outcome.{Outcome}
-use Rattle.saugrinte.specs.Interface.{SmallFigures}
-use Rattle.saugrinte.specs.Small.{search-small}
+use Rattle.demand.specs.Small.{SmallFigures, search-small}
 use borrow.Author.Needs.{needs}
 use Rattle.saugrinte.proofs.searched.Statement.{statement}
 use Rattle.saugrinte.proofs.searched.Tie as tie

@@ -43,14 +43,15 @@ use Rattle.split.specs.Accuracy.{rated-within}
 use Rattle.split.specs.AnswerCases.{numberOf}
 use Rattle.split.specs.declared.Answer.{Answer}
 use Rattle.split.specs.declared.Answer.the-variants.{Rated, Refused}
 use Rattle.rating.specs.Records.{systemAt, codeAt, systemsOf, codesOf, fitsOf}
 use Rattle.rating.specs.Rate.{LIMIT, mixOf, systemsFor, countFor}
 use Rattle.rating.specs.Rate.{splitAnswer, searchOutcome, sheetOutcome}
 use Rattle.rating.specs.Ready.{chosen, room, million, inert-million}
-use Rattle.rating.specs.Answers.{expected-fit, fits-expected, expected-fits, split-by-records, split-fits}
-use Rattle.rating.specs.Answers.{split-rated, found-back}
-use Rattle.rating.specs.Sheets.{read-passed, split-ends, accepted-ends, accepted-own, sheet-ends}
-use Rattle.rating.specs.RatedSheets.{analysisIn, splitRated, sheet-split}
+use Rattle.rating.specs.Ends.{read-passed, split-ends}
+use Rattle.demand.specs.Answers.{expected-fit, fits-expected, expected-fits, split-by-records, split-fits}
+use Rattle.demand.specs.Answers.{split-rated, found-back}
+use Rattle.demand.specs.Sheets.{accepted-ends, accepted-own, sheet-ends}
+use Rattle.demand.specs.RatedSheets.{analysisIn, splitRated, sheet-split}
 
 -- ---- the words: of an analysis a, whose chosen systems are three
 

@@ -17,9 +17,9 @@ use Rattle.split.specs.Accuracy.{rated-small, rated-spread-small}
 use Rattle.split.specs.declared.Answer.the-variants.{Rated}
 use Rattle.split.specs.declared.Search.the-variants.{Balanced}
 use Rattle.split.specs.declared.Found.{Found}
 use Rattle.rating.specs.Rate.{LIMIT, ROUNDS, mixOf, systemsFor, countFor, searched, splitAnswer, searchOutcome}
 use Rattle.rating.specs.Ready.{chosen, million, input}
-use Rattle.rating.specs.Answers.{split-rated, search-rated, found-back}
+use Rattle.demand.specs.Answers.{split-rated, search-rated, found-back}
 
 -- a larger allowance finds the same
 same-found : (a : List ℕ) → length a ≡ CODES → refusalOf a ≡ 0 → (few many : ℕ) → few ≤ many → (s r : ℕ)

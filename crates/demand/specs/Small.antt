@@ -15,9 +15,13 @@ use Rattle.sheet.specs.declared.Reading.the-variants as reading
 use Rattle.split.specs.declared.Answer.{Answer}
 use Rattle.split.specs.declared.Answer.the-variants.{Rated, Refused}
 use Rattle.rating.specs.Rate.{ROUNDS, outcome, splitAnswer, searchOutcome, readBy, sheetOutcome}
-use Rattle.saugrinte.specs.Interface.{SmallFigures}
-use Rattle.rating.specs.Sheets.{read-long}
-use Rattle.rating.specs.Lasting.{proposed-small, found-small}
+use Rattle.rating.specs.Ends.{read-long}
+use Rattle.demand.specs.Lasting.{proposed-small, found-small}
+
+-- rating and spread below 2^53, so that they fit 64 bits with a sign and a double holds them exactly
+abbrev pub SmallFigures : Answer → Type 0
+SmallFigures (Rated rating spread rounds) = (natAbs rating < 9007199254740992) × (spread < 9007199254740992)
+SmallFigures (Refused number place) = Unit {0}
 
 rated-small : (x : Answer)
     → ((w : ℤ) (s r : ℕ) → x ≡ Rated w s r → (natAbs w < 9007199254740992) × (s < 9007199254740992))

@@ -20,9 +20,7 @@ use Rattle.split.specs.Tables.{getD-table}
 use Rattle.split.specs.Split.{RECORDS, cellsOf}
 use Rattle.split.specs.Rating.{ratingOf, proposedOf}
 use Rattle.split.specs.Rated.{IsRated, rated-is}
-use Rattle.split.specs.Start.{startOf}
-use Rattle.split.specs.Search.{LEVEL, searchOf}
-use Rattle.split.specs.Runs.{result-fit}
+use Rattle.split.specs.Search.{LEVEL}
 use Rattle.split.specs.Finds.{Balance, input-fits, find-search, find-balanced}
 use Rattle.split.specs.PutBack.{put-back-records}
 use Rattle.split.specs.declared.Answer.{Answer}
@@ -122,13 +120,6 @@ rated-zero a p code w s r is =
     is ∙ ap (Rated w s) z
 
 -- ---- the search
-
--- it ends balanced or unbalanced
-pub never-unfit : (a : List ℕ) (allowance : ℕ) → searched a allowance .search ≡ Unfit → ⊥
-unfolding searchOf
-never-unfit a allowance =
-    let begun = startOf (mixOf a) (systemsFor a) (countFor a) in
-    result-fit (systemsFor a) (countFor a) LIMIT (min allowance ROUNDS) _ begun LEVEL 0
 
 -- a rating by the search: the analysis is in range, and the search came to a balance
 pub search-rated : (a : List ℕ) (allowance code : ℕ) (w : ℤ) (s r : ℕ) → searchOutcome a allowance code .answer ≡ Rated w s r

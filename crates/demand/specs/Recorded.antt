@@ -21,8 +21,7 @@ use Rattle.split.specs.declared.Answer.the-variants.{Rated, Refused}
 use Rattle.rating.specs.Rate.{splitAnswer, searchOutcome, sheetOutcome}
 use Rattle.controller.specs.Record.{recordOf}
 use Rattle.controller.specs.Exact.{DividedOnce, divided-once}
-use Rattle.saugrinte.specs.Interface.{SmallFigures}
-use Rattle.saugrinte.specs.Small.{split-small, search-small, sheet-small}
+use Rattle.demand.specs.Small.{SmallFigures, split-small, search-small, sheet-small}
 
 -- both fields of a rating's record
 abbrev pub Recorded : Answer → Type 0
