@@ -39,14 +39,16 @@ total-same v w k sum squares h t = record {
   squared = t .squared ∙ sum-same (λ s. markOf (v s) * markOf (v s)) (λ s. markOf (w s) * markOf (w s)) k (λ s l. ap (λ z. markOf z * markOf z) (h s l));
 }
 
-module _ (v : ℕ → ℤ) (k sum squares : ℕ) (most : k ≤ 8) (small : (s : ℕ) → natAbs (v s) ≤ LARGEST) (t : Totalled v k sum squares) (j : ℕ) (l : j < k) (p q : ℕ) (e : p ≡ markOf (v j)) where
-  pub may-replace : q ≤ 400000000 → (p ≤ sum) × (p * p ≤ squares) × (p ≤ 400000000) × (q ≤ 400000000) × (sum ≤ 3200000000) × (squares ≤ 1280000000000000000)
-  may-replace h =
+module _ (v : ℕ → ℤ) (k sum squares : ℕ) (most : k ≤ 8) (small : (s : ℕ) → natAbs (v s) ≤ LARGEST) (t : Totalled v k sum squares) (j : ℕ) (l : j < k) (p q : ℤ) (e : p ≡ v j) where
+  pub may-exchange : natAbs q ≤ LARGEST
+      → (j < SYSTEMS) × (natAbs p ≤ LARGEST) × (natAbs q ≤ LARGEST) × (markOf p ≤ sum) × (markOf p * markOf p ≤ squares) × (sum ≤ 3200000000) × (squares ≤ 1280000000000000000)
+  may-exchange h =
       let w = has-mark v k sum squares most (λ s _. small s) t j l in
-      rw e (w .0, w .1, mark-le (v j) (small j), h, sum-few v k sum squares most (λ s _. small s) t, squares-few v k sum squares most (λ s _. small s) t)
+      rw e (omega arith, small j, h, w .0, w .1, sum-few v k sum squares most (λ s _. small s) t, squares-few v k sum squares most (λ s _. small s) t)
 
-  pub replaced-is : (w : ℕ → ℤ) → ((s : ℕ) → s < k → (s ≡ j → ⊥) → v s ≡ w s) → q ≡ markOf (w j) → (x y : ℕ) → x ≡ sum - p + q → y ≡ squares - p * p + q * q → Totalled w k x y
-  replaced-is w h f x y a b = rw (a, b, e, f) (put-total v k sum squares most (λ s _. small s) t w j l h)
+  pub exchanged-is : (w : ℕ → ℤ) → ((s : ℕ) → s < k → (s ≡ j → ⊥) → v s ≡ w s) → q ≡ w j
+      → (x y : ℕ) → x ≡ sum - markOf p + markOf q → y ≡ squares - markOf p * markOf p + markOf q * markOf q → Totalled w k x y
+  exchanged-is w h f x y a b = rw (a, b, e, f) (put-total v k sum squares most (λ s _. small s) t w j l h)
 
 -- the numbers are small
 pub number-small : (ch a : List ℕ) (s : ℕ) → natAbs (numberAt ch a s) ≤ LARGEST
@@ -172,26 +174,24 @@ module _ (ch : List ℕ) (k : ℕ) (a : List ℕ) (v : List ℤ) (held : Held ch
           → (x ≡ numberWith ch a (giverOf m) (componentOf m) (cellOf a (giverOf m) (componentOf m) - d)) × (natAbs x ≤ LARGEST)
       give-worked x p = (p .0 ∙ give-wanted, p .1)
 
-      pub giver-small : natAbs (toZ w64 (ofZ w64 (listed v (giverOf m)))) ≤ LARGEST
-      giver-small = rw (row-is (giverOf m) (gv .from)) (number-small ch a (giverOf m))
+      module _ (sum squares : ℕ) (t : Totalled (numberAt ch a) k sum squares) (z : ℤ) (w : (z ≡ wantedOf ch a d (giverOf m * COMPONENTS + componentOf m)) × (natAbs z ≤ LARGEST)) where
+        abbrev old : ℤ
+        old = listed v (giverOf m)
 
-      module _ (sum squares p q : ℕ) (t : Totalled (numberAt ch a) k sum squares) (e : p ≡ markOf (toZ w64 (ofZ w64 (listed v (giverOf m))))) where
-        mark-old : p ≡ markOf (numberAt ch a (giverOf m))
-        mark-old = e ∙ ap markOf (row-is (giverOf m) (gv .from))
+        abbrev new : ℤ
+        new = toZ w64 (ofZ w64 z)
 
-        pub given-may : q ≤ 400000000 → (p ≤ sum) × (p * p ≤ squares) × (p ≤ 400000000) × (q ≤ 400000000) × (sum ≤ 3200000000) × (squares ≤ 1280000000000000000)
-        given-may l = may-replace (numberAt ch a) k sum squares most (number-small ch a) t (giverOf m) (gv .from) p q mark-old l
+        new-is : new ≡ z
+        new-is = back z (omega (arith, w .1))
 
-        pub given-is : (z : ℤ) → (z ≡ wantedOf ch a d (giverOf m * COMPONENTS + componentOf m)) × (natAbs z ≤ LARGEST) → q ≡ markOf (toZ w64 (ofZ w64 z))
-            → (x y : ℕ) → x ≡ sum - p + q → y ≡ squares - p * p + q * q → Totalled (givenOf ch a d (giverOf m) (componentOf m)) k x y
-        given-is z w f x y i j =
-            replaced-is (numberAt ch a) k sum squares most (number-small ch a) t (giverOf m) (gv .from) p q mark-old (givenOf ch a d (giverOf m) (componentOf m))
+        pub given-may : (giverOf m < SYSTEMS) × (natAbs old ≤ LARGEST) × (natAbs new ≤ LARGEST) × (markOf old ≤ sum) × (markOf old * markOf old ≤ squares) × (sum ≤ 3200000000) × (squares ≤ 1280000000000000000)
+        given-may = may-exchange (numberAt ch a) k sum squares most (number-small ch a) t (giverOf m) (gv .from) old new (held .carried .are (giverOf m) (gv .from)) (rw new-is (w .1))
+
+        pub given-is : (x y : ℕ) → x ≡ sum - markOf old + markOf new → y ≡ squares - markOf old * markOf old + markOf new * markOf new → Totalled (givenOf ch a d (giverOf m) (componentOf m)) k x y
+        given-is =
+            exchanged-is (numberAt ch a) k sum squares most (number-small ch a) t (giverOf m) (gv .from) old new (held .carried .are (giverOf m) (gv .from)) (givenOf ch a d (giverOf m) (componentOf m))
             (λ s l n. sym (given-there ch a d (giverOf m) (componentOf m) s n))
-            (f ∙ ap markOf (back z (omega (arith, w .1)) ∙ w .0 ∙ give-wanted ∙ sym (given-here ch a d (giverOf m) (componentOf m))))
-            x
-            y
-            i
-            j
+            (new-is ∙ w .0 ∙ give-wanted ∙ sym (given-here ch a d (giverOf m) (componentOf m)))
 
     -- and the taker
     module _ (fit : Fit ch k a d m) (c t : ℕ) (ec : c ≡ componentOf m) (et : t ≡ takerOf m) where
@@ -200,9 +200,6 @@ module _ (ch : List ℕ) (k : ℕ) (a : List ℕ) (v : List ℤ) (held : Held ch
 
       pub take-triable : Triable ch k a d (CELLS + t * COMPONENTS + c)
       take-triable = rw (et, ec) (taker-triable ch k a d m so fit)
-
-      pub taker-small : natAbs (toZ w64 (ofZ w64 (listed v t))) ≤ LARGEST
-      taker-small = rw (et, row-is (takerOf m) (bt ch k a d m so fit .to)) (number-small ch a (takerOf m))
 
       both-done : (s : ℕ) → s < k → (s ≡ takerOf m → ⊥) → givenOf ch a d (giverOf m) (componentOf m) s ≡ numberAt ch (movedOf a m d) s
       both-done s l n = go (eqb s (giverOf m)) refl
@@ -213,19 +210,38 @@ module _ (ch : List ℕ) (k : ℕ) (a : List ℕ) (v : List ℤ) (held : Held ch
               rw q (given-here ch a d (giverOf m) (componentOf m) ∙ with-is ch k a d m so fit (giverOf m) (cellOf a (giverOf m) (componentOf m) - d) (bt ch k a d m so fit .from) (giver-changed ch k a d m so fit))
           go false e = given-there ch a d (giverOf m) (componentOf m) s (eqb-false s (giverOf m) e) ∙ sym (rest-same ch k a d m so fit s l (eqb-false s (giverOf m) e) n)
 
-      module _ (sum squares p q : ℕ) (tot : Totalled (givenOf ch a d (giverOf m) (componentOf m)) k sum squares) (e : p ≡ markOf (toZ w64 (ofZ w64 (listed v t)))) where
-        mark-was : p ≡ markOf (givenOf ch a d (giverOf m) (componentOf m) (takerOf m))
-        mark-was = e ∙ ap (λ s. markOf (toZ w64 (ofZ w64 (listed v s)))) et ∙ ap markOf (row-is (takerOf m) (bt ch k a d m so fit .to) ∙ sym (given-there ch a d (giverOf m) (componentOf m) (takerOf m) (λ z. bt ch k a d m so fit .apart (sym z))))
+      module _ (sum squares : ℕ) (tot : Totalled (givenOf ch a d (giverOf m) (componentOf m)) k sum squares) (z : ℤ) (w : (z ≡ wantedOf ch a d (CELLS + t * COMPONENTS + c)) × (natAbs z ≤ LARGEST)) where
+        abbrev held-by : ℤ
+        held-by = listed v t
 
-        pub taken-may : q ≤ 400000000 → (p ≤ sum) × (p * p ≤ squares) × (p ≤ 400000000) × (q ≤ 400000000) × (sum ≤ 3200000000) × (squares ≤ 1280000000000000000)
-        taken-may l = may-replace (givenOf ch a d (giverOf m) (componentOf m)) k sum squares most (given-small ch a d (giverOf m) (componentOf m)) tot (takerOf m) (bt ch k a d m so fit .to) p q mark-was l
+        abbrev taken : ℤ
+        taken = toZ w64 (ofZ w64 z)
 
-        module _ (z : ℤ) (w : (z ≡ wantedOf ch a d (CELLS + t * COMPONENTS + c)) × (natAbs z ≤ LARGEST)) (f : q ≡ markOf (toZ w64 (ofZ w64 z))) (x y : ℕ) (i : x ≡ sum - p + q) (j : y ≡ squares - p * p + q * q) where
+        taken-back : taken ≡ z
+        taken-back = back z (omega (arith, w .1))
+
+        below : t < k
+        below = rw et (bt ch k a d m so fit .to)
+
+        was-there : held-by ≡ givenOf ch a d (giverOf m) (componentOf m) t
+        was-there = held .carried .are t below ∙ sym (given-there ch a d (giverOf m) (componentOf m) t (λ z. bt ch k a d m so fit .apart (sym z ∙ et)))
+
+        pub taken-may : (t < SYSTEMS) × (natAbs held-by ≤ LARGEST) × (natAbs taken ≤ LARGEST) × (markOf held-by ≤ sum) × (markOf held-by * markOf held-by ≤ squares) × (sum ≤ 3200000000) × (squares ≤ 1280000000000000000)
+        taken-may = may-exchange (givenOf ch a d (giverOf m) (componentOf m)) k sum squares most (given-small ch a d (giverOf m) (componentOf m)) tot t below held-by taken was-there (rw taken-back (w .1))
+
+        now-there : taken ≡ numberAt ch (movedOf a m d) t
+        now-there =
+            taken-back
+            ∙ taker-wanted ch k a d m so fit z (w .0 ∙ ap₂ (λ x y. wantedOf ch a d (CELLS + x * COMPONENTS + y)) et ec, w .1) .0
+            ∙ with-is ch k a d m so fit (takerOf m) (cellOf a (takerOf m) (componentOf m) + d) (bt ch k a d m so fit .to) (taker-changed ch k a d m so fit)
+            ∙ ap (numberAt ch (movedOf a m d)) (sym et)
+
+        module _ (x y : ℕ) (i : x ≡ sum - markOf held-by + markOf taken) (j : y ≡ squares - markOf held-by * markOf held-by + markOf taken * markOf taken) where
           taken-is : Totalled (numberAt ch (movedOf a m d)) k x y
           taken-is =
-              replaced-is (givenOf ch a d (giverOf m) (componentOf m)) k sum squares most (given-small ch a d (giverOf m) (componentOf m)) tot (takerOf m) (bt ch k a d m so fit .to) p q mark-was (numberAt ch (movedOf a m d))
-              both-done
-              (f ∙ ap markOf (back z (omega (arith, w .1)) ∙ taker-wanted ch k a d m so fit z (w .0 ∙ ap₂ (λ x y. wantedOf ch a d (CELLS + x * COMPONENTS + y)) et ec, w .1) .0 ∙ with-is ch k a d m so fit (takerOf m) (cellOf a (takerOf m) (componentOf m) + d) (bt ch k a d m so fit .to) (taker-changed ch k a d m so fit)))
+              exchanged-is (givenOf ch a d (giverOf m) (componentOf m)) k sum squares most (given-small ch a d (giverOf m) (componentOf m)) tot t below held-by taken was-there (numberAt ch (movedOf a m d))
+              (λ s l n. both-done s l (λ e. n (e ∙ sym et)))
+              now-there
               x
               y
               i

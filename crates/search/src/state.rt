@@ -1,9 +1,6 @@
-// A row's parts and partial number, and the spread of some numbers.
+// A row's parts, and the spread of some numbers.
 ghost use mathlib.Core.Path.{_≡_};
 ghost use Prim.Native.Nat.{_+_, _*_, _<_, _≤_};
-ghost use lib.IntN.{natAbs};
-ghost use Rattle.ternary.specs.WorkingRule.{LARGEST};
-ghost use Rattle.ternary.specs.Partial.{partialNumber};
 ghost use Rattle.systems.specs.Systems.{memberOf, Candidate};
 ghost use Rattle.split.specs.Split.{SYSTEMS, cellOf, partsOf, Stock};
 ghost use Rattle.split.specs.Rating.{spreadOf};
@@ -31,24 +28,6 @@ pub(crate) fn spread(v: &[i64; SYSTEMS], k: usize) -> u64
         i += 1;
     }
     (high - low) as u64
-}
-
-fn wide(x: u8) -> u32
-    ensures { λ r. ⌜ r ≡ x ⌝ }
-{
-    x as u32
-}
-
-// The partial number of a candidate system at amounts that make a mixture.
-pub(crate) fn number(system: u8, n1: u32, n2: u32, n3: u32) -> i64
-    requires { ⌜ Candidate system × (1 ≤ n1 + n2 + n3) × (n1 + n2 + n3 ≤ 1000000) ⌝ }
-    ensures { λ r. ⌜ (r ≡ partialNumber system n1 n2 n3) × (natAbs r ≤ LARGEST) ⌝ }
-{
-    let p = ternary::partial_number(wide(system), n1, n2, n3);
-    match p {
-        ternary::Partial::Number(x) => x,
-        ternary::Partial::Refused(_) => 0,
-    }
 }
 
 // The amount in row s, of the given system, of the system's component j.
