@@ -1,5 +1,5 @@
 -- The totals of a split's numbers, where a move's giver has given, and where its taker has taken too.
-use Prim.Native.Nat.{ℕ, zero, suc, _+_, _*_, _-_, _≤_, _<_}
+use Prim.Native.Nat.{ℕ, zero, suc, _+_, _*_, _-_, _%_, _≤_, _<_}
 use mathlib.Core.Path.{_≡_, refl, sym, ap, ap₂, _∙_}
 use mathlib.Core.Bool.{Bool, true, false}
 use mathlib.Core.List.{List}
@@ -8,14 +8,14 @@ use lib.Dec.{eqb, ltb}
 use lib.IntN.{ℤ, natAbs}
 use mir.Syntax.{w64}
 use mir.Val.{toZ, ofZ}
-use borrow.Author.Tests.{eq-eqb, ne-eqb, eqb-true, eqb-false}
+use borrow.Author.Tests.{eq-eqb, ne-eqb, eqb-true, eqb-false, lt-ltb, le-ltb}
 use Rattle.ternary.specs.WorkingRule.{LARGEST}
 use Rattle.ternary.specs.Partial.{partial-small}
 use Rattle.systems.specs.Systems.{COMPONENTS, memberOf, hasOf}
 use Rattle.systems.specs.Members.{has-cases}
 use Rattle.split.specs.Folds.{sum-same}
 use Rattle.split.specs.Split.{SYSTEMS, CELLS, cellOf, systemOf, partsOf, numberAt, Sound}
-use Rattle.split.specs.Move.{MOVES, imbalanceOf, componentOf, giverOf, takerOf, movedOf, lowersOf}
+use Rattle.split.specs.Move.{MOVES, imbalanceOf, componentOf, giverOf, takerOf, movedOf, lowersOf, canOf}
 use Rattle.split.specs.Members.{Three, three}
 use Rattle.split.specs.Rows.{parts-few}
 use Rattle.split.specs.Tests.{Fit, Affords, affords-true}
@@ -26,9 +26,9 @@ use Rattle.rows.specs.Machine.{at-back}
 use Rattle.integer.specs.Bits.{back}
 use Rattle.search.specs.Tried.{rowOf, columnIn, wantedOf, Triable}
 use Rattle.search.specs.Balance.{markOf, Totalled}
-use Rattle.search.specs.Scan.{givenOf, givesOf}
+use Rattle.search.specs.Scan.{givenOf, givesOf, takesOf}
 use Rattle.search.proofs.Squares.{mark-le, sum-few, squares-few, under, imbalance-is, has-mark, put-total}
-use Rattle.search.proofs.Givers.{Gives, gives-true}
+use Rattle.search.proofs.Givers.{Gives, gives-true, scan-taker, scan-component, scan-total, scan-fit, scan-can}
 use Rattle.search.proofs.Trials.{with-is}
 use Rattle.search.proofs.Tries.{less-is, taker-triable, taker-wanted}
 
@@ -258,3 +258,42 @@ module _ (ch : List ℕ) (k : ℕ) (a : List ℕ) (v : List ℤ) (held : Held ch
           pub lowers-is : (r was : ℕ) → r ≡ k * y - x * x → was ≡ imbalanceOf (numberAt ch a) k → ltb r was ≡ lowersOf ch k a d m
           unfolding lowersOf
           lowers-is r was u o = ap₂ ltb (u ∙ imbalance-is (numberAt ch (movedOf a m d)) k x y most (λ s _. number-small ch (movedOf a m d) s) taken-is) o
+
+-- the trial of the move from n's giver to row t, which takes
+module _ (ch : List ℕ) (k : ℕ) (a : List ℕ) (v : List ℤ) (held : Held ch k a v) (d n : ℕ) (z : n % SYSTEMS ≡ 0) (below : n < MOVES) (g : givesOf ch k a d n ≡ true) (c f t : ℕ) (h : t < k)
+    (ec : c ≡ componentOf n) (ef : f ≡ giverOf n) (b : Bool) (e : b ≡ takesOf ch c f t) (p : b ≡ true) where
+  few : k ≤ SYSTEMS
+  few = held .sound .stock .chosen .most
+
+  fit : Fit ch k a d (n + t)
+  fit = scan-fit ch k a d n z t h few below g c f ec ef b e p
+
+  same-component : c ≡ componentOf (n + t)
+  same-component = ec ∙ sym (scan-component k n t z h few below)
+
+  same-taker : t ≡ takerOf (n + t)
+  same-taker = sym (scan-taker k n t z h few below)
+
+  pub trial-triable : (t < SYSTEMS) × (c < COMPONENTS) × Triable ch k a d (CELLS + t * COMPONENTS + c)
+  trial-triable = (omega (arith, few), omega (arith, ec, below), take-triable ch k a v held d (n + t) fit c t same-component same-taker)
+
+  module _ (sum squares : ℕ) (tot : Totalled (givenOf ch a d (giverOf n) (componentOf n)) k sum squares) (x : ℤ) (w : (x ≡ wantedOf ch a d (CELLS + t * COMPONENTS + c)) × (natAbs x ≤ LARGEST)) where
+    same-total : Totalled (givenOf ch a d (giverOf (n + t)) (componentOf (n + t))) k sum squares
+    same-total = scan-total ch k a d n z t h few below sum squares tot
+
+    pub trial-may : (t < SYSTEMS) × (natAbs (listed v t) ≤ LARGEST) × (natAbs (toZ w64 (ofZ w64 x)) ≤ LARGEST) × (markOf (listed v t) ≤ sum) × (markOf (listed v t) * markOf (listed v t) ≤ squares) × (sum ≤ 3200000000) × (squares ≤ 1280000000000000000)
+    trial-may = taken-may ch k a v held d (n + t) fit c t same-component same-taker sum squares same-total x w
+
+    module _ (i j : ℕ) (p1 : i ≡ sum - markOf (listed v t) + markOf (toZ w64 (ofZ w64 x))) (p2 : j ≡ squares - markOf (listed v t) * markOf (listed v t) + markOf (toZ w64 (ofZ w64 x)) * markOf (toZ w64 (ofZ w64 x))) where
+      pub trial-after : (k ≤ 8) × (i ≤ 3200000000) × (j ≤ 1280000000000000000) × (i * i ≤ k * j)
+      trial-after = after-may ch k a v held d (n + t) fit c t same-component same-taker sum squares same-total x w i j p1 p2
+
+      module _ (r was : ℕ) (q : r ≡ k * j - i * i) (o : was ≡ imbalanceOf (numberAt ch a) k) where
+        is-can : (u : Bool) → ltb r was ≡ u → canOf ch k a d (n + t) ≡ u
+        is-can = scan-can ch k a d n z t h few below g c f ec ef b e p (ltb r was) (lowers-is ch k a v held d (n + t) fit c t same-component same-taker sum squares same-total x w i j p1 p2 r was q o)
+
+        pub trial-can : r < was → canOf ch k a d (n + t) ≡ true
+        trial-can l = is-can true (lt-ltb r was l)
+
+        pub trial-cannot : was ≤ r → canOf ch k a d (n + t) ≡ false
+        trial-cannot l = is-can false (le-ltb r was l)

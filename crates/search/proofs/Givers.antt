@@ -195,8 +195,8 @@ module _ (ch : List ℕ) (k : ℕ) (a : List ℕ) (d : ℕ) where
         pub scan-fit : b ≡ true → Fit ch k a d (n + t)
         scan-fit p = may ch k a d (n + t) (scan-below k n t z h most below) (scan-gives g) (scan-takes k n t z h most below) (at-taker true p)
 
-        pub scan-can : b ≡ true → (r u : Bool) → r ≡ lowersOf ch k a d (n + t) → r ≡ u → canOf ch k a d (n + t) ≡ u
-        scan-can p r u q w = sym (q ∙ can-is ch k (n + t) a d (scan-fit p .between) (scan-fit p .affords)) ∙ w
+        pub scan-can : b ≡ true → (r : Bool) → r ≡ lowersOf ch k a d (n + t) → (u : Bool) → r ≡ u → canOf ch k a d (n + t) ≡ u
+        scan-can p r q u w = sym (q ∙ can-is ch k (n + t) a d (scan-fit p .between) (scan-fit p .affords)) ∙ w
 
       pub scan-found : Past ch k a d (n + t) → canOf ch k a d (n + t) ≡ true → Scanned ch k a d n (n + t)
       scan-found p e = record { past = p; most = omega arith; found = λ _. e }

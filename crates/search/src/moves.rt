@@ -4,7 +4,7 @@ ghost use mathlib.Core.Bool.{true};
 ghost use Prim.Native.Nat.{ℕ, _+_, _*_, _-_, _%_, _<_, _≤_};
 ghost use Rattle.split.specs.Split.{SYSTEMS, cellOf, numberAt, Sound};
 ghost use Rattle.split.specs.Move.{MOVES, componentOf, giverOf, takerOf, movedOf};
-ghost use Rattle.split.specs.Move.{imbalanceOf, affordsOf, lowersOf, canOf, firstOf};
+ghost use Rattle.split.specs.Move.{imbalanceOf, firstOf};
 ghost use Rattle.split.specs.Tests.{Fit};
 ghost use Rattle.rows.specs.Rows.{Small};
 ghost use Rattle.rows.specs.Carried.{Carried, Held};
@@ -15,7 +15,7 @@ use super::balance::Totals;
 use super::balance::exchanged;
 use super::balance::imbalance;
 use super::balance::total;
-use super::state::parts;
+use super::state::amount;
 use super::tried::TRIES;
 use super::tried::number_less;
 use super::tried::number_more;
@@ -34,14 +34,15 @@ fn gives(ch: &[u8; SYSTEMS], k: usize, a: &[u32; CELLS], d: u32, m: usize) -> bo
 {
     let f = m / SYSTEMS % SYSTEMS;
     let c = m / PAIRS;
-    if !systems::has(ch[f], c) {
+    let system = ch[f];
+    if !systems::has(system, c) {
         return false;
     }
     let i = f * COMPONENTS + c;
     if a[i] < d {
         return false;
     }
-    d < parts(ch, k, a, f)
+    d < amount(a, system, f, 0) + amount(a, system, f, 1) + amount(a, system, f, 2)
 }
 
 // Whether the taker t of component c is not the giver f, and contains the component.
@@ -94,34 +95,8 @@ pub(crate) fn renumber(
     v[t] = y;
 }
 
-// Whether move m, of component c to row t, lowers the imbalance, which was `was`. w are the totals where its giver has
-// given.
-fn lowers(
-    ch: &[u8; SYSTEMS],
-    k: usize,
-    a: &[u32; CELLS],
-    v: &[i64; SYSTEMS],
-    tried: &mut [i64; TRIES],
-    d: u32,
-    m: usize,
-    c: usize,
-    t: usize,
-    w: Totals,
-    was: u64,
-) -> bool
-    requires { ⌜ Held (now ch) k (now a) (now v) × Fit (now ch) k (now a) d m
-        × Tried (now ch) k (now a) d (now tried)
-        × Totalled (givenOf (now ch) (now a) d (giverOf m) (componentOf m)) k (w .sum) (w .squares)
-        × (was ≡ imbalanceOf (numberAt (now ch) (now a)) k) × (c ≡ componentOf m) × (t ≡ takerOf m) ⌝ }
-    ensures { λ r. ⌜ (r ≡ lowersOf (now (ch .entry)) k (now (a .entry)) d m)
-        × Tried (now (ch .entry)) k (now (a .entry)) d (now (tried .exit)) ⌝ }
-{
-    let y = number_more(ch, k, a, tried, d, t, c);
-    imbalance(exchanged(w, v, t, y), k) < was
-}
-
 // Of the moves from n on with n's component c and giver f, the first that can be made and lowers the imbalance, or the
-// number after them.
+// number after them. w are the totals where the giver has given; the imbalance was `was`.
 fn first_taker(
     ch: &[u8; SYSTEMS],
     k: usize,
@@ -146,7 +121,8 @@ fn first_taker(
     let mut t = 0;
     while t < k {
         if takes(ch, c, f, t) {
-            if lowers(ch, k, a, v, tried, d, n + t, c, t, w, was) {
+            let more = number_more(ch, k, a, tried, d, t, c);
+            if imbalance(exchanged(w, v, t, more), k) < was {
                 return n + t;
             }
         }
@@ -179,8 +155,8 @@ fn first_from(
     }
     let c = n / PAIRS;
     let f = n / SYSTEMS % SYSTEMS;
-    let x = number_less(ch, k, a, tried, d, f, c);
-    let w = exchanged(all, v, f, x);
+    let less = number_less(ch, k, a, tried, d, f, c);
+    let w = exchanged(all, v, f, less);
     first_taker(ch, k, a, v, tried, d, n, c, f, w, was)
 }
 

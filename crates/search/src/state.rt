@@ -1,8 +1,8 @@
-// A row's parts, and the spread of some numbers.
+// A row's amounts, and the spread of some numbers.
 ghost use mathlib.Core.Path.{_≡_};
-ghost use Prim.Native.Nat.{_+_, _*_, _<_, _≤_};
+ghost use Prim.Native.Nat.{_<_};
 ghost use Rattle.systems.specs.Systems.{memberOf, Candidate};
-ghost use Rattle.split.specs.Split.{SYSTEMS, cellOf, partsOf, Stock};
+ghost use Rattle.split.specs.Split.{SYSTEMS, cellOf};
 ghost use Rattle.split.specs.Rating.{spreadOf};
 ghost use Rattle.rows.specs.Rows.{listed, Small};
 use split::CELLS;
@@ -31,20 +31,11 @@ pub(crate) fn spread(v: &[i64; SYSTEMS], k: usize) -> u64
 }
 
 // The amount in row s, of the given system, of the system's component j.
-fn amount(a: &[u32; CELLS], system: u8, s: usize, j: usize) -> u32
+pub(crate) fn amount(a: &[u32; CELLS], system: u8, s: usize, j: usize) -> u32
     requires { ⌜ Candidate system × (s < SYSTEMS) × (j < 3) ⌝ }
     ensures { λ r. ⌜ r ≡ cellOf (now (a .entry)) s (memberOf system j) ⌝ }
 {
     let c = systems::member(system, j);
     let i = s * COMPONENTS + c;
     a[i]
-}
-
-// Row s's parts.
-pub(crate) fn parts(ch: &[u8; SYSTEMS], k: usize, a: &[u32; CELLS], s: usize) -> u32
-    requires { ⌜ Stock (now ch) k (now a) × (s < k) ⌝ }
-    ensures { λ r. ⌜ r ≡ partsOf (now (ch .entry)) (now (a .entry)) s ⌝ }
-{
-    let system = ch[s];
-    amount(a, system, s, 0) + amount(a, system, s, 1) + amount(a, system, s, 2)
 }
