@@ -132,6 +132,15 @@ module _ (k n t : ℕ) (z : n % SYSTEMS ≡ 0) (h : t < k) (most : k ≤ SYSTEMS
   pub scan-component : componentOf (n + t) ≡ componentOf n
   scan-component = omega arith
 
+-- the giver after n's, and the first of the next component
+module _ (k n : ℕ) (z : n % SYSTEMS ≡ 0) (below : n < MOVES) (row : giverOf n < k) where
+  pub next-giver : (n + SYSTEMS ≤ MOVES) × ((n + SYSTEMS) % SYSTEMS ≡ 0)
+  next-giver = (omega arith, omega arith)
+
+  pub skip-rest : k ≤ giverOf (n + SYSTEMS)
+      → (n + SYSTEMS + (PAIRS - (n + SYSTEMS) % PAIRS) ≤ MOVES) × ((n + SYSTEMS + (PAIRS - (n + SYSTEMS) % PAIRS)) % SYSTEMS ≡ 0) × (giverOf (n + SYSTEMS + (PAIRS - (n + SYSTEMS) % PAIRS)) < k)
+  skip-rest h = (omega arith, omega arith, omega arith)
+
 -- the scan
 module _ (ch : List ℕ) (k : ℕ) (a : List ℕ) (d : ℕ) where
   pub past-none : Past ch k a d 0

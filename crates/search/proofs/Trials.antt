@@ -40,8 +40,8 @@ module _ (a : List ℕ) (system s c n j e : ℕ) (p : e ≡ memberOf system j) w
   pub instead-here : e ≡ c → n ≡ insteadOf a s c n (memberOf system j)
   instead-here q = rw (eq-eqb (memberOf system j) c (sym p ∙ q))
 
-  pub instead-there : (e ≡ c → ⊥) → cellOf a s e ≡ insteadOf a s c n (memberOf system j)
-  instead-there q = rw (ne-eqb (memberOf system j) c (λ z. q (p ∙ z))) (ap (cellOf a s) p)
+  pub instead-there : (e ≡ c → ⊥) → (r : ℕ) → r ≡ cellOf a s (memberOf system j) → r ≡ insteadOf a s c n (memberOf system j)
+  instead-there q r u = rw (ne-eqb (memberOf system j) c (λ z. q (p ∙ z))) u
 
 -- and the number of three such amounts
 module _ (ch a : List ℕ) (s c n x y z : ℕ) (p : x ≡ insteadOf a s c n (memberOf (systemOf ch s) 0)) (q : y ≡ insteadOf a s c n (memberOf (systemOf ch s) 1))

@@ -178,10 +178,10 @@ pub(crate) fn first_move(
     let mut n = 0;
     while n < MOVES {
         let m = first_from(ch, k, a, v, tried, d, n, all, was);
-        if m < n + SYSTEMS {
+        n += SYSTEMS;
+        if m < n {
             return m;
         }
-        n += SYSTEMS;
         if k <= n / SYSTEMS % SYSTEMS {
             n += PAIRS - n % PAIRS;
         }

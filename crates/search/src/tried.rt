@@ -9,6 +9,7 @@ ghost use Rattle.split.specs.Split.{SYSTEMS, CELLS};
 ghost use Rattle.split.specs.Steps.{insteadOf, numberWith};
 ghost use Rattle.rows.specs.Carried.{Workable};
 ghost use Rattle.search.specs.Tried.{TRIES, UNKNOWN, wantedOf, Triable, Tried, Forgot};
+use super::state::amount;
 use split::CELLS;
 use systems::COMPONENTS;
 use systems::SYSTEMS;
@@ -24,12 +25,10 @@ fn instead(a: &[u32; CELLS], system: u8, s: usize, c: usize, n: u32, j: usize) -
     requires { ⌜ Candidate system × (s < SYSTEMS) × (j < 3) ⌝ }
     ensures { λ r. ⌜ r ≡ insteadOf (now (a .entry)) s c n (memberOf system j) ⌝ }
 {
-    let e = systems::member(system, j);
-    if e == c {
+    if systems::member(system, j) == c {
         return n;
     }
-    let i = s * COMPONENTS + e;
-    a[i]
+    amount(a, system, s, j)
 }
 
 // Row s's partial number where its amount of component c were n.

@@ -7,7 +7,7 @@ use Rattle.split.specs.Split.{SYSTEMS}
 use Rattle.split.specs.Move.{MOVES, giverOf}
 use Rattle.search.specs.Scan.{Past}
 use Rattle.search.specs.Tried.{Tried}
-use Rattle.search.proofs.Givers.{past-none, past-rows, past-block, found-first, none-first}
+use Rattle.search.proofs.Givers.{next-giver, skip-rest, past-none, past-rows, past-block, found-first, none-first}
 use Rattle.search.proofs.Given.{first-total, first-may, first-imbalance}
 use Rattle.search.proofs.moves.first_move.Statement.{statement}
 use Rattle.search.proofs.moves.first_move.Tie as tie
@@ -30,14 +30,11 @@ loop-holds c = (omega arith, refl, c .before .before .pre .0 .sound .stock .chos
 first-from-requires : tie.Need-first-from-requires Inv-loop μ-loop
 first-from-requires c κs = (c .before .before .before .before .before .pre .0, c .before .loop-test .taken, c .before .before .loop .inv .1, c .before .before .loop .inv .2, c .before .before .loop .inv .3, c .before .before .loop .inv .4, first-total _ _ _ _ (c .before .before .before .before .before .pre .0) _ _ (c .before .before .before .before .total .ensures), first-imbalance _ _ _ _ (c .before .before .before .before .before .pre .0) _ _ (first-total _ _ _ _ (c .before .before .before .before .before .pre .0) _ _ (c .before .before .before .before .total .ensures)) _ (c .before .before .before .imbalance .ensures))
 
-add-if1 : tie.Need-add-if1 Inv-loop μ-loop
-add-if1 c = search needs
+add-n : tie.Need-add-n Inv-loop μ-loop
+add-n c = search needs
 
 returns : tie.Need-returns Inv-loop μ-loop
 returns c = let s = c .before .first-from .ensures .0 in (found-first _ _ _ _ _ (omega (arith, c .before .before .before .before .loop .inv .1, c .before .before .before .loop-test .taken, c .if1 .taken)) (s .past) (s .found (c .if1 .taken)), c .before .first-from .ensures .1)
-
-add-n : tie.Need-add-n Inv-loop μ-loop
-add-n c = search needs
 
 sub-n : tie.Need-sub-n Inv-loop μ-loop
 sub-n c = search needs
@@ -49,13 +46,13 @@ loop-less : tie.Need-loop-less Inv-loop μ-loop
 loop-less c = omega (arith, c .before .before .before .before .loop-test .taken)
 
 loop-again : tie.Need-loop-again Inv-loop μ-loop
-loop-again c = let s = c .before .before .first-from .ensures in (omega (arith, c .before .before .before .before .before .loop .inv .1, c .before .before .before .before .before .loop .inv .2, c .before .before .before .before .loop-test .taken, c .if2 .taken), omega (arith, c .before .before .before .before .before .loop .inv .1), omega (arith, c .before .before .before .before .before .loop .inv .1, c .before .before .before .before .before .loop .inv .2), past-rows _ _ _ _ _ (c .if2 .taken) (past-block _ _ _ _ _ _ (s .0) (c .before .if1 .left)), s .1)
+loop-again c = let s = c .before .before .first-from .ensures in let w = skip-rest _ _ (c .before .before .before .before .before .loop .inv .1) (c .before .before .before .before .loop-test .taken) (c .before .before .before .before .before .loop .inv .2) (c .if2 .taken) in (w .0, w .1, w .2, past-rows _ _ _ _ _ (c .if2 .taken) (past-block _ _ _ _ _ _ (s .0) (c .before .if1 .left)), s .1)
 
 loop-less-2 : tie.Need-loop-less-2 Inv-loop μ-loop
 loop-less-2 c = omega (arith, c .before .before .before .before .loop-test .taken)
 
 loop-again-2 : tie.Need-loop-again-2 Inv-loop μ-loop
-loop-again-2 c = let s = c .before .before .first-from .ensures in (omega (arith, c .before .before .before .before .before .loop .inv .1, c .before .before .before .before .loop-test .taken), omega (arith, c .before .before .before .before .before .loop .inv .1), c .if2 .left, past-block _ _ _ _ _ _ (s .0) (c .before .if1 .left), s .1)
+loop-again-2 c = let s = c .before .before .first-from .ensures in let w = next-giver _ _ (c .before .before .before .before .before .loop .inv .1) (c .before .before .before .before .loop-test .taken) (c .before .before .before .before .before .loop .inv .2) in (w .0, w .1, c .if2 .left, past-block _ _ _ _ _ _ (s .0) (c .before .if1 .left), s .1)
 
 returns-2 : tie.Need-returns-2 Inv-loop μ-loop
 returns-2 c = (none-first _ _ _ _ _ (c .loop-test .left) (c .before .loop .inv .3), c .before .loop .inv .4)
@@ -70,9 +67,8 @@ first-move-spec =
     imbalance-requires
     loop-holds
     first-from-requires
-    add-if1
-    returns
     add-n
+    returns
     sub-n
     add-n-2
     loop-less
