@@ -5,16 +5,20 @@ use mathlib.Core.Bool.{Bool, true, false, not}
 use mathlib.Core.List.{List}
 use native.Mathlib.Omega.{arith}
 use lib.Dec.{eqb, ltb}
-use borrow.Author.Tests.{lt-ltb, le-ltb, eq-eqb, ne-eqb, ltb-true, ltb-false}
+use borrow.Author.Tests.{lt-ltb, eq-eqb, ne-eqb, ltb-true, ltb-false}
 use Rattle.systems.specs.Systems.{hasOf}
 use Rattle.split.specs.Split.{SYSTEMS, systemOf}
 use Rattle.split.specs.Members.{both-left, both-right}
-use Rattle.split.specs.Move.{MOVES, componentOf, giverOf, takerOf, betweenOf, affordsOf, canOf, firstOf}
+use Rattle.split.specs.Move.{MOVES, componentOf, giverOf, takerOf, betweenOf, affordsOf, lowersOf, canOf, firstOf}
 use Rattle.split.specs.Folds.{first-here, first-none}
 use Rattle.split.specs.Scan.{first-skip}
-use Rattle.split.specs.Tests.{Fit, Can, can-true, between-true}
+use Rattle.split.specs.Tests.{Fit, Can, can-true, can-is, between-true}
 use Rattle.search.specs.Balance.{Totalled}
 use Rattle.search.specs.Scan.{givenOf, givesOf, takesOf, Past, Scanned}
+
+-- the pairs of a giver and a taker
+abbrev PAIRS : ℕ
+PAIRS = 64
 
 clash : {A : Type 0} (b : Bool) → b ≡ true → b ≡ false → A
 clash b p q = absurd (let z : _≡_ {A = ℕ} 0 1 = ap (λ x. elim x [ true ↦ 0 | false ↦ 1 ]) (sym p ∙ q) in omega arith)
@@ -25,10 +29,6 @@ by-test P false p q = q refl
 
 -- what the giver's tests come to
 module _ (ch : List ℕ) (k : ℕ) (a : List ℕ) (d m : ℕ) where
-  pub give-past : k ≤ giverOf m → false ≡ givesOf ch k a d m
-  unfolding givesOf
-  give-past h = rw (le-ltb (giverOf m) k h, givesOf)
-
   module _ (h : giverOf m < k) (b : Bool) (f : b ≡ hasOf (systemOf ch (giverOf m)) (componentOf m)) where
     pub give-lacks : b ≡ false → false ≡ givesOf ch k a d m
     unfolding givesOf
@@ -82,7 +82,7 @@ module _ (ch : List ℕ) (k : ℕ) (a : List ℕ) (d m : ℕ) where
   unless : ((Can ch k m a d) → ⊥) → canOf ch k a d m ≡ false
   unless h = by-test (λ b. b ≡ false) (canOf ch k a d m) (λ e. absurd (h (can-true ch k m a d e))) (λ e. refl)
 
-  pub no-take : takesOf ch (componentOf m) (giverOf m) (takerOf m) ≡ false → canOf ch k a d m ≡ false
+  no-take : takesOf ch (componentOf m) (giverOf m) (takerOf m) ≡ false → canOf ch k a d m ≡ false
   no-take e = unless (λ c. clash (takesOf ch (componentOf m) (giverOf m) (takerOf m)) (sym (take-is ch (componentOf m) (giverOf m) (takerOf m) (c .between .apart) true (sym (c .between .takes)))) e)
 
   pub no-give : givesOf ch k a d m ≡ false → canOf ch k a d m ≡ false
@@ -100,11 +100,11 @@ module _ (ch : List ℕ) (k : ℕ) (a : List ℕ) (d m : ℕ) where
   pub no-row : k ≤ takerOf m → canOf ch k a d m ≡ false
   no-row h = unless (λ c. absurd (omega (arith, c .between .to)))
 
-  pub no-giver-row : k ≤ giverOf m → canOf ch k a d m ≡ false
+  no-giver-row : k ≤ giverOf m → canOf ch k a d m ≡ false
   no-giver-row h = unless (λ c. absurd (omega (arith, c .between .from)))
 
   -- and which may be
-  pub may : m < MOVES → givesOf ch k a d m ≡ true → takerOf m < k → takesOf ch (componentOf m) (giverOf m) (takerOf m) ≡ true → Fit ch k a d m
+  may : m < MOVES → givesOf ch k a d m ≡ true → takerOf m < k → takesOf ch (componentOf m) (giverOf m) (takerOf m) ≡ true → Fit ch k a d m
   unfolding betweenOf takesOf
   may h g l t =
       let w = gives-true ch k a d m g in
@@ -112,7 +112,7 @@ module _ (ch : List ℕ) (k : ℕ) (a : List ℕ) (d m : ℕ) where
       let q = both-right (not (eqb (giverOf m) (takerOf m))) _ t in
       record { below = h; between = rw (lt-ltb (giverOf m) k (w .from), lt-ltb (takerOf m) k l, p, w .gives, q, betweenOf); affords = w .affords }
 
-pub takes-at : (ch : List ℕ) (m c f t : ℕ) (b r : Bool) → c ≡ componentOf m → f ≡ giverOf m → t ≡ takerOf m → r ≡ takesOf ch c f t → r ≡ b → takesOf ch (componentOf m) (giverOf m) (takerOf m) ≡ b
+takes-at : (ch : List ℕ) (m c f t : ℕ) (b r : Bool) → c ≡ componentOf m → f ≡ giverOf m → t ≡ takerOf m → r ≡ takesOf ch c f t → r ≡ b → takesOf ch (componentOf m) (giverOf m) (takerOf m) ≡ b
 takes-at ch m c f t b r p q s e u = rw (p, q, s) at (sym e ∙ u)
 
 -- the moves of one giver and component: n and those after it
@@ -131,6 +131,15 @@ module _ (k n t : ℕ) (z : n % SYSTEMS ≡ 0) (h : t < k) (most : k ≤ SYSTEMS
 
   pub scan-component : componentOf (n + t) ≡ componentOf n
   scan-component = omega arith
+
+-- the giver after n's, and the first of the next component
+module _ (k n : ℕ) (z : n % SYSTEMS ≡ 0) (below : n < MOVES) (row : giverOf n < k) where
+  pub next-giver : (n + SYSTEMS ≤ MOVES) × ((n + SYSTEMS) % SYSTEMS ≡ 0)
+  next-giver = (omega arith, omega arith)
+
+  pub skip-rest : k ≤ giverOf (n + SYSTEMS)
+      → (n + SYSTEMS + (PAIRS - (n + SYSTEMS) % PAIRS) ≤ MOVES) × ((n + SYSTEMS + (PAIRS - (n + SYSTEMS) % PAIRS)) % SYSTEMS ≡ 0) × (giverOf (n + SYSTEMS + (PAIRS - (n + SYSTEMS) % PAIRS)) < k)
+  skip-rest h = (omega arith, omega arith, omega arith)
 
 -- the scan
 module _ (ch : List ℕ) (k : ℕ) (a : List ℕ) (d : ℕ) where
@@ -184,11 +193,26 @@ module _ (ch : List ℕ) (k : ℕ) (a : List ℕ) (d : ℕ) where
       pub scan-total : (x y : ℕ) → Totalled (givenOf ch a d (giverOf n) (componentOf n)) k x y → Totalled (givenOf ch a d (giverOf (n + t)) (componentOf (n + t))) k x y
       scan-total x y w = rw (scan-giver k n t z h most below, scan-component k n t z h most below) w
 
+      -- what its taker's test comes to
+      module _ (g : givesOf ch k a d n ≡ true) (c f : ℕ) (ec : c ≡ componentOf n) (ef : f ≡ giverOf n) (b : Bool) (e : b ≡ takesOf ch c f t) where
+        at-taker : (u : Bool) → b ≡ u → takesOf ch (componentOf (n + t)) (giverOf (n + t)) (takerOf (n + t)) ≡ u
+        at-taker u p = takes-at ch (n + t) c f t u b (ec ∙ sym (scan-component k n t z h most below)) (ef ∙ sym (scan-giver k n t z h most below)) (sym (scan-taker k n t z h most below)) e p
+
+        pub scan-lacks : b ≡ false → canOf ch k a d (n + t) ≡ false
+        scan-lacks p = no-take ch k a d (n + t) (at-taker false p)
+
+        pub scan-fit : b ≡ true → Fit ch k a d (n + t)
+        scan-fit p = may ch k a d (n + t) (scan-below k n t z h most below) (scan-gives g) (scan-takes k n t z h most below) (at-taker true p)
+
+        pub scan-can : b ≡ true → (r : Bool) → r ≡ lowersOf ch k a d (n + t) → (u : Bool) → r ≡ u → canOf ch k a d (n + t) ≡ u
+        scan-can p r q u w = sym (q ∙ can-is ch k (n + t) a d (scan-fit p .between) (scan-fit p .affords)) ∙ w
+
       pub scan-found : Past ch k a d (n + t) → canOf ch k a d (n + t) ≡ true → Scanned ch k a d n (n + t)
       scan-found p e = record { past = p; most = omega arith; found = λ _. e }
 
-  pub past-rows : (n r : ℕ) → Past ch k a d n → ((s : ℕ) → n ≤ s → s < r → k ≤ giverOf s) → Past ch k a d r
-  past-rows n r p h = past-to n r p (λ s l m. no-giver-row ch k a d s (h s l m))
+  -- the givers after n that are no rows
+  pub past-rows : (n : ℕ) → k ≤ giverOf n → Past ch k a d n → Past ch k a d (n + (PAIRS - n % PAIRS))
+  past-rows n h p = past-to n (n + (PAIRS - n % PAIRS)) p (λ s l m. no-giver-row ch k a d s (omega arith))
 
   pub past-block : (n r : ℕ) → Scanned ch k a d n r → n + SYSTEMS ≤ r → Past ch k a d (n + SYSTEMS)
   past-block n r s l = record { none = λ x h. s .past .none x (omega arith) }

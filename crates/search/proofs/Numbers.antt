@@ -4,8 +4,10 @@ use mathlib.Core.Path.{_≡_, refl, ap, _∙_}
 use mathlib.Core.Bool.{true}
 use native.Mathlib.Omega.{arith}
 use lib.IntN.{ℤ, pos, natAbs}
-use mir.Syntax.{w64}
-use mir.Val.{toZ, ofZ}
+use lib.Dec.{ltb}
+use mir.Syntax.{w32, w64}
+use mir.Val.{Fits, toZ, ofZ}
+use borrow.Author.Tests.{ltb-true}
 use Rattle.formula.specs.WorkingRule.{LARGEST}
 use Rattle.formula.specs.Partial.{partialNumber, partial-small}
 use Rattle.ternary.specs.Answer.{isIn, isSystem, partialOf, partial-is}
@@ -18,6 +20,9 @@ use Rattle.integer.specs.Bits.{back}
 known-system : (system : ℕ) → Candidate system → isSystem system ≡ true
 unfolding isIn
 known-system system h = to-true (isSystem system) (each-candidate isSystem tt system h)
+
+pub system-fits : (system : ℕ) → Candidate system → Fits w32 system
+system-fits system h = record { fits = omega (arith, ltb-true system 256 (to-true (ltb system 256) (each-candidate (λ s. ltb s 256) tt system h))) }
 
 module _ (system w n1 n2 n3 : ℕ) (p : Partial) (e : w ≡ system) (q : p ≡ partialOf w n1 n2 n3) (h : Candidate system) (some : 1 ≤ n1 + n2 + n3) (few : n1 + n2 + n3 ≤ 1000000) where
   answer-is : p ≡ Number (partialNumber system n1 n2 n3)

@@ -68,6 +68,17 @@ module _ (x : ℤ) (h : natAbs x ≤ LARGEST) where
       × (natAbs (toZ w64 (ofZ w64 (toZ w64 (ofZ w64 (quotZ (toZ w64 (ofZ w64 x)) (pos 10000))) +ℤ pos 200000000))) ≤ 400000000)
   mark-result = rw sum-back (refl, mark-le)
 
+-- a mark from the number's bits
+pub mark-back : (o : ℤ) (p : ℕ) → natAbs o ≤ LARGEST → p ≡ markOf (toZ w64 (ofZ w64 o)) → p ≡ markOf o
+mark-back o p h e = e ∙ ap markOf (back o (omega arith))
+
+-- in the totals
+pub old-in : (o : ℤ) (p sum squares : ℕ) → natAbs o ≤ LARGEST → p ≡ markOf (toZ w64 (ofZ w64 o)) → markOf o ≤ sum → markOf o * markOf o ≤ squares → (p ≤ sum) × (p * p ≤ squares)
+old-in o p sum squares h e l m = rw (mark-back o p h e) (l, m)
+
+pub marks-as : (sum squares p q m n : ℕ) → p ≡ m → q ≡ n → (sum - p + q ≡ sum - m + n) × (squares - p * p + q * q ≡ squares - m * m + n * n)
+marks-as sum squares p q m n e f = rw (e, f) (refl, refl)
+
 square-of : (z : ℤ) → pos (natAbs z * natAbs z) ≡ z *ℤ z
 square-of (pos n) = refl
 square-of (negsuc n) = refl

@@ -12,8 +12,11 @@ use mir.Syntax.{w64}
 use mir.Val.{toZ, ofZ}
 use borrow.Author.Tests.{eqb-true, eqb-false, eq-eqb, ne-eqb}
 use Rattle.formula.specs.WorkingRule.{LARGEST}
-use Rattle.systems.specs.Systems.{memberOf, Candidate}
+use Rattle.systems.specs.Systems.{memberOf}
 use Rattle.formula.specs.Partial.{partialNumber}
+use Rattle.ternary.specs.Answer.{partialOf}
+use Rattle.ternary.specs.declared.Partial.{Partial}
+use Rattle.ternary.specs.declared.Partial.the-variants.{Number, Refused}
 use Rattle.split.specs.Split.{SYSTEMS, cellOf, systemOf, partsOf, numberAt, Sound}
 use Rattle.split.specs.Rating.{spreadOf}
 use Rattle.split.specs.Move.{componentOf, giverOf, takerOf, movedOf}
@@ -25,6 +28,7 @@ use Rattle.split.specs.Steps.{insteadOf, numberWith, Changed, instead-is, numbe
 use Rattle.rows.specs.Rows.{listed, Small}
 use Rattle.rows.specs.Carried.{Carried, Workable}
 use Rattle.integer.specs.Bits.{back}
+use Rattle.search.proofs.Numbers.{number-ok, number-never}
 
 -- the spread depends on the k numbers alone
 pub spread-same : (u v : ℕ → ℤ) (k : ℕ) → 0 < k → ((i : ℕ) → i < k → u i ≡ v i) → spreadOf u k ≡ spreadOf v k
@@ -36,18 +40,31 @@ module _ (a : List ℕ) (system s c n j e : ℕ) (p : e ≡ memberOf system j) w
   pub instead-here : e ≡ c → n ≡ insteadOf a s c n (memberOf system j)
   instead-here q = rw (eq-eqb (memberOf system j) c (sym p ∙ q))
 
-  pub instead-there : (e ≡ c → ⊥) → cellOf a s e ≡ insteadOf a s c n (memberOf system j)
-  instead-there q = rw (ne-eqb (memberOf system j) c (λ z. q (p ∙ z))) (ap (cellOf a s) p)
+  pub instead-there : (e ≡ c → ⊥) → (r : ℕ) → r ≡ cellOf a s (memberOf system j) → r ≡ insteadOf a s c n (memberOf system j)
+  instead-there q r u = rw (ne-eqb (memberOf system j) c (λ z. q (p ∙ z))) u
 
 -- and the number of three such amounts
-pub number-picked : (ch a : List ℕ) (s c n x y z : ℕ) (v : ℤ) → x ≡ insteadOf a s c n (memberOf (systemOf ch s) 0) → y ≡ insteadOf a s c n (memberOf (systemOf ch s) 1)
-    → z ≡ insteadOf a s c n (memberOf (systemOf ch s) 2) → v ≡ partialNumber (systemOf ch s) x y z → v ≡ numberWith ch a s c n
-unfolding numberWith
-number-picked ch a s c n x y z v p q r u = u ∙ rw (p, q, r)
+module _ (ch a : List ℕ) (s c n x y z : ℕ) (p : x ≡ insteadOf a s c n (memberOf (systemOf ch s) 0)) (q : y ≡ insteadOf a s c n (memberOf (systemOf ch s) 1))
+    (r : z ≡ insteadOf a s c n (memberOf (systemOf ch s) 2)) (w : Workable ch a s c n) (u : Partial) (e : u ≡ partialOf (systemOf ch s) x y z) where
+  picked : partialNumber (systemOf ch s) x y z ≡ numberWith ch a s c n
+  unfolding numberWith
+  picked = rw (p, q, r)
 
-pub may-pick : (ch a : List ℕ) (s c n x y z : ℕ) → x ≡ insteadOf a s c n (memberOf (systemOf ch s) 0) → y ≡ insteadOf a s c n (memberOf (systemOf ch s) 1)
-    → z ≡ insteadOf a s c n (memberOf (systemOf ch s) 2) → Workable ch a s c n → Candidate (systemOf ch s) × (1 ≤ x + y + z) × (x + y + z ≤ 1000000)
-may-pick ch a s c n x y z p q r w = (w .known, omega (arith, w .some, p, q, r), omega (arith, w .few, p, q, r))
+  some : 1 ≤ x + y + z
+  some = omega (arith, w .some, p, q, r)
+
+  few : x + y + z ≤ 1000000
+  few = omega (arith, w .few, p, q, r)
+
+  pub with-ok : (v : ℤ) → u ≡ Number v → (toZ w64 (ofZ w64 v) ≡ numberWith ch a s c n) × (natAbs (toZ w64 (ofZ w64 v)) ≤ LARGEST)
+  with-ok v h =
+      let o = number-ok (systemOf ch s) (systemOf ch s) x y z u refl e (w .known) some few v h in
+      (o .0 ∙ picked, o .1)
+
+  pub with-never : (m : ℕ) → u ≡ Refused m → (pos 0 ≡ numberWith ch a s c n) × (0 ≤ LARGEST)
+  with-never m h =
+      let o = number-never (systemOf ch s) (systemOf ch s) x y z u refl e (w .known) some few m h in
+      (o .0 ∙ picked, o .1)
 
 -- two numbers are put
 module _ (v : List ℤ) (k f t : ℕ) (x y : ℤ) (long : length v ≡ SYSTEMS) (most : k ≤ SYSTEMS) (lf : f < k) (lt : t < k) (P : ℕ → ℤ → Type 0)

@@ -63,21 +63,18 @@ module _ (ch : List ℕ) (k : ℕ) (a : List ℕ) (d s c : ℕ) (h : s < SYSTEMS
   more-column : columnIn (CELLS + s * COMPONENTS + c) ≡ c
   more-column = omega arith
 
-  more-cell : CELLS + s * COMPONENTS + c - CELLS ≡ s * COMPONENTS + c
-  more-cell = omega arith
+  more-high : CELLS ≤ CELLS + s * COMPONENTS + c
+  more-high = omega arith
 
-  more-amount : triedOf a d (CELLS + s * COMPONENTS + c) ≡ getD a (s * COMPONENTS + c) 0 + d
-  more-amount = sym (more-is a d (CELLS + s * COMPONENTS + c) (omega arith)) ∙ ap (λ i. getD a i 0 + d) more-cell
+  pub more-room : Triable ch k a d (CELLS + s * COMPONENTS + c) → getD a (CELLS + s * COMPONENTS + c - CELLS) 0 + d ≤ 1000000
+  more-room t = t .room more-high
 
-  pub more-room : Triable ch k a d (CELLS + s * COMPONENTS + c) → getD a (s * COMPONENTS + c) 0 + d ≤ 1000000
-  more-room t = rw more-cell at (t .room (omega arith))
+  pub more-work : Triable ch k a d (CELLS + s * COMPONENTS + c) → Workable ch a s c (getD a (CELLS + s * COMPONENTS + c - CELLS) 0 + d)
+  more-work t = rw (more-row, more-column, sym (more-is a d (CELLS + s * COMPONENTS + c) more-high)) at (t .workable)
 
-  pub more-work : Triable ch k a d (CELLS + s * COMPONENTS + c) → Workable ch a s c (getD a (s * COMPONENTS + c) 0 + d)
-  more-work t = rw (more-row, more-column, more-amount) at (t .workable)
-
-  pub more-wanted : numberWith ch a s c (getD a (s * COMPONENTS + c) 0 + d) ≡ wantedOf ch a d (CELLS + s * COMPONENTS + c)
+  pub more-wanted : numberWith ch a s c (getD a (CELLS + s * COMPONENTS + c - CELLS) 0 + d) ≡ wantedOf ch a d (CELLS + s * COMPONENTS + c)
   unfolding wantedOf
-  more-wanted = rw (more-row, more-column, more-amount)
+  more-wanted = rw (more-row, more-column, sym (more-is a d (CELLS + s * COMPONENTS + c) more-high))
 
 -- a number that is put
 module _ (ch : List ℕ) (k : ℕ) (a : List ℕ) (d : ℕ) (t : List ℤ) (kt : Tried ch k a d t) (i : ℕ) (h : i < TRIES) (y : ℤ) (p : (y ≡ wantedOf ch a d i) × (natAbs y ≤ LARGEST)) where

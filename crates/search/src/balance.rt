@@ -1,8 +1,9 @@
 // The imbalance of some partial numbers, from two sums that a move changes in two places.
 ghost use mathlib.Core.Path.{_≡_};
-ghost use Prim.Native.Nat.{_+_, _*_, _-_, _≤_};
+ghost use Prim.Native.Nat.{_+_, _*_, _-_, _<_, _≤_};
 ghost use lib.IntN.{natAbs};
 ghost use Rattle.formula.specs.WorkingRule.{LARGEST};
+ghost use Rattle.split.specs.Split.{SYSTEMS};
 ghost use Rattle.rows.specs.Rows.{listed, Small};
 ghost use Rattle.search.specs.Balance.{markOf, Totalled};
 use systems::SYSTEMS;
@@ -44,15 +45,20 @@ pub(crate) fn total(v: &[i64; SYSTEMS], k: usize) -> Totals
     Totals { sum, squares }
 }
 
-// The totals with the mark y in the place of x.
-pub(crate) fn replaced(w: Totals, x: u64, y: u64) -> Totals
-    requires { ⌜ (x ≤ w .sum) × (x * x ≤ w .squares) × (x ≤ 400000000) × (y ≤ 400000000) × (w .sum ≤ 3200000000)
-        × (w .squares ≤ 1280000000000000000) ⌝ }
-    ensures { λ r. ⌜ (r .sum ≡ w .sum - x + y) × (r .squares ≡ w .squares - x * x + y * y) ⌝ }
+// The totals with the number x in the place of row s's.
+pub(crate) fn exchanged(w: Totals, v: &[i64; SYSTEMS], s: usize, x: i64) -> Totals
+    requires { ⌜ (s < SYSTEMS) × (natAbs (listed (now v) s) ≤ LARGEST) × (natAbs x ≤ LARGEST)
+        × (markOf (listed (now v) s) ≤ w .sum) × (markOf (listed (now v) s) * markOf (listed (now v) s) ≤ w .squares)
+        × (w .sum ≤ 3200000000) × (w .squares ≤ 1280000000000000000) ⌝ }
+    ensures { λ r. ⌜ (r .sum ≡ w .sum - markOf (listed (now (v .entry)) s) + markOf x)
+        × (r .squares ≡ w .squares - markOf (listed (now (v .entry)) s) * markOf (listed (now (v .entry)) s)
+        + markOf x * markOf x) ⌝ }
 {
+    let y = mark(v[s]);
+    let z = mark(x);
     Totals {
-        sum: w.sum - x + y,
-        squares: w.squares - x * x + y * y,
+        sum: w.sum - y + z,
+        squares: w.squares - y * y + z * z,
     }
 }
 

@@ -4,7 +4,7 @@ ghost use mathlib.Core.Bool.{true};
 ghost use Prim.Native.Nat.{ℕ, _+_, _*_, _-_, _%_, _<_, _≤_};
 ghost use Rattle.split.specs.Split.{SYSTEMS, cellOf, numberAt, Sound};
 ghost use Rattle.split.specs.Move.{MOVES, componentOf, giverOf, takerOf, movedOf};
-ghost use Rattle.split.specs.Move.{imbalanceOf, affordsOf, lowersOf, canOf, firstOf};
+ghost use Rattle.split.specs.Move.{imbalanceOf, firstOf};
 ghost use Rattle.split.specs.Tests.{Fit};
 ghost use Rattle.rows.specs.Rows.{Small};
 ghost use Rattle.rows.specs.Carried.{Carried, Held};
@@ -12,11 +12,10 @@ ghost use Rattle.search.specs.Tried.{Tried};
 ghost use Rattle.search.specs.Balance.{Totalled};
 ghost use Rattle.search.specs.Scan.{givenOf, givesOf, takesOf, Past, Scanned};
 use super::balance::Totals;
+use super::balance::exchanged;
 use super::balance::imbalance;
-use super::balance::mark;
-use super::balance::replaced;
 use super::balance::total;
-use super::state::parts;
+use super::state::amount;
 use super::tried::TRIES;
 use super::tried::number_less;
 use super::tried::number_more;
@@ -28,33 +27,22 @@ use turn::MOVES;
 // The pairs of a giver and a taker.
 pub(crate) const PAIRS: usize = SYSTEMS * SYSTEMS;
 
-// Whether move m's giver has the stride d, and does not end empty.
-fn affords(ch: &[u8; SYSTEMS], k: usize, a: &[u32; CELLS], d: u32, m: usize) -> bool
+// Whether move m's giver contains the component, has the stride d of it, and does not end empty.
+fn gives(ch: &[u8; SYSTEMS], k: usize, a: &[u32; CELLS], d: u32, m: usize) -> bool
     requires { ⌜ Sound (now ch) k (now a) × (m < MOVES) × (giverOf m < k) ⌝ }
-    ensures { λ r. ⌜ r ≡ affordsOf (now (ch .entry)) (now (a .entry)) d m ⌝ }
+    ensures { λ r. ⌜ r ≡ givesOf (now (ch .entry)) k (now (a .entry)) d m ⌝ }
 {
     let f = m / SYSTEMS % SYSTEMS;
     let c = m / PAIRS;
+    let system = ch[f];
+    if !systems::has(system, c) {
+        return false;
+    }
     let i = f * COMPONENTS + c;
     if a[i] < d {
         return false;
     }
-    d < parts(ch, k, a, f)
-}
-
-// Whether move m's giver is a row that contains the component, and affords the stride d.
-fn gives(ch: &[u8; SYSTEMS], k: usize, a: &[u32; CELLS], d: u32, m: usize) -> bool
-    requires { ⌜ Sound (now ch) k (now a) × (m < MOVES) ⌝ }
-    ensures { λ r. ⌜ r ≡ givesOf (now (ch .entry)) k (now (a .entry)) d m ⌝ }
-{
-    let f = m / SYSTEMS % SYSTEMS;
-    if k <= f {
-        return false;
-    }
-    if !systems::has(ch[f], m / PAIRS) {
-        return false;
-    }
-    affords(ch, k, a, d, m)
+    d < amount(a, system, f, 0) + amount(a, system, f, 1) + amount(a, system, f, 2)
 }
 
 // Whether the taker t of component c is not the giver f, and contains the component.
@@ -107,102 +95,8 @@ pub(crate) fn renumber(
     v[t] = y;
 }
 
-// The next number from n on whose giver is a row.
-fn next_giver(k: usize, n: usize) -> usize
-    requires { ⌜ n ≤ MOVES ⌝ }
-    ensures { λ r. ⌜ (n ≤ r) × (r ≤ MOVES) × (n % SYSTEMS ≡ 0 → r % SYSTEMS ≡ 0)
-        × ((s : ℕ) → n ≤ s → s < r → k ≤ giverOf s) ⌝ }
-{
-    if n == MOVES {
-        return n;
-    }
-    let f = n / SYSTEMS % SYSTEMS;
-    if f < k {
-        return n;
-    }
-    n - n % PAIRS + PAIRS
-}
-
-// The totals where move m's giver has given.
-fn given(
-    ch: &[u8; SYSTEMS],
-    k: usize,
-    a: &[u32; CELLS],
-    v: &[i64; SYSTEMS],
-    tried: &mut [i64; TRIES],
-    d: u32,
-    m: usize,
-    w: Totals,
-) -> Totals
-    requires { ⌜ Held (now ch) k (now a) (now v) × (m < MOVES) × (givesOf (now ch) k (now a) d m ≡ true)
-        × Tried (now ch) k (now a) d (now tried) × Totalled (numberAt (now ch) (now a)) k (w .sum) (w .squares) ⌝ }
-    ensures { λ r.
-        ⌜ Totalled (givenOf (now (ch .entry)) (now (a .entry)) d (giverOf m) (componentOf m)) k (r .sum) (r .squares)
-        × Tried (now (ch .entry)) k (now (a .entry)) d (now (tried .exit)) ⌝ }
-{
-    let f = m / SYSTEMS % SYSTEMS;
-    let x = number_less(ch, k, a, tried, d, f, m / PAIRS);
-    replaced(w, mark(v[f]), mark(x))
-}
-
-// Whether move m, of component c to row t, lowers the imbalance, which was `was`. w are the totals where its giver has
-// given.
-fn lowers(
-    ch: &[u8; SYSTEMS],
-    k: usize,
-    a: &[u32; CELLS],
-    v: &[i64; SYSTEMS],
-    tried: &mut [i64; TRIES],
-    d: u32,
-    m: usize,
-    c: usize,
-    t: usize,
-    w: Totals,
-    was: u64,
-) -> bool
-    requires { ⌜ Held (now ch) k (now a) (now v) × Fit (now ch) k (now a) d m
-        × Tried (now ch) k (now a) d (now tried)
-        × Totalled (givenOf (now ch) (now a) d (giverOf m) (componentOf m)) k (w .sum) (w .squares)
-        × (was ≡ imbalanceOf (numberAt (now ch) (now a)) k) × (c ≡ componentOf m) × (t ≡ takerOf m) ⌝ }
-    ensures { λ r. ⌜ (r ≡ lowersOf (now (ch .entry)) k (now (a .entry)) d m)
-        × Tried (now (ch .entry)) k (now (a .entry)) d (now (tried .exit)) ⌝ }
-{
-    let y = number_more(ch, k, a, tried, d, t, c);
-    let x = mark(v[t]);
-    imbalance(replaced(w, x, mark(y)), k) < was
-}
-
-// Whether move m, of component c from row f that gives to row t, can be made and lowers the imbalance.
-fn can(
-    ch: &[u8; SYSTEMS],
-    k: usize,
-    a: &[u32; CELLS],
-    v: &[i64; SYSTEMS],
-    tried: &mut [i64; TRIES],
-    d: u32,
-    m: usize,
-    c: usize,
-    f: usize,
-    t: usize,
-    w: Totals,
-    was: u64,
-) -> bool
-    requires { ⌜ Held (now ch) k (now a) (now v) × (m < MOVES) × (takerOf m < k)
-        × (givesOf (now ch) k (now a) d m ≡ true) × Tried (now ch) k (now a) d (now tried)
-        × Totalled (givenOf (now ch) (now a) d (giverOf m) (componentOf m)) k (w .sum) (w .squares)
-        × (was ≡ imbalanceOf (numberAt (now ch) (now a)) k) × (c ≡ componentOf m) × (f ≡ giverOf m)
-        × (t ≡ takerOf m) ⌝ }
-    ensures { λ r. ⌜ (r ≡ canOf (now (ch .entry)) k (now (a .entry)) d m)
-        × Tried (now (ch .entry)) k (now (a .entry)) d (now (tried .exit)) ⌝ }
-{
-    if !takes(ch, c, f, t) {
-        return false;
-    }
-    lowers(ch, k, a, v, tried, d, m, c, t, w, was)
-}
-
 // Of the moves from n on with n's component c and giver f, the first that can be made and lowers the imbalance, or the
-// number after them.
+// number after them. w are the totals where the giver has given; the imbalance was `was`.
 fn first_taker(
     ch: &[u8; SYSTEMS],
     k: usize,
@@ -226,8 +120,11 @@ fn first_taker(
 {
     let mut t = 0;
     while t < k {
-        if can(ch, k, a, v, tried, d, n + t, c, f, t, w, was) {
-            return n + t;
+        if takes(ch, c, f, t) {
+            let more = number_more(ch, k, a, tried, d, t, c);
+            if imbalance(exchanged(w, v, t, more), k) < was {
+                return n + t;
+            }
         }
         t += 1;
     }
@@ -246,8 +143,9 @@ fn first_from(
     all: Totals,
     was: u64,
 ) -> usize
-    requires { ⌜ Held (now ch) k (now a) (now v) × (n < MOVES) × (n % SYSTEMS ≡ 0) × Past (now ch) k (now a) d n
-        × Tried (now ch) k (now a) d (now tried) × Totalled (numberAt (now ch) (now a)) k (all .sum) (all .squares)
+    requires { ⌜ Held (now ch) k (now a) (now v) × (n < MOVES) × (n % SYSTEMS ≡ 0) × (giverOf n < k)
+        × Past (now ch) k (now a) d n × Tried (now ch) k (now a) d (now tried)
+        × Totalled (numberAt (now ch) (now a)) k (all .sum) (all .squares)
         × (was ≡ imbalanceOf (numberAt (now ch) (now a)) k) ⌝ }
     ensures { λ r. ⌜ Scanned (now (ch .entry)) k (now (a .entry)) d n r
         × Tried (now (ch .entry)) k (now (a .entry)) d (now (tried .exit)) ⌝ }
@@ -257,7 +155,8 @@ fn first_from(
     }
     let c = n / PAIRS;
     let f = n / SYSTEMS % SYSTEMS;
-    let w = given(ch, k, a, v, tried, d, n, all);
+    let less = number_less(ch, k, a, tried, d, f, c);
+    let w = exchanged(all, v, f, less);
     first_taker(ch, k, a, v, tried, d, n, c, f, w, was)
 }
 
@@ -279,10 +178,13 @@ pub(crate) fn first_move(
     let mut n = 0;
     while n < MOVES {
         let m = first_from(ch, k, a, v, tried, d, n, all, was);
-        if m < n + SYSTEMS {
+        n += SYSTEMS;
+        if m < n {
             return m;
         }
-        n = next_giver(k, n + SYSTEMS);
+        if k <= n / SYSTEMS % SYSTEMS {
+            n += PAIRS - n % PAIRS;
+        }
     }
     MOVES
 }

@@ -1,11 +1,8 @@
-// A row's parts and partial number, and the spread of some numbers.
+// A row's amounts, and the spread of some numbers.
 ghost use mathlib.Core.Path.{_≡_};
-ghost use Prim.Native.Nat.{_+_, _*_, _<_, _≤_};
-ghost use lib.IntN.{natAbs};
-ghost use Rattle.formula.specs.WorkingRule.{LARGEST};
-ghost use Rattle.formula.specs.Partial.{partialNumber};
+ghost use Prim.Native.Nat.{_<_};
 ghost use Rattle.systems.specs.Systems.{memberOf, Candidate};
-ghost use Rattle.split.specs.Split.{SYSTEMS, cellOf, partsOf, Stock};
+ghost use Rattle.split.specs.Split.{SYSTEMS, cellOf};
 ghost use Rattle.split.specs.Rating.{spreadOf};
 ghost use Rattle.rows.specs.Rows.{listed, Small};
 use split::CELLS;
@@ -33,39 +30,12 @@ pub(crate) fn spread(v: &[i64; SYSTEMS], k: usize) -> u64
     (high - low) as u64
 }
 
-fn wide(x: u8) -> u32
-    ensures { λ r. ⌜ r ≡ x ⌝ }
-{
-    x as u32
-}
-
-// The partial number of a candidate system at amounts that make a mixture.
-pub(crate) fn number(system: u8, n1: u32, n2: u32, n3: u32) -> i64
-    requires { ⌜ Candidate system × (1 ≤ n1 + n2 + n3) × (n1 + n2 + n3 ≤ 1000000) ⌝ }
-    ensures { λ r. ⌜ (r ≡ partialNumber system n1 n2 n3) × (natAbs r ≤ LARGEST) ⌝ }
-{
-    let p = ternary::partial_number(wide(system), n1, n2, n3);
-    match p {
-        ternary::Partial::Number(x) => x,
-        ternary::Partial::Refused(_) => 0,
-    }
-}
-
 // The amount in row s, of the given system, of the system's component j.
-fn amount(a: &[u32; CELLS], system: u8, s: usize, j: usize) -> u32
+pub(crate) fn amount(a: &[u32; CELLS], system: u8, s: usize, j: usize) -> u32
     requires { ⌜ Candidate system × (s < SYSTEMS) × (j < 3) ⌝ }
     ensures { λ r. ⌜ r ≡ cellOf (now (a .entry)) s (memberOf system j) ⌝ }
 {
     let c = systems::member(system, j);
     let i = s * COMPONENTS + c;
     a[i]
-}
-
-// Row s's parts.
-pub(crate) fn parts(ch: &[u8; SYSTEMS], k: usize, a: &[u32; CELLS], s: usize) -> u32
-    requires { ⌜ Stock (now ch) k (now a) × (s < k) ⌝ }
-    ensures { λ r. ⌜ r ≡ partsOf (now (ch .entry)) (now (a .entry)) s ⌝ }
-{
-    let system = ch[s];
-    amount(a, system, s, 0) + amount(a, system, s, 1) + amount(a, system, s, 2)
 }

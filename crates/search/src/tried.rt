@@ -9,7 +9,7 @@ ghost use Rattle.split.specs.Split.{SYSTEMS, CELLS};
 ghost use Rattle.split.specs.Steps.{insteadOf, numberWith};
 ghost use Rattle.rows.specs.Carried.{Workable};
 ghost use Rattle.search.specs.Tried.{TRIES, UNKNOWN, wantedOf, Triable, Tried, Forgot};
-use super::state::number;
+use super::state::amount;
 use split::CELLS;
 use systems::COMPONENTS;
 use systems::SYSTEMS;
@@ -25,12 +25,10 @@ fn instead(a: &[u32; CELLS], system: u8, s: usize, c: usize, n: u32, j: usize) -
     requires { ⌜ Candidate system × (s < SYSTEMS) × (j < 3) ⌝ }
     ensures { λ r. ⌜ r ≡ insteadOf (now (a .entry)) s c n (memberOf system j) ⌝ }
 {
-    let e = systems::member(system, j);
-    if e == c {
+    if systems::member(system, j) == c {
         return n;
     }
-    let i = s * COMPONENTS + e;
-    a[i]
+    amount(a, system, s, j)
 }
 
 // Row s's partial number where its amount of component c were n.
@@ -39,12 +37,16 @@ fn number_with(ch: &[u8; SYSTEMS], a: &[u32; CELLS], s: usize, c: usize, n: u32)
     ensures { λ r. ⌜ (r ≡ numberWith (now (ch .entry)) (now (a .entry)) s c n) × (natAbs r ≤ LARGEST) ⌝ }
 {
     let system = ch[s];
-    number(
-        system,
+    let p = ternary::partial_number(
+        system as u32,
         instead(a, system, s, c, n, 0),
         instead(a, system, s, c, n, 1),
         instead(a, system, s, c, n, 2),
-    )
+    );
+    match p {
+        ternary::Partial::Number(x) => x,
+        ternary::Partial::Refused(_) => 0,
+    }
 }
 
 // The number that row s with d of component c less leads to: worked out and kept where it is not known.
@@ -87,13 +89,13 @@ pub(crate) fn number_more(
     ensures { λ r. ⌜ (r ≡ wantedOf (now (ch .entry)) (now (a .entry)) d (CELLS + s * COMPONENTS + c))
         × (natAbs r ≤ LARGEST) × Tried (now (ch .entry)) k (now (a .entry)) d (now (tried .exit)) ⌝ }
 {
-    let i = s * COMPONENTS + c;
-    let x = tried[CELLS + s * COMPONENTS + c];
+    let i = CELLS + s * COMPONENTS + c;
+    let x = tried[i];
     if x != UNKNOWN {
         return x;
     }
-    let y = number_with(ch, a, s, c, a[i] + d);
-    tried[CELLS + s * COMPONENTS + c] = y;
+    let y = number_with(ch, a, s, c, a[i - CELLS] + d);
+    tried[i] = y;
     y
 }
 

@@ -12,23 +12,20 @@ mul-i c = search needs
 add-i : tie.Need-add-i
 add-i c = search needs
 
+add-i-2 : tie.Need-add-i-2
+add-i-2 c = search needs
+
 mul-x : tie.Need-mul-x
 mul-x c = search needs
-
-add-x : tie.Need-add-x
-add-x c = search needs
-
-add-x-2 : tie.Need-add-x-2
-add-x-2 c = search needs
-
-mul-x-2 : tie.Need-mul-x-2
-mul-x-2 c = search needs
 
 element-copy-out-x : tie.Need-element-copy-out-x
 element-copy-out-x c = search needs
 
 returns : tie.Need-returns
 returns c = known-is _ _ _ _ _ (c .before .before .pre .3) _ (c .before .before .pre .2) (c .if1 .taken)
+
+sub-number-with : tie.Need-sub-number-with
+sub-number-with c = search needs
 
 mul-number-with : tie.Need-mul-number-with
 mul-number-with c = search needs
@@ -45,15 +42,6 @@ number-with-requires c κs = more-work _ _ _ _ _ _ (c .before .before .before .p
 mul-y : tie.Need-mul-y
 mul-y c = search needs
 
-add-y : tie.Need-add-y
-add-y c = search needs
-
-add-y-2 : tie.Need-add-y-2
-add-y-2 c = search needs
-
-mul-y-2 : tie.Need-mul-y-2
-mul-y-2 c = search needs
-
 element-set-from-y : tie.Need-element-set-from-y
 element-set-from-y c = search needs
 
@@ -66,19 +54,15 @@ number-more-spec =
     (tie.spec
     mul-i
     add-i
+    add-i-2
     mul-x
-    add-x
-    add-x-2
-    mul-x-2
     element-copy-out-x
     returns
+    sub-number-with
     mul-number-with
     element-copy-out-number-with
     add-number-with
     number-with-requires
     mul-y
-    add-y
-    add-y-2
-    mul-y-2
     element-set-from-y
     returns-2)
