@@ -1,7 +1,8 @@
 -- `search::rounds::search` meets its contract. Assumes nothing.
-use Rattle.split.specs.Turns.{again-halve, run-rate, run-refuse, search-starts}
+use Rattle.split.specs.Turns.{again-halve, search-starts}
+use Rattle.split.specs.Steps.{may-move}
 use Rattle.search.proofs.Tries.{tried-as, none-is}
-use Rattle.search.proofs.Loop.{rounds-left, fit-is, step-next}
+use Rattle.search.proofs.Loop.{rounds-left, fit-is, step-next, held-next, tried-next, run-ends}
 use Rattle.search.specs.Tried.{Tried}
 use Rattle.rows.specs.Carried.{Held}
 use Rattle.split.specs.Search.{searchOf, runOf}
@@ -13,10 +14,10 @@ use Rattle.search.proofs.rounds.search.Statement.{statement}
 use Rattle.search.proofs.rounds.search.Tie as tie
 
 abbrev Inv-loop : tie.InvT-loop
-Inv-loop ch k limit first allowance a₀ v₀ tried₀ level₀ rounds₀ a v tried level rounds = Held ch k a v × (level ≤ 16) × (rounds ≤ allowance) × (searchOf ch k limit first allowance a₀ ≡ runOf ch k limit allowance (suc (allowance - rounds + level)) a level rounds) × Tried ch k a (2 ^ level) tried
+Inv-loop ch k limit first allowance a₀ v₀ tried₀ rounds₀ level a v tried rounds = Held ch k a v × (level ≤ 16) × (rounds ≤ allowance) × (searchOf ch k limit first allowance a₀ ≡ runOf ch k limit allowance (suc (allowance - rounds + level)) a level rounds) × Tried ch k a (2 ^ level) tried
 
 abbrev μ-loop : tie.MeasureT-loop
-μ-loop ch k limit first allowance a₀ v₀ tried₀ level₀ rounds₀ a v tried level rounds = allowance - rounds + level
+μ-loop ch k limit first allowance a₀ v₀ tried₀ rounds₀ level a v tried rounds = allowance - rounds + level
 
 none-known-requires : tie.Need-none-known-requires Inv-loop μ-loop
 none-known-requires c κs = search needs
@@ -30,68 +31,66 @@ next-turn-requires c κs = (c .before .before .before .loop .inv .0, c .before .
 enum-known-t : tie.Need-enum-known-t Inv-loop μ-loop
 enum-known-t c = search needs
 
-ended-requires : tie.Need-ended-requires Inv-loop μ-loop
-ended-requires c κs = search needs
+stride-requires : tie.Need-stride-requires Inv-loop μ-loop
+stride-requires c κs = search needs
 
-returns : tie.Need-returns Inv-loop μ-loop
-returns c = c .ended .ensures ∙ sym (c .before .before .before .before .before .before .before .before .loop .inv .3 ∙ run-rate _ _ _ _ _ _ _ _ _ (sym (c .before .before .before .before .next-turn .ensures .0) ∙ c .before .before .t .given .1))
+renumber-requires : tie.Need-renumber-requires Inv-loop μ-loop
+renumber-requires c κs =
+    let d = c .before .before .before in
+    let n = d .before .before .before .before in
+    let l = n .before .before .before .before in
+    (l .loop .inv .0, fit-is _ _ _ _ _ _ _ _ _ (n .next-turn .ensures .0) (d .before .before .t .given .1) _ (d .stride .ensures), tried-as _ _ _ _ _ _ (d .stride .ensures) (n .next-turn .ensures .1))
+
+moved-requires : tie.Need-moved-requires Inv-loop μ-loop
+moved-requires c κs =
+    let d = c .before .before .before .before .before in
+    let n = d .before .before .before .before in
+    let l = n .before .before .before .before in
+    may-move _ _ _ _ _ (l .loop .inv .0 .sound) (fit-is _ _ _ _ _ _ _ _ _ (n .next-turn .ensures .0) (d .before .before .t .given .1) _ (d .stride .ensures))
+
+add-rounds : tie.Need-add-rounds Inv-loop μ-loop
+add-rounds c =
+    let d = c .before .before .before .before .before .before in
+    let n = d .before .before .before .before in
+    let l = n .before .before .before .before in
+    omega (arith, rounds-left _ _ _ _ _ _ _ _ _ (n .next-turn .ensures .0) (d .before .before .t .given .1) (l .loop .inv .2), l .before .before .fits .allowance)
+
+loop-less : tie.Need-loop-less Inv-loop μ-loop
+loop-less c =
+    let d = c .before .before .before .before .before .before in
+    let n = d .before .before .before .before in
+    let l = n .before .before .before .before in
+    omega (arith, rounds-left _ _ _ _ _ _ _ _ _ (n .next-turn .ensures .0) (d .before .before .t .given .1) (l .loop .inv .2))
+
+loop-again : tie.Need-loop-again Inv-loop μ-loop
+loop-again c =
+    let d = c .before .before .before .before .before .before in
+    let n = d .before .before .before .before in
+    let l = n .before .before .before .before in
+    let r = c .before .before .renumber .ensures in
+    let g = step-next _ _ _ _ _ _ _ _ _ (n .next-turn .ensures .0) (d .before .before .t .given .1) _ (d .stride .ensures) _ (c .moved .ensures) _ (l .loop .inv .2) (l .loop .inv .3) in
+    (held-next _ _ _ _ _ _ _ _ _ (n .next-turn .ensures .0) (d .before .before .t .given .1) _ (d .stride .ensures) _ (c .moved .ensures) _ (r .0), l .loop .inv .1, g .0, g .1, tried-next _ _ _ _ _ _ _ _ _ (n .next-turn .ensures .0) (d .before .before .t .given .1) _ (d .stride .ensures) _ (c .moved .ensures) _ (r .1))
 
 enum-told : tie.Need-enum-told Inv-loop μ-loop
 enum-told c = search needs
 
-ended-requires-2 : tie.Need-ended-requires-2 Inv-loop μ-loop
-ended-requires-2 c κs = search needs
-
-returns-2 : tie.Need-returns-2 Inv-loop μ-loop
-returns-2 c = c .ended2 .ensures ∙ sym (c .before .before .before .before .before .before .before .loop .inv .3 ∙ run-refuse _ _ _ _ _ _ _ _ (sym (c .before .before .before .next-turn .ensures .0) ∙ c .before .enum-told .given .1))
-
-enum-known-t-2 : tie.Need-enum-known-t-2 Inv-loop μ-loop
-enum-known-t-2 c = search needs
-
-stride-requires : tie.Need-stride-requires Inv-loop μ-loop
-stride-requires c κs = search needs
-
-make-move-requires : tie.Need-make-move-requires Inv-loop μ-loop
-make-move-requires c κs =
-    let d = c .before .before .before in
-    let n = d .before .before .before .before in
-    (n .before .before .before .before .loop .inv .0, fit-is _ _ _ _ _ _ _ _ _ (n .next-turn .ensures .0) (d .before .before .t2 .given .1) _ (d .stride .ensures), tried-as _ _ _ _ _ _ (d .stride .ensures) (n .next-turn .ensures .1))
-
-add-rounds : tie.Need-add-rounds Inv-loop μ-loop
-add-rounds c =
-    let d = c .before .before .before .before in
-    let n = d .before .before .before .before in
-    let l = n .before .before .before .before in
-    omega (arith, rounds-left _ _ _ _ _ _ _ _ _ (n .next-turn .ensures .0) (d .before .before .t2 .given .1) (l .loop .inv .2), l .before .before .fits .allowance)
-
-loop-less : tie.Need-loop-less Inv-loop μ-loop
-loop-less c =
-    let d = c .before .before .before .before in
-    let n = d .before .before .before .before in
-    omega (arith, rounds-left _ _ _ _ _ _ _ _ _ (n .next-turn .ensures .0) (d .before .before .t2 .given .1) (n .before .before .before .before .loop .inv .2))
-
-loop-again : tie.Need-loop-again Inv-loop μ-loop
-loop-again c =
-    let d = c .before .before .before .before in
-    let n = d .before .before .before .before in
-    let l = n .before .before .before .before in
-    let g = step-next _ _ _ _ _ _ _ _ _ (n .next-turn .ensures .0) (d .before .before .t2 .given .1) _ (d .stride .ensures) _ (c .make-move .ensures .0) _ (l .loop .inv .2) (l .loop .inv .3) in
-    (c .make-move .ensures .1, l .loop .inv .1, g .0, g .1, tried-as _ _ _ _ _ _ (sym (d .stride .ensures)) (c .make-move .ensures .2))
-
-enum-told-2 : tie.Need-enum-told-2 Inv-loop μ-loop
-enum-told-2 c = search needs
-
 sub-level : tie.Need-sub-level Inv-loop μ-loop
-sub-level c = omega (arith, (again-halve _ _ _ _ _ _ _ _ (c .before .before .before .before .before .before .loop .inv .3) (sym (c .before .before .next-turn .ensures .0) ∙ c .enum-told2 .given .1)) .0)
+sub-level c = omega (arith, (again-halve _ _ _ _ _ _ _ _ (c .before .before .before .before .before .before .loop .inv .3) (sym (c .before .before .next-turn .ensures .0) ∙ c .enum-told .given .1)) .0)
 
 none-known-requires-2 : tie.Need-none-known-requires-2 Inv-loop μ-loop
 none-known-requires-2 c κs = search needs
 
 loop-less-2 : tie.Need-loop-less-2 Inv-loop μ-loop
-loop-less-2 c = omega (arith, (again-halve _ _ _ _ _ _ _ _ (c .before .before .before .before .before .before .before .loop .inv .3) (sym (c .before .before .before .next-turn .ensures .0) ∙ c .before .enum-told2 .given .1)) .0)
+loop-less-2 c = omega (arith, (again-halve _ _ _ _ _ _ _ _ (c .before .before .before .before .before .before .before .loop .inv .3) (sym (c .before .before .before .next-turn .ensures .0) ∙ c .before .enum-told .given .1)) .0)
 
 loop-again-2 : tie.Need-loop-again-2 Inv-loop μ-loop
-loop-again-2 c = let g = again-halve _ _ _ _ _ _ _ _ (c .before .before .before .before .before .before .before .loop .inv .3) (sym (c .before .before .before .next-turn .ensures .0) ∙ c .before .enum-told2 .given .1) in (c .before .before .before .before .before .before .before .loop .inv .0, omega (arith, c .before .before .before .before .before .before .before .loop .inv .1), c .before .before .before .before .before .before .before .loop .inv .2, g .1, none-is _ _ _ _ _ (c .none-known2 .ensures))
+loop-again-2 c = let g = again-halve _ _ _ _ _ _ _ _ (c .before .before .before .before .before .before .before .loop .inv .3) (sym (c .before .before .before .next-turn .ensures .0) ∙ c .before .enum-told .given .1) in (c .before .before .before .before .before .before .before .loop .inv .0, omega (arith, c .before .before .before .before .before .before .before .loop .inv .1), c .before .before .before .before .before .before .before .loop .inv .2, g .1, none-is _ _ _ _ _ (c .none-known2 .ensures))
+
+ended-requires : tie.Need-ended-requires Inv-loop μ-loop
+ended-requires c κs = search needs
+
+returns : tie.Need-returns Inv-loop μ-loop
+returns c = c .ended .ensures ∙ run-ends _ _ _ _ _ _ _ _ _ (c .before .match .keys3) (c .before .before .next-turn .ensures .0) ∙ sym (c .before .before .before .before .before .before .loop .inv .3)
 
 pub search-spec : {M : Type 1} → statement M
 search-spec =
@@ -103,19 +102,16 @@ search-spec =
     loop-holds
     next-turn-requires
     enum-known-t
-    ended-requires
-    returns
-    enum-told
-    ended-requires-2
-    returns-2
-    enum-known-t-2
     stride-requires
-    make-move-requires
+    renumber-requires
+    moved-requires
     add-rounds
     loop-less
     loop-again
-    enum-told-2
+    enum-told
     sub-level
     none-known-requires-2
     loop-less-2
-    loop-again-2)
+    loop-again-2
+    ended-requires
+    returns)
