@@ -108,9 +108,6 @@ module _ (ch : List ℕ) (k limit allowance : ℕ) (S : Found) (level : ℕ) (a 
     pub halve-may : 1 ≤ level
     halve-may = halved .0
 
-    pub halve-less : allowance - rounds + (level - 1) < allowance - rounds + level
-    halve-less = omega (arith, halved .0)
-
     pub halve-on : (y : List ℤ) → y ≡ replicate TRIES UNKNOWN → AtTurn ch k limit allowance S (level - 1) a v y rounds
     halve-on y e = (g .0, omega (arith, g .1), g .2, halved .1, none-is ch k a (2 ^ (level - 1)) y e)
 

@@ -2,7 +2,7 @@
 use Rattle.split.specs.Turns.{search-starts}
 use Rattle.split.specs.Search.{searchOf}
 use Rattle.search.proofs.Tries.{none-is}
-use Rattle.search.proofs.Loop.{AtTurn, round-fits, round-less, may-renumber, may-go, move-on, halve-may, halve-less, halve-on, run-ends}
+use Rattle.search.proofs.Loop.{AtTurn, round-fits, round-less, may-renumber, may-go, move-on, halve-may, halve-on, run-ends}
 use native.Mathlib.Omega.{arith}
 use mathlib.Core.Path.{sym, _∙_}
 use Prim.Native.Nat.{_+_, _-_}
@@ -75,7 +75,7 @@ none-known-requires-2 : tie.Need-none-known-requires-2 Inv-loop μ-loop
 none-known-requires-2 c κs = tt
 
 loop-less-2 : tie.Need-loop-less-2 Inv-loop μ-loop
-loop-less-2 c = halve-less _ _ _ _ _ _ _ _ _ _ (c .before .before .before .before .before .before .before .loop .inv) _ (c .before .before .before .next-turn .ensures .0) (c .before .enum-told .given .1)
+loop-less-2 c = omega (arith, halve-may _ _ _ _ _ _ _ _ _ _ (c .before .before .before .before .before .before .before .loop .inv) _ (c .before .before .before .next-turn .ensures .0) (c .before .enum-told .given .1))
 
 loop-again-2 : tie.Need-loop-again-2 Inv-loop μ-loop
 loop-again-2 c = halve-on _ _ _ _ _ _ _ _ _ _ (c .before .before .before .before .before .before .before .loop .inv) _ (c .before .before .before .next-turn .ensures .0) (c .before .enum-told .given .1) _ (c .none-known2 .ensures)
