@@ -1,36 +1,39 @@
 -- A turn, and a search's loop, from what the code has in hand.
 use Prim.Native.Nat.{ℕ, suc, _+_, _*_, _-_, _%_, _^_, _≤_, _<_}
-use mathlib.Core.Path.{_≡_, sym, ap, _∙_}
+use mathlib.Core.Path.{_≡_, refl, sym, ap, _∙_}
 use mathlib.Core.Bool.{Bool}
-use mathlib.Core.List.{List}
+use mathlib.Core.Logic.{inl, inr}
+use mathlib.Core.List.{List, [], _∷_}
 use native.Mathlib.Omega.{arith}
 use lib.Dec.{eqb, eqb→eq}
 use lib.IntN.{ℤ}
-use lib.ListN.{set}
-use mir.Syntax.{w64}
-use mir.Val.{toZ, ofZ}
-use Rattle.systems.specs.Systems.{COMPONENTS}
+use lib.ListN.{replicate}
+use mir.Syntax.{w32}
+use mir.Val.{Fits}
 use Rattle.systems.specs.Table.{eachTo}
-use Rattle.split.specs.Split.{CELLS, numberAt, Sound}
+use Rattle.split.specs.Split.{cellOf, numberAt}
 use Rattle.split.specs.Rating.{spreadOf}
-use Rattle.split.specs.Move.{componentOf, giverOf, takerOf, movedOf, firstOf}
-use Rattle.split.specs.Search.{goOn, turnOf, stepOf, runOf}
+use Rattle.split.specs.Move.{MOVES, componentOf, giverOf, takerOf, movedOf, firstOf}
+use Rattle.split.specs.Search.{found, goOn, turnOf, runOf}
 use Rattle.split.specs.declared.Turn.{Turn}
-use Rattle.split.specs.declared.Turn.the-variants.{Rate, Refuse, Move}
+use Rattle.split.specs.declared.Turn.the-variants.{Rate, Refuse, Move, Halve}
 use Rattle.split.specs.declared.Found.{Found}
+use Rattle.split.specs.declared.Search.the-variants.{Balanced, Unbalanced}
 use Rattle.split.specs.Tests.{Fit}
-use Rattle.split.specs.Steps.{bt, sound-moved}
-use Rattle.split.specs.Turns.{moves, again-move}
+use Rattle.split.specs.Steps.{may-move}
+use Rattle.split.specs.Turns.{moves, again-move, again-halve, run-rate, run-refuse}
+use Rattle.split.proofs.Turn.{the-type}
+use denote.Enum.Declared.{tagOf}
+use types.Run.{OneOf}
 use Rattle.turn.specs.declared.Before.{Before}
 use Rattle.turn.specs.declared.Before.the-variants.{Within, Spent, Open}
 use Rattle.turn.specs.Before.{beforeOf, doneBy, turn-before}
-use Rattle.rows.specs.Rows.{listed, Small}
-use Rattle.rows.specs.Carried.{Carried, Held}
-use Rattle.rows.specs.Machine.{at-small}
-use Rattle.search.specs.Tried.{Tried, Forgot}
+use Rattle.rows.specs.Rows.{listed}
+use Rattle.rows.specs.Carried.{Held}
+use Rattle.search.specs.Tried.{TRIES, UNKNOWN, Tried}
+use Rattle.search.specs.Rounds.{endOf}
 use Rattle.search.proofs.Trials.{spread-same}
-use Rattle.search.proofs.Tries.{tried-after, tried-back}
-use Rattle.search.proofs.Given.{row-is}
+use Rattle.search.proofs.Tries.{none-is}
 
 -- the strides, each by one computed test
 abbrev right : ℕ → Bool
@@ -60,35 +63,84 @@ module _ (ch : List ℕ) (k limit allowance : ℕ) (a : List ℕ) (level rounds 
         let w : r ≡ goOn level (firstOf ch k a (2 ^ level)) = cc in
         w ∙ sym (ap (doneBy _ _) h) ∙ done
 
--- a move, made
-pub held-moved : (ch : List ℕ) (k : ℕ) (a : List ℕ) (d m : ℕ) (b : List ℕ) (v : List ℤ) → b ≡ movedOf a m d → Sound ch k a → Fit ch k a d m → Carried ch k (movedOf a m d) v × Small v k → Held ch k b v
-held-moved ch k a d m b v e so fit c = rw e (record { sound = sound-moved ch k a d m so fit; carried = c .0; small = c .1 })
+-- what holds at each turn, where S is the search's end
+abbrev pub AtTurn : List ℕ → ℕ → ℕ → ℕ → Found → ℕ → List ℕ → List ℤ → List ℤ → ℕ → Type 0
+AtTurn ch k limit allowance S level a v t rounds =
+    Held ch k a v × (level ≤ 16) × (rounds ≤ allowance) × (S ≡ runOf ch k limit allowance (suc (allowance - rounds + level)) a level rounds) × Tried ch k a (2 ^ level) t
 
--- its two rows forgotten, and their numbers before it kept for the tries that would take it back
-module _ (ch : List ℕ) (k : ℕ) (a : List ℕ) (d m : ℕ) (b : List ℕ) (n : List ℤ) (t u v : List ℤ) (e : b ≡ movedOf a m d) (held : Held ch k a n) (fit : Fit ch k a d m) where
-  pub tried-moved : Tried ch k a d t → Forgot t (giverOf m) u → Forgot u (takerOf m) v
-      → Tried ch k b d (set (set v (CELLS + giverOf m * COMPONENTS + componentOf m) (toZ w64 (ofZ w64 (listed n (giverOf m))))) (takerOf m * COMPONENTS + componentOf m) (toZ w64 (ofZ w64 (listed n (takerOf m)))))
-  tried-moved kt fu fv =
-      let so = held .sound in
-      let w = bt ch k a d m so fit in
-      rw e (tried-back ch k a d m so fit v _ _ (tried-after ch k a d m so fit t u v kt fu fv) (row-is ch k a n held (giverOf m) (w .from)) (at-small n k (giverOf m) (held .small) (w .from)) (row-is ch k a n held (takerOf m) (w .to)) (at-small n k (takerOf m) (held .small) (w .to)))
+-- a turn x
+module _ (ch : List ℕ) (k limit allowance : ℕ) (S : Found) (level : ℕ) (a : List ℕ) (v t : List ℤ) (rounds : ℕ) (g : AtTurn ch k limit allowance S level a v t rounds) (x : Turn)
+    (u : x ≡ turnOf ch k limit allowance a level rounds) where
+  -- that moves, with the stride d
+  module _ (m : ℕ) (w : x ≡ Move m) where
+    turn-is : turnOf ch k limit allowance a level rounds ≡ Move m
+    turn-is = sym u ∙ w
 
--- the arm that moves
-module _ (ch : List ℕ) (k limit allowance : ℕ) (a : List ℕ) (level rounds m : ℕ) (x : Turn) (u : x ≡ turnOf ch k limit allowance a level rounds) (w : x ≡ Move m) where
-  turn-is : turnOf ch k limit allowance a level rounds ≡ Move m
-  turn-is = sym u ∙ w
+    rounds-left : rounds + 1 ≤ allowance
+    rounds-left = let n = moves ch k limit allowance a level rounds m turn-is .unspent in omega (arith, g .2)
 
-  pub rounds-left : rounds ≤ allowance → rounds + 1 ≤ allowance
-  rounds-left h = let n = moves ch k limit allowance a level rounds m turn-is .unspent in omega arith
+    pub round-fits : Fits w32 allowance → Fits w32 (rounds + 1)
+    round-fits h = omega (arith, rounds-left)
 
-  module _ (d : ℕ) (p : d ≡ 2 ^ level) where
-    pub fit-is : Fit ch k a d m
-    fit-is = rw p (moves ch k limit allowance a level rounds m turn-is .fit)
+    pub round-less : allowance - (rounds + 1) + level < allowance - rounds + level
+    round-less = omega (arith, rounds-left)
 
-    module _ (b : List ℕ) (e : b ≡ movedOf a m d) where
-      step-is : b ≡ stepOf a m level
-      step-is = e ∙ ap (movedOf a m) p
+    module _ (d : ℕ) (p : d ≡ 2 ^ level) where
+      fit-is : Fit ch k a d m
+      fit-is = rw p (moves ch k limit allowance a level rounds m turn-is .fit)
 
-      pub step-next : (S : Found) → rounds ≤ allowance → S ≡ runOf ch k limit allowance (suc (allowance - rounds + level)) a level rounds
-          → (rounds + 1 ≤ allowance) × (S ≡ runOf ch k limit allowance (suc (allowance - (rounds + 1) + level)) b level (rounds + 1))
-      step-next S h inv = again-move ch k limit allowance a level rounds S m b step-is h inv turn-is
+      pub may-renumber : (y : List ℤ) → Tried ch k a (2 ^ level) y → Held ch k a v × Fit ch k a d m × Tried ch k a d y
+      may-renumber y h = (g .0, fit-is, rw p h)
+
+      pub may-go : (m < MOVES) × (d ≤ cellOf a (giverOf m) (componentOf m)) × (cellOf a (takerOf m) (componentOf m) + d ≤ 1000000)
+      may-go = may-move ch k a d m (g .0 .sound) fit-is
+
+      pub move-on : (b : List ℕ) (z y : List ℤ) → b ≡ movedOf a m d → Held ch k (movedOf a m d) z × Tried ch k (movedOf a m d) d y → AtTurn ch k limit allowance S level b z y (rounds + 1)
+      move-on b z y e h =
+          let n = again-move ch k limit allowance a level rounds S m b (e ∙ ap (movedOf a m) p) (g .2) (g .3) turn-is in
+          (rw e (h .0), g .1, n .0, n .1, rw (e, ← p) (h .1))
+
+  -- and one that halves the stride
+  module _ (w : x ≡ Halve) where
+    halved : (1 ≤ level) × (S ≡ runOf ch k limit allowance (suc (allowance - rounds + (level - 1))) a (level - 1) rounds)
+    halved = again-halve ch k limit allowance a level rounds S (g .3) (sym u ∙ w)
+
+    pub halve-may : 1 ≤ level
+    halve-may = halved .0
+
+    pub halve-on : (y : List ℤ) → y ≡ replicate TRIES UNKNOWN → AtTurn ch k limit allowance S (level - 1) a v y rounds
+    halve-on y e = (g .0, omega (arith, g .1), g .2, halved .1, none-is ch k a (2 ^ (level - 1)) y e)
+
+-- the arm that ends the search
+no-end : OneOf (0 ∷ 1 ∷ []) 2 → ⊥
+no-end (inl e) = omega (arith, e)
+no-end (inr e) = omega (arith, e)
+
+no-halt : OneOf (0 ∷ 1 ∷ []) 3 → ⊥
+no-halt (inl e) = omega (arith, e)
+no-halt (inr e) = omega (arith, e)
+
+no-rate : OneOf (1 ∷ 2 ∷ 3 ∷ []) 0 → ⊥
+no-rate (inl e) = omega (arith, e)
+no-rate (inr (inl e)) = omega (arith, e)
+no-rate (inr (inr e)) = omega (arith, e)
+
+pub run-ends : (ch : List ℕ) (k limit allowance : ℕ) (a : List ℕ) (level rounds n : ℕ) (x : Turn) → OneOf (0 ∷ 1 ∷ []) (tagOf the-type x) → x ≡ turnOf ch k limit allowance a level rounds
+    → found a (endOf x rounds) ≡ runOf ch k limit allowance (suc n) a level rounds
+unfolding endOf
+run-ends ch k limit allowance a level rounds n (Rate s) o e = sym (run-rate ch k limit allowance a level rounds n s (sym e))
+run-ends ch k limit allowance a level rounds n Refuse o e = sym (run-refuse ch k limit allowance a level rounds n (sym e))
+run-ends ch k limit allowance a level rounds n (Move m) o e = absurd (no-end o)
+run-ends ch k limit allowance a level rounds n Halve o e = absurd (no-halt o)
+
+-- and what it comes to
+pub end-rated : (x : Turn) (s rounds : ℕ) (a : List ℕ) → x ≡ Rate s → found a (Balanced s rounds) ≡ found a (endOf x rounds)
+unfolding endOf
+end-rated x s rounds a e = rw (e, endOf)
+
+pub end-refused : (x : Turn) (rounds : ℕ) (a : List ℕ) → OneOf (1 ∷ 2 ∷ 3 ∷ []) (tagOf the-type x) → found a Unbalanced ≡ found a (endOf x rounds)
+unfolding endOf
+end-refused (Rate s) rounds a o = absurd (no-rate o)
+end-refused Refuse rounds a o = refl
+end-refused (Move m) rounds a o = refl
+end-refused Halve rounds a o = refl

@@ -181,23 +181,7 @@ module _ (ch : List ℕ) (k : ℕ) (a : List ℕ) (d m : ℕ) (so : Sound ch k a
     unfolding wantedOf
     same-wanted = with-other (rowOf i) l p q (columnIn i) (triedOf (movedOf a m d) d i) ∙ ap (numberWith ch a (rowOf i) (columnIn i)) same-amount
 
-  -- after a move, with its two rows forgotten
-  module _ (t u v : List ℤ) (kt : Tried ch k a d t) (fu : Forgot t (giverOf m) u) (fv : Forgot u (takerOf m) v) where
-    pub tried-after : Tried ch k (movedOf a m d) d v
-    tried-after = record { long = fv .long; known = known }
-      where
-        known : (i : ℕ) → i < TRIES → rowOf i < k → (listed v i ≡ UNKNOWN → ⊥) → (listed v i ≡ wantedOf ch (movedOf a m d) d i) × (natAbs (listed v i) ≤ LARGEST)
-        known i h l z = go (eqb (rowOf i) (takerOf m)) (eqb (rowOf i) (giverOf m)) refl refl
-          where
-            go : (x y : Bool) → eqb (rowOf i) (takerOf m) ≡ x → eqb (rowOf i) (giverOf m) ≡ y → (listed v i ≡ wantedOf ch (movedOf a m d) d i) × (natAbs (listed v i) ≤ LARGEST)
-            go true y e f = absurd (z (fv .gone i h (eqb-true _ _ e)))
-            go false true e f = absurd (z (fv .kept i h (eqb-false _ _ e) ∙ fu .gone i h (eqb-true _ _ f)))
-            go false false e f =
-                let o = fv .kept i h (eqb-false _ _ e) ∙ fu .kept i h (eqb-false _ _ f) in
-                let p = kt .known i h l (λ w. z (o ∙ w)) in
-                (o ∙ p .0 ∙ sym (same-wanted i h l (eqb-false _ _ f) (eqb-false _ _ e)), rw o (p .1))
-
-  -- and the two tries that would take the move back, which lead to the numbers before it
+  -- the two tries that would take the move back lead to the numbers before it
   pub giver-back : (x : ℤ) → x ≡ numberAt ch a (giverOf m) → x ≡ wantedOf ch (movedOf a m d) d (CELLS + giverOf m * COMPONENTS + componentOf m)
   unfolding wantedOf
   giver-back x e = e ∙ sym (rw (row, column, amount) (number-with (movedOf a m d) a (giverOf m) (componentOf m) (cellOf a (giverOf m) (componentOf m)) was ch (three (systemOf ch (giverOf m)) (so .stock .chosen .known (giverOf m) (bt ch k a d m so fit .from)))))
@@ -237,16 +221,6 @@ module _ (ch : List ℕ) (k : ℕ) (a : List ℕ) (d m : ℕ) (so : Sound ch k a
 
       was : Changed (movedOf a m d) a (takerOf m) (componentOf m) (cellOf a (takerOf m) (componentOf m))
       was = record { here = refl; rest = λ e l n. sym (taker-changed ch k a d m so fit .rest e l n) }
-
-  pub tried-back : (t : List ℤ) (x y : ℤ) → Tried ch k (movedOf a m d) d t → x ≡ numberAt ch a (giverOf m) → natAbs x ≤ LARGEST → y ≡ numberAt ch a (takerOf m) → natAbs y ≤ LARGEST
-      → Tried ch k (movedOf a m d) d (set (set t (CELLS + giverOf m * COMPONENTS + componentOf m) x) (takerOf m * COMPONENTS + componentOf m) y)
-  tried-back t x y kt e p f q =
-      put-tried ch k (movedOf a m d) d (set t (CELLS + giverOf m * COMPONENTS + componentOf m) x)
-      (put-tried ch k (movedOf a m d) d t kt (CELLS + giverOf m * COMPONENTS + componentOf m) (omega (arith, low)) x (giver-back x e, p))
-      (takerOf m * COMPONENTS + componentOf m)
-      (omega (arith, low))
-      y
-      (taker-back y f, q)
 
 -- forgetting a row, component by component
 abbrev pub Going : List ℤ → ℕ → List ℤ → ℕ → Type 0

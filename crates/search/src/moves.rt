@@ -2,13 +2,17 @@
 ghost use mathlib.Core.Path.{_≡_};
 ghost use mathlib.Core.Bool.{true};
 ghost use Prim.Native.Nat.{ℕ, _+_, _*_, _-_, _%_, _<_, _≤_};
+ghost use lib.IntN.{natAbs};
+ghost use lib.ListN.{length, set};
+ghost use Rattle.formula.specs.WorkingRule.{LARGEST};
 ghost use Rattle.split.specs.Split.{SYSTEMS, cellOf, numberAt, Sound};
 ghost use Rattle.split.specs.Move.{MOVES, componentOf, giverOf, takerOf, movedOf};
 ghost use Rattle.split.specs.Move.{imbalanceOf, firstOf};
 ghost use Rattle.split.specs.Tests.{Fit};
-ghost use Rattle.rows.specs.Rows.{Small};
-ghost use Rattle.rows.specs.Carried.{Carried, Held};
-ghost use Rattle.search.specs.Tried.{Tried};
+ghost use Rattle.rows.specs.Rows.{listed};
+ghost use Rattle.rows.specs.Carried.{Held};
+ghost use Rattle.search.specs.Tried.{TRIES, rowOf, Tried};
+ghost use Rattle.search.specs.Rounds.{Back};
 ghost use Rattle.search.specs.Balance.{Totalled};
 ghost use Rattle.search.specs.Scan.{givenOf, givesOf, takesOf, Past, Scanned};
 use super::balance::Totals;
@@ -17,6 +21,7 @@ use super::balance::imbalance;
 use super::balance::total;
 use super::state::amount;
 use super::tried::TRIES;
+use super::tried::forget;
 use super::tried::number_less;
 use super::tried::number_more;
 use split::CELLS;
@@ -65,13 +70,25 @@ pub(crate) fn moved(a: &mut [u32; CELLS], m: usize, d: u32)
     let c = m / PAIRS;
     let i = m / SYSTEMS % SYSTEMS * COMPONENTS + c;
     let j = m % SYSTEMS * COMPONENTS + c;
-    let x = a[i];
     let y = a[j];
-    a[i] = x - d;
+    a[i] = a[i] - d;
     a[j] = y + d;
 }
 
-// The partial numbers after move m: those of its two rows are the tried ones, the others stay.
+// Row s has the number x now. Of its tries one alone is known, i, which leads back to the number before.
+fn put(v: &mut [i64; SYSTEMS], tried: &mut [i64; TRIES], s: usize, i: usize, x: i64)
+    requires { ⌜ (i < TRIES) × (s ≡ rowOf i) × (length (now tried) ≡ TRIES) × (natAbs x ≤ LARGEST)
+        × (natAbs (listed (now v) s) ≤ LARGEST) ⌝ }
+    ensures { λ _. ⌜ (now (v .exit) ≡ set (now (v .entry)) s x)
+        × Back (now (tried .entry)) s i (listed (now (v .entry)) s) (now (tried .exit)) ⌝ }
+{
+    forget(tried, s);
+    tried[i] = v[s];
+    v[s] = x;
+}
+
+// The partial numbers after move m, and what is known of tries then: those of its two rows are the tried ones and those
+// that would take the move back, the others stay.
 pub(crate) fn renumber(
     ch: &[u8; SYSTEMS],
     k: usize,
@@ -83,16 +100,16 @@ pub(crate) fn renumber(
 )
     requires { ⌜ Held (now ch) k (now a) (now v) × Fit (now ch) k (now a) d m
         × Tried (now ch) k (now a) d (now tried) ⌝ }
-    ensures { λ _. ⌜ Carried (now (ch .entry)) k (movedOf (now (a .entry)) m d) (now (v .exit))
-        × Small (now (v .exit)) k × Tried (now (ch .entry)) k (now (a .entry)) d (now (tried .exit)) ⌝ }
+    ensures { λ _. ⌜ Held (now (ch .entry)) k (movedOf (now (a .entry)) m d) (now (v .exit))
+        × Tried (now (ch .entry)) k (movedOf (now (a .entry)) m d) d (now (tried .exit)) ⌝ }
 {
     let f = m / SYSTEMS % SYSTEMS;
     let t = m % SYSTEMS;
     let c = m / PAIRS;
     let x = number_less(ch, k, a, tried, d, f, c);
     let y = number_more(ch, k, a, tried, d, t, c);
-    v[f] = x;
-    v[t] = y;
+    put(v, tried, f, CELLS + f * COMPONENTS + c, x);
+    put(v, tried, t, t * COMPONENTS + c, y);
 }
 
 // Of the moves from n on with n's component c and giver f, the first that can be made and lowers the imbalance, or the

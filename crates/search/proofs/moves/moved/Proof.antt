@@ -18,23 +18,23 @@ mul-j c = search needs
 add-j : tie.Need-add-j
 add-j c = search needs
 
-mul-x : tie.Need-mul-x
-mul-x c = search needs
-
-element-copy-out-x : tie.Need-element-copy-out-x
-element-copy-out-x c = search needs
-
 mul-y : tie.Need-mul-y
 mul-y c = search needs
 
 element-copy-out-y : tie.Need-element-copy-out-y
 element-copy-out-y c = search needs
 
+mul-a : tie.Need-mul-a
+mul-a c = search needs
+
+element-copy-out-a : tie.Need-element-copy-out-a
+element-copy-out-a c = search needs
+
 sub-a : tie.Need-sub-a
 sub-a c = search needs
 
-mul-a : tie.Need-mul-a
-mul-a c = search needs
+mul-a-2 : tie.Need-mul-a-2
+mul-a-2 c = search needs
 
 element-write-a : tie.Need-element-write-a
 element-write-a c = search needs
@@ -42,8 +42,8 @@ element-write-a c = search needs
 add-a : tie.Need-add-a
 add-a c = search needs
 
-mul-a-2 : tie.Need-mul-a-2
-mul-a-2 c = search needs
+mul-a-3 : tie.Need-mul-a-3
+mul-a-3 c = search needs
 
 element-write-a-2 : tie.Need-element-write-a-2
 element-write-a-2 c = search needs
@@ -60,14 +60,14 @@ moved-spec =
     add-i
     mul-j
     add-j
-    mul-x
-    element-copy-out-x
     mul-y
     element-copy-out-y
-    sub-a
     mul-a
+    element-copy-out-a
+    sub-a
+    mul-a-2
     element-write-a
     add-a
-    mul-a-2
+    mul-a-3
     element-write-a-2
     returns)

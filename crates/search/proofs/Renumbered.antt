@@ -1,0 +1,143 @@
+-- The partial numbers and the tries after a move, from what the code has in hand.
+use Prim.Native.Nat.{ℕ, _+_, _*_, _≤_, _<_}
+use mathlib.Core.Path.{_≡_, refl, sym, ap, _∙_}
+use mathlib.Core.Bool.{Bool, true, false}
+use mathlib.Core.List.{List}
+use native.Mathlib.Nat as N
+use native.Mathlib.Omega.{arith}
+use lib.Dec.{eqb, lit≤}
+use lib.IntN.{ℤ, pos, natAbs}
+use lib.ListN.{length, set, length-set}
+use lib.Seq.{getD-set-same, getD-set-other}
+use mir.Syntax.{w64}
+use mir.Val.{toZ, ofZ}
+use borrow.Author.Tests.{eqb-true, eqb-false}
+use Rattle.formula.specs.WorkingRule.{LARGEST}
+use Rattle.systems.specs.Systems.{COMPONENTS}
+use Rattle.split.specs.Split.{CELLS, numberAt, Sound}
+use Rattle.split.specs.Move.{componentOf, giverOf, takerOf, movedOf}
+use Rattle.split.specs.Tests.{Fit, Between}
+use Rattle.split.specs.Steps.{bt, component-low, sound-moved}
+use Rattle.rows.specs.Rows.{listed, Small}
+use Rattle.rows.specs.Carried.{Carried, Held}
+use Rattle.integer.specs.Bits.{back}
+use Rattle.search.specs.Tried.{TRIES, UNKNOWN, rowOf, wantedOf, Tried, Forgot}
+use Rattle.search.specs.Rounds.{Back}
+use Rattle.search.proofs.Trials.{renumber-ok}
+use Rattle.search.proofs.Tries.{taker-wanted, same-wanted, giver-back, taker-back}
+use Rattle.search.proofs.Givers.{fit-gives}
+use Rattle.search.proofs.Given.{give-worked}
+
+passed : (x : ℤ) → natAbs x ≤ LARGEST → toZ w64 (ofZ w64 x) ≡ x
+passed x h = back x (N.le-trans h (lit≤ tt))
+
+-- one row's number put
+pub put-is : (v t u : List ℤ) (s i : ℕ) (x : ℤ) → i < TRIES → s ≡ rowOf i → natAbs x ≤ LARGEST → natAbs (listed v s) ≤ LARGEST → Forgot t s u
+    → (set v s (toZ w64 (ofZ w64 x)) ≡ set v s x) × Back t s i (listed v s) (set u i (toZ w64 (ofZ w64 (listed v s))))
+put-is v t u s i x h r p q f = (
+  ap (set v s) (passed x p),
+  rw (passed (listed v s) q) (
+      record {
+        long = simp length-set (f .long);
+        here = getD-set-same u i (listed v s) (pos 0) (omega (arith, f .long));
+        gone = λ j l e n. getD-set-other u i j (listed v s) (pos 0) n ∙ f .gone j l e;
+        kept = λ j l n. getD-set-other u i j (listed v s) (pos 0) (λ e. n (ap rowOf e ∙ sym r)) ∙ f .kept j l n;
+      }
+      ),
+)
+
+module _ (ch : List ℕ) (k : ℕ) (a : List ℕ) (d m : ℕ) (n : List ℤ) (held : Held ch k a n) (fit : Fit ch k a d m) where
+  abbrev so : Sound ch k a
+  so = held .sound
+
+  between : Between ch k m
+  between = bt ch k a d m so fit
+
+  low : componentOf m < COMPONENTS
+  low = component-low ch k a d m so fit
+
+  small : (x : ℤ) → natAbs x ≤ LARGEST → natAbs (toZ w64 (ofZ w64 x)) ≤ LARGEST
+  small x h = rw (passed x h) h
+
+  -- the giver's number may be put, then the taker's
+  pub giver-may : (t : List ℤ) (x : ℤ) → length t ≡ TRIES → natAbs x ≤ LARGEST
+      → (CELLS + giverOf m * COMPONENTS + componentOf m < TRIES) × (giverOf m ≡ rowOf (CELLS + giverOf m * COMPONENTS + componentOf m)) × (length t ≡ TRIES)
+      × (natAbs (toZ w64 (ofZ w64 x)) ≤ LARGEST) × (natAbs (listed n (giverOf m)) ≤ LARGEST)
+  giver-may t x l h = (omega (arith, low), omega (arith, low), l, small x h, held .small .each (giverOf m) (between .from))
+
+  module _ (x : ℤ) (v : List ℤ) (e : v ≡ set n (giverOf m) x) where
+    taker-still : listed v (takerOf m) ≡ listed n (takerOf m)
+    taker-still = rw e (getD-set-other n (giverOf m) (takerOf m) x (pos 0) (λ z. between .apart (sym z)))
+
+    pub taker-may : (t : List ℤ) (y : ℤ) → length t ≡ TRIES → natAbs y ≤ LARGEST
+        → (takerOf m * COMPONENTS + componentOf m < TRIES) × (takerOf m ≡ rowOf (takerOf m * COMPONENTS + componentOf m)) × (length t ≡ TRIES)
+        × (natAbs (toZ w64 (ofZ w64 y)) ≤ LARGEST) × (natAbs (listed v (takerOf m)) ≤ LARGEST)
+    taker-may t y l h = (omega (arith, low), omega (arith, low), l, small y h, rw taker-still (held .small .each (takerOf m) (between .to)))
+
+  -- the tries after the move: those of the other rows, and the two that would take it back
+  module _ (t u w : List ℤ) (x y : ℤ) (kt : Tried ch k a d t) (bu : Back t (giverOf m) (CELLS + giverOf m * COMPONENTS + componentOf m) x u)
+      (bw : Back u (takerOf m) (takerOf m * COMPONENTS + componentOf m) y w) (ex : x ≡ listed n (giverOf m)) (ey : y ≡ listed n (takerOf m)) where
+    abbrev Right : ℕ → Type 0
+    Right i = (listed w i ≡ wantedOf ch (movedOf a m d) d i) × (natAbs (listed w i) ≤ LARGEST)
+
+    taker-right : Right (takerOf m * COMPONENTS + componentOf m)
+    taker-right =
+        let o = bw .here ∙ ey in
+        (taker-back ch k a d m so fit (listed w (takerOf m * COMPONENTS + componentOf m)) (o ∙ held .carried .are (takerOf m) (between .to)), rw o (held .small .each (takerOf m) (between .to)))
+
+    giver-row : giverOf m ≡ rowOf (CELLS + giverOf m * COMPONENTS + componentOf m)
+    giver-row = omega (arith, low)
+
+    other-row : rowOf (CELLS + giverOf m * COMPONENTS + componentOf m) ≡ takerOf m → ⊥
+    other-row e = between .apart (giver-row ∙ e)
+
+    giver-right : Right (CELLS + giverOf m * COMPONENTS + componentOf m)
+    giver-right =
+        let o = bw .kept (CELLS + giverOf m * COMPONENTS + componentOf m) (omega (arith, low)) other-row ∙ bu .here ∙ ex in
+        (giver-back ch k a d m so fit (listed w (CELLS + giverOf m * COMPONENTS + componentOf m)) (o ∙ held .carried .are (giverOf m) (between .from)), rw o (held .small .each (giverOf m) (between .from)))
+
+    module _ (i : ℕ) (h : i < TRIES) (l : rowOf i < k) (z : listed w i ≡ UNKNOWN → ⊥) where
+      right-giver : (i ≡ CELLS + giverOf m * COMPONENTS + componentOf m → ⊥) → (rowOf i ≡ takerOf m → ⊥) → Right i
+      right-giver p q = go (eqb (rowOf i) (giverOf m)) refl
+        where
+          go : (b : Bool) → eqb (rowOf i) (giverOf m) ≡ b → Right i
+          go true e = absurd (z (bw .kept i h q ∙ bu .gone i h (eqb-true _ _ e) p))
+          go false e =
+              let o = bw .kept i h q ∙ bu .kept i h (eqb-false _ _ e) in
+              let r = kt .known i h l (λ g. z (o ∙ g)) in
+              (o ∙ r .0 ∙ sym (same-wanted ch k a d m so fit i h l (eqb-false _ _ e) q), rw o (r .1))
+
+      right-taker : (i ≡ takerOf m * COMPONENTS + componentOf m → ⊥) → (i ≡ CELLS + giverOf m * COMPONENTS + componentOf m → ⊥) → Right i
+      right-taker p q = go (eqb (rowOf i) (takerOf m)) refl
+        where
+          go : (b : Bool) → eqb (rowOf i) (takerOf m) ≡ b → Right i
+          go true e = absurd (z (bw .gone i h (eqb-true _ _ e) p))
+          go false e = right-giver q (eqb-false _ _ e)
+
+      right : Right i
+      right = go (eqb i (takerOf m * COMPONENTS + componentOf m)) (eqb i (CELLS + giverOf m * COMPONENTS + componentOf m)) refl refl
+        where
+          go : (b c : Bool) → eqb i (takerOf m * COMPONENTS + componentOf m) ≡ b → eqb i (CELLS + giverOf m * COMPONENTS + componentOf m) ≡ c → Right i
+          go true c e f = rw (eqb-true i (takerOf m * COMPONENTS + componentOf m) e) taker-right
+          go false true e f = rw (eqb-true i (CELLS + giverOf m * COMPONENTS + componentOf m) f) giver-right
+          go false false e f = right-taker (eqb-false _ _ e) (eqb-false _ _ f)
+
+    tried-moved : Tried ch k (movedOf a m d) d w
+    tried-moved = record { long = bw .long; known = right }
+
+  -- and the numbers
+  numbers-moved : (x y : ℤ) (v : List ℤ) → v ≡ set (set n (giverOf m) (toZ w64 (ofZ w64 x))) (takerOf m) (toZ w64 (ofZ w64 y))
+      → Carried ch k (movedOf a m d) (set (set n (giverOf m) (toZ w64 (ofZ w64 x))) (takerOf m) (toZ w64 (ofZ w64 y))) × Small (set (set n (giverOf m) (toZ w64 (ofZ w64 x))) (takerOf m) (toZ w64 (ofZ w64 y))) k
+      → Held ch k (movedOf a m d) v
+  numbers-moved x y v e r = rw e (record { sound = sound-moved ch k a d m so fit; carried = r .0; small = r .1 })
+
+  pub renumbered : (x y : ℤ) (v v' t u w : List ℤ) → (x ≡ wantedOf ch a d (giverOf m * COMPONENTS + componentOf m)) × (natAbs x ≤ LARGEST)
+      → (y ≡ wantedOf ch a d (CELLS + takerOf m * COMPONENTS + componentOf m)) × (natAbs y ≤ LARGEST)
+      → v ≡ set n (giverOf m) (toZ w64 (ofZ w64 x)) → v' ≡ set v (takerOf m) (toZ w64 (ofZ w64 y)) → Tried ch k a d t
+      → Back t (giverOf m) (CELLS + giverOf m * COMPONENTS + componentOf m) (listed n (giverOf m)) u → Back u (takerOf m) (takerOf m * COMPONENTS + componentOf m) (listed v (takerOf m)) w
+      → Held ch k (movedOf a m d) v' × Tried ch k (movedOf a m d) d w
+  renumbered x y v v' t u w p q e f kt bu bw = (
+    numbers-moved x y v' (f ∙ ap (λ z. set z (takerOf m) (toZ w64 (ofZ w64 y))) e)
+        (renumber-ok ch k a d m so fit n x y (held .carried) (held .small) (give-worked ch k a n held d m (fit .below) (fit-gives ch k a d m fit) x p) (taker-wanted ch k a d m so fit y q)),
+    tried-moved t u w (listed n (giverOf m)) (listed v (takerOf m)) kt bu bw refl (taker-still (toZ w64 (ofZ w64 x)) v e),
+  )
