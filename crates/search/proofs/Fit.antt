@@ -1,10 +1,11 @@
 -- The search from its input, by the cases of the tests.
 use Prim.Native.Nat.{ℕ, _≤_, _<_}
 use mathlib.Core.Path.{_≡_, refl, sym, ap, _∙_}
-use mathlib.Core.Bool.{Bool, true, false, not}
+use mathlib.Core.Bool.{Bool, true, false, not, _||_}
 use mathlib.Core.List.{List}
 use lib.ListN.{replicate}
-use borrow.Author.Tests.{not-true, not-false, le-leb, lt-leb}
+use lib.Dec.{ltb}
+use borrow.Author.Tests.{not-true, not-false, le-leb, lt-leb, ltb-true, ltb-false}
 use native.Mathlib.Omega.{arith}
 use Rattle.split.specs.Split.{CELLS, both, Stock}
 use Rattle.split.specs.Members.{both-left, both-right}
@@ -23,12 +24,12 @@ use Rattle.rows.specs.Laws.{unfit-empty, fit-held}
 use Rattle.rows.specs.declared.Rows.{Rows}
 
 module _ (mix ch : List ℕ) (k limit level allowance : ℕ) where
-  pub find-high : LEVEL < level → found (replicate CELLS 0) Unfit ≡ findOf mix ch k limit level allowance
+  find-high : LEVEL < level → found (replicate CELLS 0) Unfit ≡ findOf mix ch k limit level allowance
   unfolding searchFit
   find-high h = find-none mix ch k level limit allowance (rw (lt-leb level LEVEL h, searchFit))
 
   module _ (h : level ≤ LEVEL) (b : Bool) (p : b ≡ both (mixtureFit mix) (chosenFit ch k)) where
-    pub find-unfit : not b ≡ true → found (replicate CELLS 0) Unfit ≡ findOf mix ch k limit level allowance
+    find-unfit : not b ≡ true → found (replicate CELLS 0) Unfit ≡ findOf mix ch k limit level allowance
     unfolding searchFit
     find-unfit e = go (mixtureFit mix) (chosenFit ch k) refl refl
       where
@@ -68,3 +69,22 @@ module _ (mix ch : List ℕ) (k limit level allowance : ℕ) where
       find-is u x z =
           let e : someEmpty ch k (startOf mix ch k) ≡ false = ap (someEmpty ch k) (sym s) ∙ no-empty ch k a (start-held u .sound .some) in
           z ∙ ap (searchOf ch k limit level allowance) s ∙ find-search mix ch k level limit allowance (rw (le-leb level LEVEL h, few, known, e, searchFit))
+
+  -- both tests at once
+  module _ (b : Bool) (p : b ≡ both (mixtureFit mix) (chosenFit ch k)) where
+    pub find-turned : (ltb LEVEL level || not b) ≡ true → found (replicate CELLS 0) Unfit ≡ findOf mix ch k limit level allowance
+    find-turned e = go (ltb LEVEL level) refl e
+      where
+        go : (x : Bool) → ltb LEVEL level ≡ x → (x || not b) ≡ true → found (replicate CELLS 0) Unfit ≡ findOf mix ch k limit level allowance
+        go true f g = find-high (ltb-true LEVEL level f)
+        go false f g = find-unfit (ltb-false LEVEL level f) b p g
+
+    pub not-turned : (ltb LEVEL level || not b) ≡ false → (level ≤ LEVEL) × (not b ≡ false)
+    not-turned e = go (ltb LEVEL level) refl e
+      where
+        clash : true ≡ false → _≡_ {A = ℕ} 1 0
+        clash u = ap (λ x. elim x [ true ↦ 1 | false ↦ 0 ]) u
+
+        go : (x : Bool) → ltb LEVEL level ≡ x → (x || not b) ≡ false → (level ≤ LEVEL) × (not b ≡ false)
+        go true f g = absurd (let w : 1 ≡ 0 = clash g in omega arith)
+        go false f g = (ltb-false LEVEL level f, g)

@@ -39,16 +39,12 @@ pub fn find(
 ) -> Found
     ensures { λ r. ⌜ r ≡ findOf mix (choice .systems) (choice .count) limit level allowance ⌝ }
 {
-    if LEVEL < level {
-        return nothing();
-    }
-    if !start::fit(mix, choice) {
+    if (LEVEL < level) | !start::fit(mix, choice) {
         return nothing();
     }
     let a = start::start(mix, choice);
     let rows = rows::evaluate(choice, a);
-    let fit = rows.fit;
-    if !fit {
+    if !rows.fit {
         return nothing();
     }
     let ch = choice.systems;
