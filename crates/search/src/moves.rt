@@ -14,7 +14,7 @@ ghost use Rattle.rows.specs.Carried.{Held};
 ghost use Rattle.search.specs.Tried.{TRIES, rowOf, Tried};
 ghost use Rattle.search.specs.Rounds.{Back};
 ghost use Rattle.search.specs.Balance.{Totalled};
-ghost use Rattle.search.specs.Scan.{givenOf, givesOf, takesOf, Past, Scanned};
+ghost use Rattle.search.specs.Scan.{givenOf, givesOf, Past, Scanned};
 use super::balance::Totals;
 use super::balance::exchanged;
 use super::balance::imbalance;
@@ -48,17 +48,6 @@ fn gives(ch: &[u8; SYSTEMS], k: usize, a: &[u32; CELLS], d: u32, m: usize) -> bo
         return false;
     }
     d < amount(a, system, f, 0) + amount(a, system, f, 1) + amount(a, system, f, 2)
-}
-
-// Whether the taker t of component c is not the giver f, and contains the component.
-fn takes(ch: &[u8; SYSTEMS], c: usize, f: usize, t: usize) -> bool
-    requires { ⌜ t < SYSTEMS ⌝ }
-    ensures { λ r. ⌜ r ≡ takesOf (now (ch .entry)) c f t ⌝ }
-{
-    if f == t {
-        return false;
-    }
-    systems::has(ch[t], c)
 }
 
 // Move m of the stride d, made.
@@ -137,10 +126,12 @@ fn first_taker(
 {
     let mut t = 0;
     while t < k {
-        if takes(ch, c, f, t) {
-            let more = number_more(ch, k, a, tried, d, t, c);
-            if imbalance(exchanged(w, v, t, more), k) < was {
-                return n + t;
+        if f != t {
+            if systems::has(ch[t], c) {
+                let more = number_more(ch, k, a, tried, d, t, c);
+                if imbalance(exchanged(w, v, t, more), k) < was {
+                    return n + t;
+                }
             }
         }
         t += 1;
