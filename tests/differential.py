@@ -383,7 +383,7 @@ def known(cases, exact, kind, sheet, shown):
 
 def kept_cases(cases, exact):
     """The sheets kept in tests/data: spreads at the limit and one unit on either side, and searches that end at the
-    limit, that need stride 1 or more than 4000 rounds, or where a move would empty a system."""
+    limit, that need stride 1, 4001 rounds or more, or where a move would empty a system."""
     for line in data_lines('spread-limit.txt'):
         known(cases, exact, 'spread at the limit', *line.split(' ', 1))
     for line in data_lines('search-limit.txt'):
@@ -548,6 +548,7 @@ LEAST = {
     # kept in tests/data
     'spread at the limit': {0: 4, 10: 4},
     'kept: ends-at-500000': {0: 21, 11: 3},
+    'kept: needs-4001': {11: 8},
     'kept: needs-more-than-4000': {11: 32},
     'kept: needs-stride-1': {0: 56, 11: 8},
     'kept: passes-500001': {0: 28, 11: 4},
