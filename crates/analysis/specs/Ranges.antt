@@ -14,7 +14,8 @@ use Rattle.analysis.specs.Register.{CODES, ifElse, statusOf}
 use Rattle.analysis.specs.declared.Checked.{Checked}
 use Rattle.analysis.specs.declared.Checked.the-variants.{InRange, Refused}
 use Rattle.analysis.specs.CheckedCases.{numberOf, codeOf}
-use Rattle.analysis.specs.Check.{leastOf, greatestOf, requiredOf, inRange, allInRange, totalOf, totalFits, refusalBy, refusalOf, answerOf, Checking}
+use Rattle.analysis.specs.Check.{leastOf, greatestOf, requiredOf, inRange, allInRange, totalOf, totalFits}
+use Rattle.analysis.specs.Check.{refusalBy, refusalOf, answerOf, Checking}
 
 -- the number of the check's answer is the analysis's
 pub answer-number : (n code : ℕ) → numberOf (answerOf n code) ≡ n
@@ -142,7 +143,26 @@ module _ (a : List ℕ) (l : length a ≡ CODES) where
       ≡ getD a 0 0 + getD a 1 0 + getD a 2 0 + getD a 3 0 + getD a 4 0 + getD a 5 0 + getD a 6 0 + getD a 7 0 + getD a 8 0
       + getD a 9 0 + getD a 10 0 + getD a 11 0 + getD a 12 0 + getD a 13 0 + getD a 14 0 + getD a 15 0
   total-sum =
-      omega (arith, total-go 0 a (omega arith), total-go 1 a (omega arith), total-go 2 a (omega arith), total-go 3 a (omega arith), total-go 4 a (omega arith), total-go 5 a (omega arith), total-go 6 a (omega arith), total-go 7 a (omega arith), total-go 8 a (omega arith), total-go 9 a (omega arith), total-go 10 a (omega arith), total-go 11 a (omega arith), total-go 12 a (omega arith), total-go 13 a (omega arith), total-go 14 a (omega arith), total-go 15 a (omega arith), total-end CODES a (omega arith))
+      omega (
+        arith,
+        total-go 0 a (omega arith),
+        total-go 1 a (omega arith),
+        total-go 2 a (omega arith),
+        total-go 3 a (omega arith),
+        total-go 4 a (omega arith),
+        total-go 5 a (omega arith),
+        total-go 6 a (omega arith),
+        total-go 7 a (omega arith),
+        total-go 8 a (omega arith),
+        total-go 9 a (omega arith),
+        total-go 10 a (omega arith),
+        total-go 11 a (omega arith),
+        total-go 12 a (omega arith),
+        total-go 13 a (omega arith),
+        total-go 14 a (omega arith),
+        total-go 15 a (omega arith),
+        total-end CODES a (omega arith),
+      )
 
   module _ (h : refusalOf a ≡ 0) where
     at-most : (k : ℕ) → k < CODES → getD a k 0 ≤ greatestOf k

@@ -8,7 +8,8 @@ use native.Mathlib.Nat.{mul-assoc, mul-comm, mul-pos}
 use native.Mathlib.Omega.{arith}
 use lib.Dec.{T, le→leb, lt→ltb}
 use lib.IntN.{ℤ, pos, negsuc, natAbs}
-use lib.Ieee.{Float, nan, inf, fin, binary64, up, down, div, round, ofInt, ofBits, toBits, inFloat, whole, inSigned, toSigned}
+use lib.Ieee.{Float, nan, inf, fin, binary64, up, down, div, round, ofInt, ofBits, toBits, inFloat, whole, inSigned}
+use lib.Ieee.{toSigned}
 use lib.Ieee.Back.{positive-back, negative-back, round-whole}
 use lib.Ieee.Exact.{HasValue}
 use lib.Ieee.Fits.{down-pos}

@@ -29,7 +29,8 @@ use Rattle.split.specs.declared.Search.{Search}
 use Rattle.split.specs.declared.Search.the-variants.{Balanced, Unbalanced, Unfit}
 use Rattle.split.specs.declared.Found.{Found}
 use Rattle.rating.specs.Records.{systemAt, codeAt, systemsOf, codesOf, matchesAt, fitsOf}
-use Rattle.rating.specs.Rate.{LIMIT, ROUNDS, mixOf, systemsFor, countFor, checkedBy, splitBy, splitAnswer, recordsOf, outcome, foundBy, foundOutcome, searched, searchOutcome}
+use Rattle.rating.specs.Rate.{LIMIT, ROUNDS, mixOf, systemsFor, countFor, checkedBy, splitBy, splitAnswer, recordsOf}
+use Rattle.rating.specs.Rate.{outcome, foundBy, foundOutcome, searched, searchOutcome}
 use Rattle.rating.specs.Ready.{room, shared, input}
 use Rattle.rating.specs.declared.Outcome.{Outcome}
 
@@ -89,7 +90,8 @@ unfolding splitAnswer splitBy
 split-by-records a p code fits passed e = rw (passed, e)
 
 -- with the expected records, of an analysis in range, the answer is that to its cells
-pub split-fits : (a : List ℕ) (p : Split) (code : ℕ) → refusalOf a ≡ 0 → p .count ≡ 3 * countFor a → p .systems ≡ systemsOf (systemsFor a) (countFor a) → p .codes ≡ codesOf (systemsFor a) (countFor a)
+pub split-fits : (a : List ℕ) (p : Split) (code : ℕ) → refusalOf a ≡ 0 → p .count ≡ 3 * countFor a
+    → p .systems ≡ systemsOf (systemsFor a) (countFor a) → p .codes ≡ codesOf (systemsFor a) (countFor a)
     → splitAnswer a p code ≡ proposedOf LIMIT (systemsFor a) (countFor a) (mixOf a) (cellsOf (systemsFor a) (countFor a) (p .amounts)) (inertFirst a)
 unfolding splitAnswer splitBy
 split-fits a p code passed c s d =
@@ -113,7 +115,8 @@ split-rated a p code w s r is =
     go false f e h = absurd (subst IsRated (sym h) tt)
 
 -- a proposed split is rated with no rounds
-pub rated-zero : (a : List ℕ) (p : Split) (code : ℕ) (w : ℤ) (s r : ℕ) → splitAnswer a p code ≡ Rated w s r → splitAnswer a p code ≡ Rated w s 0
+pub rated-zero : (a : List ℕ) (p : Split) (code : ℕ) (w : ℤ) (s r : ℕ) → splitAnswer a p code ≡ Rated w s r
+    → splitAnswer a p code ≡ Rated w s 0
 rated-zero a p code w s r is =
     let e = split-rated a p code w s r is .1 in
     let z = rated-is LIMIT (systemsFor a) (countFor a) (mixOf a) (cellsOf (systemsFor a) (countFor a) (p .amounts)) (inertFirst a) w s r e .2 in
@@ -122,7 +125,8 @@ rated-zero a p code w s r is =
 -- ---- the search
 
 -- a rating by the search: the analysis is in range, and the search came to a balance
-pub search-rated : (a : List ℕ) (allowance code : ℕ) (w : ℤ) (s r : ℕ) → searchOutcome a allowance code .answer ≡ Rated w s r
+pub search-rated : (a : List ℕ) (allowance code : ℕ) (w : ℤ) (s r : ℕ)
+    → searchOutcome a allowance code .answer ≡ Rated w s r
     → (refusalOf a ≡ 0) × (searched a allowance .search ≡ Balanced s r)
     × (w ≡ ratingOf (systemsFor a) (countFor a) (searched a allowance .cells) (inertFirst a))
     × (searchOutcome a allowance code .split ≡ recordsOf (systemsFor a) (countFor a) (searched a allowance .cells))
@@ -133,7 +137,8 @@ search-rated a allowance code w s r is = go (eqb (refusalOf a) 0) (searched a al
     by b x = ifElse b (foundBy (systemsFor a) (countFor a) (inertFirst a) (searched a allowance .cells) x)
         (outcome (Refused (refusalOf a) (ifElse (eqb (refusalOf a) 5) code 0)) noSplit)
 
-    go : (b : Bool) (x : Search) → eqb (refusalOf a) 0 ≡ b → searched a allowance .search ≡ x → by b x .answer ≡ Rated w s r
+    go : (b : Bool) (x : Search) → eqb (refusalOf a) 0 ≡ b → searched a allowance .search ≡ x
+        → by b x .answer ≡ Rated w s r
         → (refusalOf a ≡ 0) × (x ≡ Balanced s r)
         × (w ≡ ratingOf (systemsFor a) (countFor a) (searched a allowance .cells) (inertFirst a))
         × (by b x .split ≡ recordsOf (systemsFor a) (countFor a) (searched a allowance .cells))
@@ -143,14 +148,16 @@ search-rated a allowance code w s r is = go (eqb (refusalOf a) 0) (searched a al
     go false x e f h = absurd (subst IsRated (sym h) tt)
 
 -- what a balance is: a split that re-sums, with no system empty, and its spread within the limit
-pub balance : (a : List ℕ) → length a ≡ CODES → refusalOf a ≡ 0 → (allowance s r : ℕ) → searched a allowance .search ≡ Balanced s r
+pub balance : (a : List ℕ) → length a ≡ CODES → refusalOf a ≡ 0 → (allowance s r : ℕ)
+    → searched a allowance .search ≡ Balanced s r
     → Balance (mixOf a) (systemsFor a) (countFor a) LIMIT (min allowance ROUNDS) (searched a allowance .cells) s r
 balance a long passed allowance s r is =
     let u = find-search (mixOf a) (systemsFor a) (countFor a) LEVEL LIMIT (min allowance ROUNDS) (input-fits (mixOf a) (systemsFor a) (countFor a) LEVEL (input a long passed)) in
     rw u (find-balanced (mixOf a) (systemsFor a) (countFor a) LIMIT LEVEL (min allowance ROUNDS) s r (ap (λ (f : Found). f .search) (sym u) ∙ is))
 
 -- the found split, put back
-pub found-back : (a : List ℕ) → length a ≡ CODES → (allowance code code′ : ℕ) (w : ℤ) (s r : ℕ) → searchOutcome a allowance code .answer ≡ Rated w s r
+pub found-back : (a : List ℕ) → length a ≡ CODES → (allowance code code′ : ℕ) (w : ℤ) (s r : ℕ)
+    → searchOutcome a allowance code .answer ≡ Rated w s r
     → splitAnswer a (searchOutcome a allowance code .split) code′ ≡ Rated w s 0
 found-back a long allowance code code′ w s r is =
     let (passed, x, e, f) = search-rated a allowance code w s r is in

@@ -39,7 +39,8 @@ larger-allowance a long few many code le w s r is =
     rw (passed, same)
 
 -- below 2^53
-pub proposed-small : (a : List ℕ) → length a ≡ CODES → (p : Split) (code : ℕ) (w : ℤ) (s r : ℕ) → splitAnswer a p code ≡ Rated w s r
+pub proposed-small : (a : List ℕ) → length a ≡ CODES → (p : Split) (code : ℕ) (w : ℤ) (s r : ℕ)
+    → splitAnswer a p code ≡ Rated w s r
     → (natAbs w < 9007199254740992) × (s < 9007199254740992)
 proposed-small a long p code w s r is =
     let (passed, e) = split-rated a p code w s r is in
@@ -48,7 +49,8 @@ proposed-small a long p code w s r is =
       rated-spread-small (systemsFor a) (countFor a) (mixOf a) cells (chosen a) LIMIT (inertFirst a) w s r e,
     )
 
-pub found-small : (a : List ℕ) → length a ≡ CODES → (allowance code : ℕ) (w : ℤ) (s r : ℕ) → searchOutcome a allowance code .answer ≡ Rated w s r
+pub found-small : (a : List ℕ) → length a ≡ CODES → (allowance code : ℕ) (w : ℤ) (s r : ℕ)
+    → searchOutcome a allowance code .answer ≡ Rated w s r
     → (natAbs w < 9007199254740992) × (s < 9007199254740992)
 found-small a long allowance code w s r is =
     proposed-small a long (searchOutcome a allowance code .split) code w s 0 (found-back a long allowance code code w s r is)

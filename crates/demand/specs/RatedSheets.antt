@@ -36,7 +36,8 @@ sheet-split s code w d r is = go (readOf s code .answer) refl is
     p : Split
     p = readOf s code .split
 
-    by : (length a ≡ CODES) → (t : Bool) → ifElse t (searchOutcome a ROUNDS code) (outcome (splitAnswer a p code) noSplit) .answer ≡ Rated w d r
+    by : (length a ≡ CODES) → (t : Bool)
+        → ifElse t (searchOutcome a ROUNDS code) (outcome (splitAnswer a p code) noSplit) .answer ≡ Rated w d r
         → splitAnswer a (ifElse t (ifElse t (searchOutcome a ROUNDS code) (outcome (splitAnswer a p code) noSplit) .split) p) code ≡ Rated w d 0
     by long true e = found-back a long ROUNDS code code w d r e
     by long false e = rated-zero a p code w d r e

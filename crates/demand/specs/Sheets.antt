@@ -53,7 +53,8 @@ codes-number : (n : ℕ) (s : List ℕ) (at i p : ℕ) → Numbered 1 6 (codesRe
 codes-number zero s at i p = tt
 codes-number (suc n) s at i p = go (codes-number n s (at + 5) (i + 1) (getD s at 0)) (eqb (codeRefusal (getD s at 0) p) 0) refl
   where
-    go : Numbered 1 6 (codesReading n s (at + 5) (i + 1) (getD s at 0)) → (t : Bool) → eqb (codeRefusal (getD s at 0) p) 0 ≡ t
+    go : Numbered 1 6 (codesReading n s (at + 5) (i + 1) (getD s at 0)) → (t : Bool)
+        → eqb (codeRefusal (getD s at 0) p) 0 ≡ t
         → Numbered 1 6 (ifElse t (codesReading n s (at + 5) (i + 1) (getD s at 0)) (reading.Refused (codeRefusal (getD s at 0) p) i 0))
     go rest true e = rest
     go rest false e = (omega (arith, eqb-false (codeRefusal (getD s at 0) p) 0 e), omega (arith, code-number (getD s at 0) p))
@@ -78,7 +79,8 @@ amounts-number n s = go (zeroListed n s 1)
 by-number : (number code : ℕ) → number ≤ 6 → Numbered 1 6 (byAmounts number code)
 by-number number code h = go (eqb number 0) refl
   where
-    go : (t : Bool) → eqb number 0 ≡ t → Numbered 1 6 (ifElse t reading.Read (reading.Refused number 0 (ifElse (eqb number 5) code 0)))
+    go : (t : Bool) → eqb number 0 ≡ t
+        → Numbered 1 6 (ifElse t reading.Read (reading.Refused number 0 (ifElse (eqb number 5) code 0)))
     go true e = tt
     go false e = (omega (arith, eqb-false number 0 e), h)
 
@@ -86,7 +88,8 @@ after-number : (x : Reading) (n : ℕ) (s : List ℕ) (code : ℕ) → Numbered 
 after-number reading.Read n s code h = by-number (amountsRefusal n s) code (amounts-number n s)
 after-number (reading.Refused number place code′) n s code h = h
 
-with-number : (x : Reading) (y : Sheet) → y .answer ≡ reading.Read → Numbered 1 6 x → Numbered 1 6 (withAnswer x y .answer)
+with-number : (x : Reading) (y : Sheet) → y .answer ≡ reading.Read → Numbered 1 6 x
+    → Numbered 1 6 (withAnswer x y .answer)
 with-number reading.Read y e h = rw e tt
 with-number (reading.Refused number place code) y e h = h
 
@@ -140,7 +143,8 @@ sheet-ends s code = go (readOf s code .answer) refl (read-number s code)
     p : Split
     p = readOf s code .split
 
-    by-split : refusalOf a ≡ 0 → (t : Bool) → RatedOr 1 11 (ifElse t (searchOutcome a ROUNDS code) (outcome (splitAnswer a p code) noSplit) .answer)
+    by-split : refusalOf a ≡ 0 → (t : Bool)
+        → RatedOr 1 11 (ifElse t (searchOutcome a ROUNDS code) (outcome (splitAnswer a p code) noSplit) .answer)
     by-split h true = either (searchOutcome a ROUNDS code .answer) (search-ends a ROUNDS code h)
     by-split h false = wider (splitAnswer a p code) (split-ends a p code h)
 

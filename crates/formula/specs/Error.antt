@@ -14,7 +14,8 @@ use Rattle.formula.specs.WorkingRule.{stepZ, horner, worked, rowSum, tab
 
 -- ---- one division: less than one unit more
 
-pub near-step : {w e : ℤ} {K u : ℕ} (n d : ℕ) → Close w (ratio e K) u → n ≤ d → 0 < d → Within (quotZ (w *ℤ pos n) (pos d)) (ratio (e *ℤ pos n) (K * d)) (suc u)
+pub near-step : {w e : ℤ} {K u : ℕ} (n d : ℕ) → Close w (ratio e K) u → n ≤ d → 0 < d
+    → Within (quotZ (w *ℤ pos n) (pos d)) (ratio (e *ℤ pos n) (K * d)) (suc u)
 near-step {w} {e} {K} {u} n d h n≤d d>0 = within-over d d>0 (close-looser (close-times n h) (N.mul-le-mul-left u n≤d))
 
 -- ---- a row: the exact numerator over d ^ m, in the working rule's own order
@@ -30,11 +31,13 @@ one-less : (m : ℕ) → suc m - 1 ≡ m
 one-less m = omega arith
 
 -- one step of the working rule, over the powers of d
-next : {w e x f : ℤ} {u v : ℕ} (n d m : ℕ) → n ≤ d → 0 < d → Close w (ratio e (d ^ m)) u → Close x (ratio f (d ^ suc m)) v → Within (stepZ w n d x) (ratio (e *ℤ pos n +ℤ f) (d ^ suc m)) (suc u + v)
+next : {w e x f : ℤ} {u v : ℕ} (n d m : ℕ) → n ≤ d → 0 < d → Close w (ratio e (d ^ m)) u
+    → Close x (ratio f (d ^ suc m)) v → Within (stepZ w n d x) (ratio (e *ℤ pos n +ℤ f) (d ^ suc m)) (suc u + v)
 next n d m n≤d d>0 h k = rw (N.pow-suc d m) (within-same (near-step n d h n≤d d>0) (rw (N.pow-suc d m) at k))
 
 module _ (n d : ℕ) (n≤d : n ≤ d) (d>0 : 0 < d) where
-  near-row : (m : ℕ) (c : ℤ) (cs : List ℤ) → length cs ≤ m → Close (horner n d (c ∷ cs)) (ratio (rowOver n d m (c ∷ cs)) (d ^ m)) (length cs)
+  near-row : (m : ℕ) (c : ℤ) (cs : List ℤ) → length cs ≤ m
+      → Close (horner n d (c ∷ cs)) (ratio (rowOver n d m (c ∷ cs)) (d ^ m)) (length cs)
   unfolding horner rowOver
   near-row m c [] h = rw (zero-*ℤ (pos n), +ℤ-idl (c *ℤ pos (d ^ m))) (close-over c (d ^ m) (pow-pos d m d>0))
   near-row zero c (b ∷ cs) h = absurd (N.not-suc-le-zero h)
@@ -46,7 +49,8 @@ collect : (c A B D s n : ℤ) → c *ℤ (A *ℤ B *ℤ D) +ℤ s *ℤ (A *ℤ (
 collect c A B D s n = simp ring
 
 -- it is the sum
-row-is : (n1 n2 d m k l : ℕ) (cs : List ℤ) → rowSum n1 n2 d m k l cs ≡ rowOver n2 d (m - (k + l)) cs *ℤ pos (n1 ^ k * n2 ^ l)
+row-is : (n1 n2 d m k l : ℕ) (cs : List ℤ)
+    → rowSum n1 n2 d m k l cs ≡ rowOver n2 d (m - (k + l)) cs *ℤ pos (n1 ^ k * n2 ^ l)
 unfolding rowSum rowOver
 row-is n1 n2 d m k l [] = sym (zero-*ℤ (pos (n1 ^ k * n2 ^ l)))
 row-is n1 n2 d m k l (c ∷ cs) =
@@ -66,7 +70,8 @@ tableOver n1 n2 d m (r ∷ rs) = tableOver n1 n2 d (m - 1) rs *ℤ pos n1 +ℤ r
 collect2 : (s A t n : ℤ) → s *ℤ A +ℤ t *ℤ (A *ℤ n) ≡ (t *ℤ n +ℤ s) *ℤ A
 collect2 s A t n = simp ring
 
-table-is : (n1 n2 d m k : ℕ) (rs : List (List ℤ)) → tableSum n1 n2 d m k rs ≡ tableOver n1 n2 d (m - k) rs *ℤ pos (n1 ^ k)
+table-is : (n1 n2 d m k : ℕ) (rs : List (List ℤ))
+    → tableSum n1 n2 d m k rs ≡ tableOver n1 n2 d (m - k) rs *ℤ pos (n1 ^ k)
 unfolding tableSum tableOver
 table-is n1 n2 d m k [] = sym (zero-*ℤ (pos (n1 ^ k)))
 table-is n1 n2 d m k (r ∷ rs) =
@@ -100,7 +105,8 @@ units ((c ∷ cs) ∷ []) = length cs
 units ((c ∷ cs) ∷ (r ∷ rs)) = suc (units (r ∷ rs)) + length cs
 
 module _ (n1 n2 d : ℕ) (n1≤d : n1 ≤ d) (n2≤d : n2 ≤ d) (d>0 : 0 < d) where
-  near-table : (m : ℕ) (rs : List (List ℤ)) → Shaped m rs → Close (worked n1 n2 d rs) (ratio (tableOver n1 n2 d m rs) (d ^ m)) (units rs)
+  near-table : (m : ℕ) (rs : List (List ℤ)) → Shaped m rs
+      → Close (worked n1 n2 d rs) (ratio (tableOver n1 n2 d m rs) (d ^ m)) (units rs)
   unfolding worked tableOver horner
   near-table m [] h = absurd h
   near-table m ([] ∷ rs) h = absurd h

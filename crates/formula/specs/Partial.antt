@@ -18,7 +18,8 @@ unfoldable pub exactNumber : ℕ → ℕ → ℕ → ℕ → Fraction
 exactNumber system n1 n2 n3 = record { num = exact n1 n2 (n1 + n2 + n3) (rowsOf (coeffOf system)); den = (n1 + n2 + n3) ^ 7 }
 
 -- the one is less than 19 units from the other
-pub partial-within : (system n1 n2 n3 : ℕ) → 0 < n1 + n2 + n3 → Within (partialNumber system n1 n2 n3) (exactNumber system n1 n2 n3) 19
+pub partial-within : (system n1 n2 n3 : ℕ) → 0 < n1 + n2 + n3
+    → Within (partialNumber system n1 n2 n3) (exactNumber system n1 n2 n3) 19
 unfolding partialNumber exactNumber
 partial-within system n1 n2 n3 h =
     record { positive = N.one-le-pow 7 (n1 + n2 + n3) h; near = within n1 n2 (n1 + n2 + n3) (omega arith) (omega arith) h (coeffOf system) }

@@ -28,6 +28,7 @@ equal-remainders = refl
 
 -- n1 at a half
 pub half-up :
-    inertOf (0 ∷ 913669 ∷ 145 ∷ 170 ∷ 10 ∷ 10 ∷ 0 ∷ 0 ∷ 0 ∷ 0 ∷ 0 ∷ 85932 ∷ 0 ∷ 0 ∷ 0 ∷ 0 ∷ []) ≡ 914063 ∷ 85937 ∷ 0 ∷ []
+    inertOf (0 ∷ 913669 ∷ 145 ∷ 170 ∷ 10 ∷ 10 ∷ 0 ∷ 0 ∷ 0 ∷ 0 ∷ 0 ∷ 85932 ∷ 0 ∷ 0 ∷ 0 ∷ 0 ∷ [])
+    ≡ 914063 ∷ 85937 ∷ 0 ∷ []
 unfolding tenthsOf methaneShare
 half-up = refl

@@ -29,7 +29,8 @@ use Rattle.split.specs.declared.Answer.the-variants.{Rated, Refused}
 use Rattle.split.specs.declared.Search.{Search}
 use Rattle.split.specs.declared.Search.the-variants.{Balanced, Unbalanced, Unfit}
 use Rattle.rating.specs.Records.{fitsOf}
-use Rattle.rating.specs.Rate.{LIMIT, ROUNDS, mixOf, systemsFor, countFor, splitBy, splitAnswer, foundBy, foundOutcome, searched, searchOutcome}
+use Rattle.rating.specs.Rate.{LIMIT, ROUNDS, mixOf, systemsFor, countFor, splitBy, splitAnswer, foundBy}
+use Rattle.rating.specs.Rate.{foundOutcome, searched, searchOutcome}
 
 -- a rating, or a refusal with a number from `low` to `high`
 abbrev pub RatedOr : ℕ → ℕ → Answer → Type 0
@@ -64,7 +65,8 @@ found-ends ch k n1 a (Balanced s r) h = inl tt
 found-ends ch k n1 a Unbalanced h = inr refl
 found-ends ch k n1 a Unfit h = absurd (h refl)
 
-pub search-ends : (a : List ℕ) (allowance code : ℕ) → refusalOf a ≡ 0 → IsRated (searchOutcome a allowance code .answer) ⊎ (searchOutcome a allowance code .answer ≡ Refused 11 0)
+pub search-ends : (a : List ℕ) (allowance code : ℕ) → refusalOf a ≡ 0
+    → IsRated (searchOutcome a allowance code .answer) ⊎ (searchOutcome a allowance code .answer ≡ Refused 11 0)
 unfolding searchOutcome foundOutcome
 search-ends a allowance code h = rw h (found-ends _ _ _ _ (searched a allowance .search) (never-unfit a allowance))
 
@@ -80,7 +82,8 @@ fits-ends : (f : Bool) (x : Answer) → RatedOr 7 10 x → RatedOr 7 10 (ifElse 
 fits-ends true x r = r
 fits-ends false x r = inr (omega arith, omega arith)
 
-proposed-ends : (limit : ℕ) (ch : List ℕ) (k : ℕ) (mix a : List ℕ) (n1 : ℕ) → RatedOr 7 10 (proposedOf limit ch k mix a n1)
+proposed-ends : (limit : ℕ) (ch : List ℕ) (k : ℕ) (mix a : List ℕ) (n1 : ℕ)
+    → RatedOr 7 10 (proposedOf limit ch k mix a n1)
 unfolding proposedOf
 proposed-ends limit ch k mix a n1 =
     verdict-ends (resums mix k a) (someEmpty ch k a) (ltb limit (spreadOf (partialAt ch a) k))
@@ -91,7 +94,8 @@ unfolding splitAnswer splitBy
 split-ends a p code h =
     rw h
     (fits-ends (fitsOf (systemsFor a) (countFor a) (p .count) (p .systems) (p .codes)) _
-    (proposed-ends LIMIT (systemsFor a) (countFor a) (mixOf a) (cellsOf (systemsFor a) (countFor a) (p .amounts)) (inertFirst a)))
+    (proposed-ends LIMIT (systemsFor a) (countFor a) (mixOf a) (cellsOf (systemsFor a) (countFor a) (p .amounts))
+    (inertFirst a)))
 
 -- ---- what was read is an analysis in range
 
@@ -107,7 +111,8 @@ module _ (s : List ℕ) (code : ℕ) (h : readOf s code .answer ≡ reading.Read
   content = read-good s code (whole .n) (whole .m) (whole .first) (whole .sections) (whole .codes) (whole .amounts)
 
   pub read-passed : refusalOf (readOf s code .analysis .amounts) ≡ 0
-  read-passed = ap (λ (x : Sheet). refusalOf (x .analysis .amounts)) content ∙ amounts-back (whole .n) s (whole .amounts) .1
+  read-passed =
+      ap (λ (x : Sheet). refusalOf (x .analysis .amounts)) content ∙ amounts-back (whole .n) s (whole .amounts) .1
 
   pub read-long : length (readOf s code .analysis .amounts) ≡ CODES
   read-long = ap (λ (x : Sheet). length (x .analysis .amounts)) content ∙ amounts-long (whole .n) s 1 _

@@ -20,13 +20,19 @@ use Rattle.sheet.specs.declared.Sheet.{Sheet}
 use Rattle.sheet.specs.declared.Split.{Split}
 use Rattle.sheet.specs.declared.Written.the-variants as w
 use Rattle.sheet.specs.Components.{codesReading, amountsFrom, zeroListed, countOf, componentBytes}
-use Rattle.sheet.specs.Split.{RECORDS, allowedCount, splitBytes, byteColumn, amountColumn, padded, splitAt, trimmed}
+use Rattle.sheet.specs.Split.{RECORDS, allowedCount, splitBytes, byteColumn, amountColumn, padded, splitAt}
+use Rattle.sheet.specs.Split.{trimmed}
 use Rattle.sheet.specs.Sheet.{LISTED, SHEET, sheetOf, sectionsOf}
 use Rattle.sheet.specs.Read.{amountsOf, amountsRefusal, refusedSheet, contentOf, readOf}
 use Rattle.sheet.specs.Write.{writeRefusal, writtenOf, leftOf}
-use Rattle.sheet.specs.Cases.{both-true, allowed-most, allowed-room, Sectioned, sectioned, sections-both, read-torn, read-good, Whole, read-whole, amounts-checked, amounts-back, length-components, length-sheet, number-none, number-back, written-length, written-back, left-sheet}
-use Rattle.sheet.specs.Back.{unlisted, codes-back, zero-back, amounts-filled, rest-here, cut, cut-take, split-back}
-use Rattle.sheet.specs.Forth.{Bytes, one, Filled, filled-forth, split-forth, column-forth, length-byte-column, length-amount-column}
+use Rattle.sheet.specs.Cases.{both-true, allowed-most, allowed-room, Sectioned, sectioned, sections-both}
+use Rattle.sheet.specs.Cases.{read-torn, read-good, Whole, read-whole, amounts-checked, amounts-back}
+use Rattle.sheet.specs.Cases.{length-components, length-sheet, number-none, number-back, written-length}
+use Rattle.sheet.specs.Cases.{written-back, left-sheet}
+use Rattle.sheet.specs.Back.{unlisted, codes-back, zero-back, amounts-filled, rest-here, cut, cut-take}
+use Rattle.sheet.specs.Back.{split-back}
+use Rattle.sheet.specs.Forth.{Bytes, one, Filled, filled-forth, split-forth, column-forth, length-byte-column}
+use Rattle.sheet.specs.Forth.{length-amount-column}
 
 -- ---- how long a sheet is
 
@@ -42,7 +48,8 @@ count-room k (x ∷ xs) h =
     let g = both-true (inRange k x) (allInRange (suc k) xs) h in
     go (g .0) (count-room (suc k) xs (g .1)) (eqb x 0) (eqb (greatestOf k) 0) refl refl
   where
-    go : inRange k x ≡ true → countOf xs ≤ room (suc k) (length xs) → (t u : Bool) → eqb x 0 ≡ t → eqb (greatestOf k) 0 ≡ u
+    go : inRange k x ≡ true → countOf xs ≤ room (suc k) (length xs) → (t u : Bool) → eqb x 0 ≡ t
+        → eqb (greatestOf k) 0 ≡ u
         → ifElse t (countOf xs) (suc (countOf xs)) ≤ ifElse u 0 1 + room (suc k) (length xs)
     go g r true true e f = omega (arith, r)
     go g r true false e f = omega (arith, r)
@@ -56,7 +63,8 @@ count-most a l h =
     let r : countOf a ≤ room 0 CODES = subst (λ (n : ℕ). countOf a ≤ room 0 n) l (count-room 0 a (passed-ranges a h)) in r
 
 -- a sheet that is written, or read, has at most 111 bytes
-pub longest-written : (a : List ℕ) (p : Split) (size : ℕ) → length a ≡ CODES → writeRefusal a p size ≡ 0 → length (sheetOf a p) ≤ SHEET
+pub longest-written : (a : List ℕ) (p : Split) (size : ℕ) → length a ≡ CODES → writeRefusal a p size ≡ 0
+    → length (sheetOf a p) ≤ SHEET
 longest-written a p size l h =
     let g = number-back a p size h in
     let n = count-most a l (g .1) in
@@ -92,7 +100,8 @@ pub record Sized (a : List ℕ) (p : Split) : Type 0 where
   pub codes : length (p .codes) ≡ RECORDS
   pub amounts : length (p .amounts) ≡ RECORDS
 
-pad-same : (m z : ℕ) (xs : List ℕ) → m + z ≡ length xs → ((i : ℕ) → m ≤ i → getD xs i 0 ≡ 0) → take m xs ++ replicate z 0 ≡ xs
+pad-same : (m z : ℕ) (xs : List ℕ) → m + z ≡ length xs → ((i : ℕ) → m ≤ i → getD xs i 0 ≡ 0)
+    → take m xs ++ replicate z 0 ≡ xs
 pad-same zero zero [] e h = refl
 pad-same zero (suc z) [] e h = absurd (omega arith)
 pad-same zero zero (x ∷ xs) e h = absurd (omega arith)
@@ -230,7 +239,8 @@ read-bytes (x ∷ xs) p k allowed passed code =
     passed
 
 -- reading what was written into a buffer gives the same analysis and the same split
-pub read-written : (a : List ℕ) (p : Split) → Sized a p → (b : List ℕ) (n code code' : ℕ) → writtenOf a p (length b) code ≡ w.Length n
+pub read-written : (a : List ℕ) (p : Split) → Sized a p → (b : List ℕ) (n code code' : ℕ)
+    → writtenOf a p (length b) code ≡ w.Length n
     → readOf (take n (leftOf a p b)) code' ≡ asRead a (trimmed p)
 read-written a p k b n code code' h =
     let g = written-back a p (length b) code h in
@@ -239,12 +249,14 @@ read-written a p k b n code code' h =
     ap (λ (l : List ℕ). readOf l code') e ∙ read-bytes a p k (c .0) (c .1) code'
 
 -- the very same split where its unused places hold 0
-pub read-written-same : (a : List ℕ) (p : Split) → Sized a p → Unused p → (b : List ℕ) (n code code' : ℕ) → writtenOf a p (length b) code ≡ w.Length n
+pub read-written-same : (a : List ℕ) (p : Split) → Sized a p → Unused p → (b : List ℕ) (n code code' : ℕ)
+    → writtenOf a p (length b) code ≡ w.Length n
     → readOf (take n (leftOf a p b)) code' ≡ asRead a p
 read-written-same a p k u b n code code' h =
     let g = written-back a p (length b) code h in
     let c = number-back a p (length b) (g .0) in
-    read-written a p k b n code code' h ∙ ap (λ (q : Split). asRead a q) (trimmed-same a p k (allowed-room (p .count) (c .0)) u)
+    read-written a p k b n code code' h
+    ∙ ap (λ (q : Split). asRead a q) (trimmed-same a p k (allowed-room (p .count) (c .0)) u)
 
 -- ---- writing what was read
 
@@ -288,14 +300,16 @@ module _ (s : List ℕ) (bytes : Bytes s) (x : Whole s) where
       ∙ sym (one s bytes 0 1 refl (omega (arith, shape .size)))
 
 -- what is read has the same bytes
-pub bytes-read : (s : List ℕ) → Bytes s → (code : ℕ) → readOf s code .answer ≡ Read → sheetOf (readOf s code .analysis .amounts) (readOf s code .split) ≡ s
+pub bytes-read : (s : List ℕ) → Bytes s → (code : ℕ) → readOf s code .answer ≡ Read
+    → sheetOf (readOf s code .analysis .amounts) (readOf s code .split) ≡ s
 bytes-read s bytes code h =
     let x = read-whole s code h in
     let e = read-good s code (x .n) (x .m) (x .first) (x .sections) (x .codes) (x .amounts) in
     ap (λ (r : Sheet). sheetOf (r .analysis .amounts) (r .split)) e ∙ sheet-same s bytes x
 
 -- writing what was read into a buffer with room gives the same bytes, and leaves the rest of the buffer
-pub written-read : (s : List ℕ) → Bytes s → (code : ℕ) → readOf s code .answer ≡ Read → (b : List ℕ) (code' : ℕ) → length s ≤ length b
+pub written-read : (s : List ℕ) → Bytes s → (code : ℕ) → readOf s code .answer ≡ Read → (b : List ℕ) (code' : ℕ)
+    → length s ≤ length b
     → (writtenOf (readOf s code .analysis .amounts) (readOf s code .split) (length b) code' ≡ w.Length (length s))
     × (leftOf (readOf s code .analysis .amounts) (readOf s code .split) b ≡ s ++ drop (length s) b)
 written-read s bytes code h b code' l =

@@ -12,7 +12,8 @@ use Rattle.split.specs.Fold.{sumTo, greatestTo, leastTo, first, table}
 use Rattle.split.specs.Split.{partsOf, numberAt, heldOf, rankOf, componentAt, amountsOf}
 use Rattle.split.specs.Rating.{spreadOf}
 use Rattle.split.specs.Start.{sharersOf, shareOf, givenOf, startOf}
-use Rattle.split.specs.Move.{squareOf, imbalanceOf, shift, movedOf, betweenOf, affordsOf, lowersOf, canOf, firstOf}
+use Rattle.split.specs.Move.{squareOf, imbalanceOf, shift, movedOf, betweenOf, affordsOf, lowersOf, canOf}
+use Rattle.split.specs.Move.{firstOf}
 use Rattle.split.specs.Search.{goOn, turnOf, runOf}
 
 -- the nine records of the start among systems 4, 7 and 8: odd parts stand with the lower system numbers

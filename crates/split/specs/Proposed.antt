@@ -32,7 +32,10 @@ answerOf limit ch k mix a n1 =
 -- the answer to a split that re-sums and has no empty system
 unfoldable pub ratedOf : ℕ → List ℕ → ℕ → List ℕ → ℕ → Answer
 ratedOf limit ch k a n1 =
-    elim (ltb limit (spreadOf (numberAt ch a) k)) [ true ↦ Refused WIDE 0 | false ↦ Rated (ratingOf ch k a n1) (spreadOf (numberAt ch a) k) 0 ]
+    elim (ltb limit (spreadOf (numberAt ch a) k)) [
+      | true ↦ Refused WIDE 0
+      | false ↦ Rated (ratingOf ch k a n1) (spreadOf (numberAt ch a) k) 0
+    ]
 
 -- input that is answered by the rules
 pub record Proposal (mix ch : List ℕ) (k n1 : ℕ) : Type 0 where
