@@ -1,5 +1,6 @@
 pub mod WorkingRule
 pub mod Coefficients
+pub mod Ranges
 pub mod Error
 pub mod Size
 pub mod Bound

@@ -5,7 +5,7 @@ use native.Mathlib.Omega.{arith}
 use lib.IntN.{ℤ, natAbs}
 use Rattle.integer.specs.Fraction.{Fraction, Within}
 use Rattle.formula.specs.WorkingRule.{worked, rowsOf, exact, LARGEST}
-use Rattle.formula.specs.Coefficients.{coeffOf, systems, placeIn}
+use Rattle.formula.specs.Coefficients.{coeffOf}
 use Rattle.formula.specs.Error.{within}
 use Rattle.formula.specs.Bound.{worked-small}
 
@@ -27,4 +27,4 @@ partial-within system n1 n2 n3 h =
 -- and at most 2000000000000 units in magnitude
 pub partial-small : (system n1 n2 n3 : ℕ) → natAbs (partialNumber system n1 n2 n3) ≤ LARGEST
 unfolding partialNumber
-partial-small system n1 n2 n3 = worked-small (placeIn systems system) n1 n2 (n1 + n2 + n3) (omega arith) (omega arith)
+partial-small system n1 n2 n3 = worked-small system n1 n2 (n1 + n2 + n3) (omega arith) (omega arith)

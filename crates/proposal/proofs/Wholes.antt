@@ -9,8 +9,9 @@ use lib.Signed.{quotZ}
 use mir.Syntax.{w64}
 use mir.Val.{SFits, toZ, ofZ}
 use mir.ValLaws.{toZ-ofZ, toZ-pos}
-use Rattle.formula.specs.WorkingRule.{LARGEST}
-use Rattle.ternary.specs.Answer.{isIn, partialOf, partial-is}
+use Rattle.formula.specs.WorkingRule.{sumAbs, LARGEST}
+use Rattle.formula.specs.Coefficients.{placeIn, keepsRule, isSystem}
+use Rattle.ternary.specs.Answer.{formulaOf, formula-is}
 use Rattle.ternary.specs.declared.Partial.{Partial}
 use Rattle.ternary.specs.declared.Partial.the-variants.{Number, Refused}
 use Rattle.split.specs.Rating.{inertNumber}
@@ -92,10 +93,10 @@ module _ (s n : ℤ) (fs : SFits w64 s) (fn : SFits w64 n) (s≤ : natAbs s ≤ 
 
 -- ---- the inert number is answered, and is small
 
-module _ (n1 : ℕ) (p : Partial) (q : p ≡ partialOf 20 n1 (1000000 - n1) 0) (most : n1 ≤ 1000000) where
+module _ (n1 : ℕ) (p : Partial) (q : p ≡ formulaOf 20 n1 (1000000 - n1) 0) (most : n1 ≤ 1000000) where
   answer-is : p ≡ Number (inertNumber n1)
-  unfolding inertNumber isIn
-  answer-is = q ∙ partial-is 20 n1 (1000000 - n1) 0 refl (omega arith) (omega arith)
+  unfolding inertNumber isSystem keepsRule sumAbs placeIn
+  answer-is = q ∙ formula-is 20 n1 (1000000 - n1) 0 refl (omega arith) (omega arith)
 
   pub inert-ok : (x : ℤ) → p ≡ Number x → (toZ w64 (ofZ w64 x) ≡ inertNumber n1) × (natAbs (toZ w64 (ofZ w64 x)) ≤ LARGEST)
   inert-ok x u =

@@ -116,7 +116,7 @@ fn inert_number(n1: u32) -> i64
     requires { ⌜ n1 ≤ 1000000 ⌝ }
     ensures { λ r. ⌜ (r ≡ inertNumber n1) × (natAbs r ≤ LARGEST) ⌝ }
 {
-    let p = ternary::partial_number(INERT, n1, MILLION - n1, 0);
+    let p = ternary::formula_number(INERT, n1, MILLION - n1, 0);
     match p {
         ternary::Partial::Number(x) => x,
         ternary::Partial::Refused(_) => 0,

@@ -6,7 +6,7 @@ use mathlib.Core.List.{List, [], _∷_}
 use Prim.Native.Nat.{ℕ}
 use Prim.Native.String.{String}
 use lib.ListN.{take}
-use Rattle.refusal.specs.Keys.{distinct, rising}
+use Rattle.refusal.specs.Keys.{allIn, distinct, rising}
 
 abbrev pub TORN : ℕ
 TORN = 1
@@ -50,9 +50,12 @@ NO_SYSTEM = 13
 abbrev pub SHORT_BLANK : ℕ
 SHORT_BLANK = 14
 
+abbrev pub SHARE : ℕ
+SHARE = 17
+
 -- what a refusal is tested of: 1 of the whole sheet, first; 2 to 4 record by record; then 5 and 6 of an analysis; then
--- 7 to 10 of a proposed split, or 11 of the search. Of a partial number 13 comes before 12, and the writer tests its
--- buffer after the analysis.
+-- 7 to 10 of a proposed split, or 11 of the search. Of a partial number 13 comes first, then 12, then 17; the writer tests
+-- its buffer after the analysis.
 pub data Tested : Type 0 where
   wholeSheet : Tested
   componentRecord : Tested
@@ -87,6 +90,7 @@ register =
     entry NO_MIXTURE "no mixture" partialNumber ∷
     entry NO_SYSTEM "no system" partialNumber ∷
     entry SHORT_BLANK "short blank" writersBuffer ∷
+    entry SHARE "share" partialNumber ∷
     []
 
 abbrev pub numbersOf : List Entry → List ℕ
@@ -104,3 +108,7 @@ numbers-rise = refl
 -- the first fourteen are document 01's for ever: a request adds to them
 pub numbers-kept : take 14 (numbersOf register) ≡ 1 ∷ 2 ∷ 3 ∷ 4 ∷ 5 ∷ 6 ∷ 7 ∷ 8 ∷ 9 ∷ 10 ∷ 11 ∷ 12 ∷ 13 ∷ 14 ∷ []
 numbers-kept = refl
+
+-- and so do those that requests have added
+pub requests-kept : allIn (17 ∷ []) (numbersOf register) ≡ true
+requests-kept = refl

@@ -28,3 +28,5 @@ pub const NO_MIXTURE: u32 = 12;
 pub const NO_SYSTEM: u32 = 13;
 
 pub const SHORT_BLANK: u32 = 14;
+
+pub const SHARE: u32 = 17;

@@ -16,11 +16,11 @@ use lib.Seq.{getD-set-same, getD-set-other, ext-getD}
 use borrow.Author.Tests.{ltb-true, ltb-false, lt-ltb, le-leb, lt-leb, leb-true}
 use borrow.Author.Count.{below-more}
 use Rattle.formula.specs.Partial.{partialNumber, partial-small}
-use Rattle.ternary.specs.Answer.{isIn, isSystem, isMixture, mixture-yes, partialOf, partial-is, partial-12}
+use Rattle.ternary.specs.Answer.{isMixture, mixture-yes, formulaOf, formula-is, formula-12}
 use Rattle.ternary.specs.declared.Partial.{Partial}
 use Rattle.ternary.specs.declared.Partial.the-variants.{Number, Refused}
 use Rattle.systems.specs.Systems.{candidates, elem, memberOf, Candidate}
-use Rattle.systems.specs.Table.{each-candidate, to-true}
+use Rattle.split.specs.Candidates.{known-system}
 use Rattle.split.specs.Fold.{allTo}
 use Rattle.split.specs.Folds.{all-each, all-of}
 use Rattle.split.specs.Split.{SYSTEMS, cellOf, systemOf, partsOf, numberAt, both, Stock, Sound}
@@ -90,10 +90,6 @@ module _ {A : Type 0} (d : A) (k : ℕ) (f : ℕ → A) where
 
 -- ---- a row's answer
 
-known-system : (system : ℕ) → elem system candidates ≡ true → isSystem system ≡ true
-unfolding isIn
-known-system system h = to-true (isSystem system) (each-candidate isSystem tt system (record { listed = h }))
-
 module _ (system : ℕ) (a : List ℕ) (s : ℕ) where
   abbrev n1 : ℕ
   n1 = cellOf a s (memberOf system 0)
@@ -108,11 +104,11 @@ module _ (system : ℕ) (a : List ℕ) (s : ℕ) where
   unfolding answerIn
   no-candidate e = sym (rw (e, answerIn))
 
-  pub candidate-answer : elem system candidates ≡ true → partialOf system n1 n2 n3 ≡ answerIn system a s
+  pub candidate-answer : elem system candidates ≡ true → formulaOf system n1 n2 n3 ≡ answerIn system a s
   unfolding answerIn
   candidate-answer e = sym (rw (e, answerIn))
 
-  pub answer-is : (w x y z : ℕ) → w ≡ system → x ≡ n1 → y ≡ n2 → z ≡ n3 → elem system candidates ≡ true → partialOf w x y z ≡ answerIn system a s
+  pub answer-is : (w x y z : ℕ) → w ≡ system → x ≡ n1 → y ≡ n2 → z ≡ n3 → elem system candidates ≡ true → formulaOf w x y z ≡ answerIn system a s
   answer-is w x y z o p q r e = rw (o, p, q, r) (candidate-answer e)
 
   mixture-of : (d : ℕ) → isMixture d ≡ true → (0 < d) × (d ≤ 1000000)
@@ -141,10 +137,10 @@ module _ (system : ℕ) (a : List ℕ) (s : ℕ) where
         go : (b m : Bool) → elem system candidates ≡ b → isMixture (n1 + n2 + n3) ≡ m → Worked x
         go true true e f =
             let g = mixture-of (n1 + n2 + n3) f in
-            let t : p ≡ Number (partialNumber system n1 n2 n3) = q ∙ sym (candidate-answer e) ∙ partial-is system n1 n2 n3 (known-system system e) (g .0) (g .1) in
+            let t : p ≡ Number (partialNumber system n1 n2 n3) = q ∙ sym (candidate-answer e) ∙ formula-is system n1 n2 n3 (known-system system (record { listed = e })) (g .0) (g .1) in
             record { listed = e; mixture = f; some = g .0; few = g .1; value = cc }
         go true false e f =
-            let t : p ≡ Refused 12 = q ∙ sym (candidate-answer e) ∙ partial-12 system n1 n2 n3 (known-system system e) f in
+            let t : p ≡ Refused 12 = q ∙ sym (candidate-answer e) ∙ formula-12 system n1 n2 n3 (known-system system (record { listed = e })) f in
             absurd (let z : _≡_ {A = ℕ} 0 1 = cc in omega arith)
         go false m e f =
             let t : p ≡ Refused 13 = q ∙ sym (no-candidate e) in
@@ -157,7 +153,7 @@ module _ (system : ℕ) (a : List ℕ) (s : ℕ) where
         go : (b m : Bool) → elem system candidates ≡ b → isMixture (n1 + n2 + n3) ≡ m → both (elem system candidates) (isMixture (n1 + n2 + n3)) ≡ false
         go true true e f =
             let g = mixture-of (n1 + n2 + n3) f in
-            let t : p ≡ Number (partialNumber system n1 n2 n3) = q ∙ sym (candidate-answer e) ∙ partial-is system n1 n2 n3 (known-system system e) (g .0) (g .1) in
+            let t : p ≡ Number (partialNumber system n1 n2 n3) = q ∙ sym (candidate-answer e) ∙ formula-is system n1 n2 n3 (known-system system (record { listed = e })) (g .0) (g .1) in
             absurd (let z : _≡_ {A = ℕ} 0 1 = cc in omega arith)
         go true false e f = rw (e, f)
         go false m e f = rw e

@@ -7,7 +7,7 @@ use lib.IntN.{ℤ, pos, natAbs}
 use lib.ListN.{getD, replicate}
 use Rattle.refusal.specs.Register.{NO_SYSTEM}
 use Rattle.formula.specs.WorkingRule.{LARGEST}
-use Rattle.ternary.specs.Answer.{isMixture, partialOf}
+use Rattle.ternary.specs.Answer.{isMixture, formulaOf}
 use Rattle.ternary.specs.declared.Partial.{Partial}
 use Rattle.ternary.specs.declared.Partial.the-variants.{Refused}
 use Rattle.systems.specs.Systems.{candidates, elem, memberOf}
@@ -27,7 +27,7 @@ partsIn system a s = cellOf a s (memberOf system 0) + cellOf a s (memberOf syste
 unfoldable pub answerIn : ℕ → List ℕ → ℕ → Partial
 answerIn system a s =
     elim (elem system candidates) [
-      | true ↦ partialOf system (cellOf a s (memberOf system 0)) (cellOf a s (memberOf system 1)) (cellOf a s (memberOf system 2))
+      | true ↦ formulaOf system (cellOf a s (memberOf system 0)) (cellOf a s (memberOf system 1)) (cellOf a s (memberOf system 2))
       | false ↦ Refused NO_SYSTEM
     ]
 

@@ -49,7 +49,7 @@ fn answer(system: u8, a: &[u32; CELLS], s: usize) -> Partial
     if !is_candidate(system) {
         return Partial::Refused(NO_SYSTEM);
     }
-    ternary::partial_number(
+    ternary::formula_number(
         wide(system),
         amount(system, a, s, 0),
         amount(system, a, s, 1),

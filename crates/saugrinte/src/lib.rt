@@ -29,8 +29,8 @@ use sheet::Written;
 use split::Answer;
 use ternary::Partial;
 
-// The version, 1.0.0: 10000, 100 and 1 times its three figures.
-const VERSION: u32 = 10000;
+// The version, 1.1.0: 10000, 100 and 1 times its three figures.
+const VERSION: u32 = 10100;
 
 // Rating, spread and rounds.
 const FIGURES: usize = 3;

@@ -10,23 +10,20 @@ use mir.Val.{Fits, toZ, ofZ}
 use borrow.Author.Tests.{ltb-true}
 use Rattle.formula.specs.WorkingRule.{LARGEST}
 use Rattle.formula.specs.Partial.{partialNumber, partial-small}
-use Rattle.ternary.specs.Answer.{isIn, isSystem, partialOf, partial-is}
+use Rattle.ternary.specs.Answer.{formulaOf, formula-is}
 use Rattle.ternary.specs.declared.Partial.{Partial}
 use Rattle.ternary.specs.declared.Partial.the-variants.{Number, Refused}
 use Rattle.systems.specs.Systems.{Candidate}
 use Rattle.systems.specs.Table.{each-candidate, to-true}
+use Rattle.split.specs.Candidates.{known-system}
 use Rattle.integer.specs.Bits.{back}
-
-known-system : (system : ℕ) → Candidate system → isSystem system ≡ true
-unfolding isIn
-known-system system h = to-true (isSystem system) (each-candidate isSystem tt system h)
 
 pub system-fits : (system : ℕ) → Candidate system → Fits w32 system
 system-fits system h = record { fits = omega (arith, ltb-true system 256 (to-true (ltb system 256) (each-candidate (λ s. ltb s 256) tt system h))) }
 
-module _ (system w n1 n2 n3 : ℕ) (p : Partial) (e : w ≡ system) (q : p ≡ partialOf w n1 n2 n3) (h : Candidate system) (some : 1 ≤ n1 + n2 + n3) (few : n1 + n2 + n3 ≤ 1000000) where
+module _ (system w n1 n2 n3 : ℕ) (p : Partial) (e : w ≡ system) (q : p ≡ formulaOf w n1 n2 n3) (h : Candidate system) (some : 1 ≤ n1 + n2 + n3) (few : n1 + n2 + n3 ≤ 1000000) where
   answer-is : p ≡ Number (partialNumber system n1 n2 n3)
-  answer-is = q ∙ ap (λ u. partialOf u n1 n2 n3) e ∙ partial-is system n1 n2 n3 (known-system system h) some few
+  answer-is = q ∙ ap (λ u. formulaOf u n1 n2 n3) e ∙ formula-is system n1 n2 n3 (known-system system h) some few
 
   pub number-ok : (x : ℤ) → p ≡ Number x → (toZ w64 (ofZ w64 x) ≡ partialNumber system n1 n2 n3) × (natAbs (toZ w64 (ofZ w64 x)) ≤ LARGEST)
   number-ok x u =

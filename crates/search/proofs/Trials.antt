@@ -14,7 +14,7 @@ use borrow.Author.Tests.{eqb-true, eqb-false, eq-eqb, ne-eqb}
 use Rattle.formula.specs.WorkingRule.{LARGEST}
 use Rattle.systems.specs.Systems.{memberOf}
 use Rattle.formula.specs.Partial.{partialNumber}
-use Rattle.ternary.specs.Answer.{partialOf}
+use Rattle.ternary.specs.Answer.{formulaOf}
 use Rattle.ternary.specs.declared.Partial.{Partial}
 use Rattle.ternary.specs.declared.Partial.the-variants.{Number, Refused}
 use Rattle.split.specs.Split.{SYSTEMS, cellOf, systemOf, partsOf, numberAt, Sound}
@@ -45,7 +45,7 @@ module _ (a : List ℕ) (system s c n j e : ℕ) (p : e ≡ memberOf system j) w
 
 -- and the number of three such amounts
 module _ (ch a : List ℕ) (s c n x y z : ℕ) (p : x ≡ insteadOf a s c n (memberOf (systemOf ch s) 0)) (q : y ≡ insteadOf a s c n (memberOf (systemOf ch s) 1))
-    (r : z ≡ insteadOf a s c n (memberOf (systemOf ch s) 2)) (w : Workable ch a s c n) (u : Partial) (e : u ≡ partialOf (systemOf ch s) x y z) where
+    (r : z ≡ insteadOf a s c n (memberOf (systemOf ch s) 2)) (w : Workable ch a s c n) (u : Partial) (e : u ≡ formulaOf (systemOf ch s) x y z) where
   picked : partialNumber (systemOf ch s) x y z ≡ numberWith ch a s c n
   unfolding numberWith
   picked = rw (p, q, r)

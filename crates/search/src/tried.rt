@@ -37,7 +37,7 @@ fn number_with(ch: &[u8; SYSTEMS], a: &[u32; CELLS], s: usize, c: usize, n: u32)
     ensures { λ r. ⌜ (r ≡ numberWith (now (ch .entry)) (now (a .entry)) s c n) × (natAbs r ≤ LARGEST) ⌝ }
 {
     let system = ch[s];
-    let p = ternary::partial_number(
+    let p = ternary::formula_number(
         system as u32,
         instead(a, system, s, c, n, 0),
         instead(a, system, s, c, n, 1),

@@ -6,14 +6,20 @@ use native.Mathlib.Omega.{arith}
 use lib.Dec.{T, ltb}
 use borrow.Author.Tests.{ltb-true, ltb-false}
 use Rattle.refusal.specs.Keys.{allIn}
-use Rattle.formula.specs.Coefficients.{systems}
-use Rattle.systems.specs.Systems.{COMPONENTS, candidates, memberOf, elem}
+use Rattle.formula.specs.WorkingRule.{sumAbs}
+use Rattle.formula.specs.Coefficients.{placeIn, keepsRule, isSystem, kept, systems}
+use Rattle.systems.specs.Systems.{COMPONENTS, candidates, memberOf, elem, Candidate}
 use Rattle.systems.specs.Members.{candidate-le, member-none}
-use Rattle.systems.specs.Table.{eachTo}
+use Rattle.systems.specs.Table.{eachTo, each-candidate, to-true}
 
 -- each candidate is one of the systems
 pub candidates-among : allIn candidates systems ≡ true
+unfolding kept isSystem keepsRule sumAbs placeIn
 candidates-among = refl
+
+pub known-system : (system : ℕ) → Candidate system → isSystem system ≡ true
+unfolding isSystem keepsRule sumAbs placeIn
+known-system system h = to-true (isSystem system) (each-candidate isSystem tt system h)
 
 abbrev same : Bool → Bool → Bool
 same true y = y

@@ -3,8 +3,8 @@ use mathlib.Core.Path.{_≡_, refl}
 use mathlib.Core.List.{List, [], _∷_}
 use Prim.Native.Nat.{ℕ}
 use lib.IntN.{pos, negsuc}
-use Rattle.formula.specs.WorkingRule.{worked, rowsOf, horner, coefs}
-use Rattle.formula.specs.Coefficients.{placeIn}
+use Rattle.formula.specs.WorkingRule.{worked, rowsOf, horner, coefs, sumAbs}
+use Rattle.formula.specs.Coefficients.{placeIn, keepsRule, isSystem, tableOf}
 use Rattle.formula.specs.Partial.{partialNumber}
 use Rattle.systems.specs.Systems.{memberOf, hasOf}
 use Rattle.split.specs.Fold.{sumTo, sumToZ, greatestTo, leastTo, allTo, someTo, table}
@@ -26,5 +26,5 @@ unfolding squareOf
 cut = (refl, refl, refl)
 
 pub example : proposedOf 500000 chosen 3 (979229 ∷ 16803 ∷ 2438 ∷ 1530 ∷ []) (cellsOf chosen 3 amounts) 999468 ≡ Rated (pos 910787384) 369794 0
-unfolding worked rowsOf horner coefs placeIn partialNumber memberOf hasOf sumTo sumToZ greatestTo leastTo allTo someTo table partsOf columnOf numberAt heldOf rankOf cellsOf spreadOf weightedOf meanOf inertNumber ratingOf resums someEmpty proposedOf
+unfolding worked rowsOf horner coefs sumAbs placeIn keepsRule isSystem tableOf partialNumber memberOf hasOf sumTo sumToZ greatestTo leastTo allTo someTo table partsOf columnOf numberAt heldOf rankOf cellsOf spreadOf weightedOf meanOf inertNumber ratingOf resums someEmpty proposedOf
 example = refl

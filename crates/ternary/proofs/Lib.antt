@@ -2,6 +2,6 @@ pub mod Bits
 pub mod Combine
 pub mod Estimate
 pub mod Rows
+pub mod Shares
 pub mod Signs
-pub mod Systems
 pub mod Tables

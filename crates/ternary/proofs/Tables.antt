@@ -6,22 +6,20 @@ use Prim.Native.Nat.{ℕ, _+_, _-_, _≤_, _<_}
 use native.Mathlib.Omega.{arith}
 use lib.IntN.{ℤ}
 use Rattle.formula.specs.WorkingRule.{worked, rowsOf}
-use Rattle.formula.specs.Coefficients.{systems, placeIn, coeffOf}
+use Rattle.formula.specs.Coefficients.{isSystem, tableOf, coeffOf}
 use Rattle.formula.specs.Bound.{small}
 use Rattle.ternary.specs.Table.{inTable, Bounded}
 use Rattle.formula.specs.Partial.{partialNumber}
-use Rattle.ternary.specs.Answer.{isSystem, tableOf, isMixture, refusalOf, partialOf, partial-refusal, partial-is, partial-12}
+use Rattle.ternary.specs.Answer.{isMixture, refusalOf, formulaOf, formula-refusal, formula-is, formula-12}
 use Rattle.ternary.specs.PartialCases.{numberOf}
 use Rattle.ternary.specs.declared.Partial.{Partial}
 use Rattle.ternary.specs.declared.Partial.the-variants.{Number, Refused}
 
 pub small-table : (s : ℕ) (t : List ℤ) → t ≡ tableOf s → Bounded t
-unfolding tableOf
-small-table s t e = subst⁻¹ Bounded e (record { sum = small (placeIn systems s) })
+small-table s t e = subst⁻¹ Bounded e (record { sum = small s })
 
 -- a result for a table and ratios that are those of a system, n1, n2 and d
 pub number-is : (s n1 n2 d n1′ n2′ d′ : ℕ) (t : List ℤ) → t ≡ tableOf s → n1′ ≡ n1 → n2′ ≡ n2 → d′ ≡ d → worked n1′ n2′ d′ (rowsOf (inTable t)) ≡ worked n1 n2 d (rowsOf (coeffOf s))
-unfolding tableOf
 number-is s n1 n2 d n1′ n2′ d′ t h e f g =
     ap (λ (x : ℕ). worked x n2′ d′ (rowsOf (inTable t))) e
     ∙ ap (λ (x : ℕ). worked n1 x d′ (rowsOf (inTable t))) f
@@ -34,22 +32,22 @@ module _ (s n1 n2 d : ℕ) (known : isSystem s ≡ true) (h : n1 + n2 ≤ d) whe
   whole : n1 + n2 + (d - n1 - n2) ≡ d
   whole = omega arith
 
-  pub sum-refused : isMixture d ≡ false → Refused 12 ≡ partialOf s n1 n2 (d - n1 - n2)
-  sum-refused k = sym (partial-12 s n1 n2 (d - n1 - n2) known (ap isMixture whole ∙ k))
+  pub sum-refused : isMixture d ≡ false → Refused 12 ≡ formulaOf s n1 n2 (d - n1 - n2)
+  sum-refused k = sym (formula-12 s n1 n2 (d - n1 - n2) known (ap isMixture whole ∙ k))
 
-  pub sum-number : (z : ℤ) → z ≡ worked n1 n2 d (rowsOf (coeffOf s)) → 0 < d → d ≤ 1000000 → Number z ≡ partialOf s n1 n2 (d - n1 - n2)
+  pub sum-number : (z : ℤ) → z ≡ worked n1 n2 d (rowsOf (coeffOf s)) → 0 < d → d ≤ 1000000 → Number z ≡ formulaOf s n1 n2 (d - n1 - n2)
   unfolding partialNumber
   sum-number z e k l =
       ap Number (e ∙ ap (λ (x : ℕ). worked n1 n2 x (rowsOf (coeffOf s))) (sym whole))
-      ∙ sym (partial-is s n1 n2 (d - n1 - n2) known (omega (arith, whole)) (omega (arith, whole)))
+      ∙ sym (formula-is s n1 n2 (d - n1 - n2) known (omega (arith, whole)) (omega (arith, whole)))
 
 -- an answer that is so has this number
-pub with-number : (s n1 n2 n3 : ℕ) (r : Partial) → r ≡ partialOf s n1 n2 n3 → (r ≡ partialOf s n1 n2 n3) × (numberOf r ≡ refusalOf s (n1 + n2 + n3))
-with-number s n1 n2 n3 r e = (e, ap numberOf e ∙ partial-refusal s n1 n2 n3)
+pub with-number : (s n1 n2 n3 : ℕ) (r : Partial) → r ≡ formulaOf s n1 n2 n3 → (r ≡ formulaOf s n1 n2 n3) × (numberOf r ≡ refusalOf s (n1 + n2 + n3))
+with-number s n1 n2 n3 r e = (e, ap numberOf e ∙ formula-refusal s n1 n2 n3)
 
 -- and from there to the three amounts
-pub sum-of : (s n1 n2 n3 : ℕ) → partialOf s n1 n2 (n1 + n2 + n3 - n1 - n2) ≡ partialOf s n1 n2 n3
-sum-of s n1 n2 n3 = ap (partialOf s n1 n2) third
+pub sum-of : (s n1 n2 n3 : ℕ) → formulaOf s n1 n2 (n1 + n2 + n3 - n1 - n2) ≡ formulaOf s n1 n2 n3
+sum-of s n1 n2 n3 = ap (formulaOf s n1 n2) third
   where
     third : n1 + n2 + n3 - n1 - n2 ≡ n3
     third = omega arith

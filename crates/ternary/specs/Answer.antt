@@ -1,48 +1,55 @@
--- The answer to a partial number by cases (document 01, "What is turned away"): 13 before 12, else the number as worked out. Assumes nothing.
+-- The answer to a partial number by cases (document 01, "What is turned away"; document 02, Six): 13, then 12, then 17, else
+-- the number as worked out; and the answer of the formula alone, which tests no range. Assumes nothing.
 use mathlib.Core.Path.{_≡_, refl, subst, subst⁻¹}
 use mathlib.Core.Bool.{Bool, true, false, cond}
-use mathlib.Core.List.{List, [], _∷_}
 use Prim.Native.Nat.{ℕ, _+_, _≤_, _<_}
 use native.Mathlib.Nat as N
-use lib.Dec.{T, eqb, ltb, leb, lt→ltb, le→leb, leb→le}
+use lib.Dec.{T, ltb, leb, lt→ltb, le→leb, leb→le}
 use lib.IntN.{ℤ}
-use lib.ListN.{getD}
-use Rattle.refusal.specs.Register.{NO_MIXTURE, NO_SYSTEM}
+use Rattle.refusal.specs.Register.{NO_MIXTURE, NO_SYSTEM, SHARE}
 use Rattle.ternary.specs.declared.Partial.{Partial}
 use Rattle.ternary.specs.declared.Partial.the-variants.{Number, Refused}
 use Rattle.ternary.specs.PartialCases.{numberOf}
-use Rattle.formula.specs.Coefficients.{tables, systems, placeIn}
+use Rattle.formula.specs.Coefficients.{isSystem}
+use Rattle.formula.specs.Ranges.{inRange}
 use Rattle.formula.specs.Partial.{partialNumber}
-
--- whether a number is in a list
-unfoldable pub isIn : List ℕ → ℕ → Bool
-isIn [] n = false
-isIn (m ∷ ms) n = elim (eqb n m) [ true ↦ true | false ↦ isIn ms n ]
-
--- whether there is a system of that number
-abbrev pub isSystem : ℕ → Bool
-isSystem system = isIn systems system
-
--- the list of a system's coefficients
-unfoldable pub tableOf : ℕ → List ℤ
-tableOf system = getD tables (placeIn systems system) []
 
 -- the amounts of a mixture add up to 1 to 1000000 parts
 abbrev pub isMixture : ℕ → Bool
 isMixture d = elim (ltb 0 d) [ true ↦ leb d 1000000 | false ↦ false ]
+
+-- ---- the formula's number, at any shares: what ratings are made of
 
 -- the number of the refusal: 13, no such system; 12, the sum d is no mixture's; else 0
 abbrev pub refusalOf : ℕ → ℕ → ℕ
 refusalOf system d = cond (isSystem system) (cond (isMixture d) 0 NO_MIXTURE) NO_SYSTEM
 
 -- 13: no such system; 12: no mixture; else the number
-unfoldable pub partialOf : ℕ → ℕ → ℕ → ℕ → Partial
-partialOf system n1 n2 n3 =
+unfoldable pub formulaOf : ℕ → ℕ → ℕ → ℕ → Partial
+formulaOf system n1 n2 n3 =
     cond (isSystem system)
     (cond (isMixture (n1 + n2 + n3)) (Number (partialNumber system n1 n2 n3)) (Refused NO_MIXTURE))
     (Refused NO_SYSTEM)
 
--- ---- each case
+-- ---- the partial number of a single system, within its ranges
+
+-- 13: no such system; 12: no mixture; 17: a share outside the system's ranges; else 0
+abbrev pub rangedRefusalOf : ℕ → ℕ → ℕ → ℕ → ℕ
+rangedRefusalOf system n1 n2 n3 =
+    cond (isSystem system)
+    (cond (isMixture (n1 + n2 + n3)) (cond (inRange system n1 n2 n3) 0 SHARE) NO_MIXTURE)
+    NO_SYSTEM
+
+-- 13, 12, 17, else the number
+unfoldable pub partialOf : ℕ → ℕ → ℕ → ℕ → Partial
+partialOf system n1 n2 n3 =
+    cond (isSystem system)
+    (cond (isMixture (n1 + n2 + n3))
+    (cond (inRange system n1 n2 n3) (Number (partialNumber system n1 n2 n3)) (Refused SHARE))
+    (Refused NO_MIXTURE))
+    (Refused NO_SYSTEM)
+
+-- ---- each case of the formula's number
 
 numbered : (b m : Bool) (n : ℤ)
     → numberOf (cond b (cond m (Number n) (Refused 12)) (Refused 13)) ≡ cond b (cond m 0 12) 13
@@ -85,21 +92,65 @@ mixture-above d h = beyond (ltb 0 d) (leb d 1000000) (λ t. N.not-le-of-lt h (le
 
 module _ (system n1 n2 n3 : ℕ) where
   -- the answer's number
-  pub partial-refusal : numberOf (partialOf system n1 n2 n3) ≡ refusalOf system (n1 + n2 + n3)
-  unfolding partialOf
-  partial-refusal = numbered (isSystem system) (isMixture (n1 + n2 + n3)) (partialNumber system n1 n2 n3)
+  pub formula-refusal : numberOf (formulaOf system n1 n2 n3) ≡ refusalOf system (n1 + n2 + n3)
+  unfolding formulaOf
+  formula-refusal = numbered (isSystem system) (isMixture (n1 + n2 + n3)) (partialNumber system n1 n2 n3)
 
   -- no system of that number: 13, whatever the amounts are
-  pub partial-13 : isSystem system ≡ false → partialOf system n1 n2 n3 ≡ Refused 13
-  unfolding partialOf
-  partial-13 h = refused-13 (isSystem system) (isMixture (n1 + n2 + n3)) (Number (partialNumber system n1 n2 n3)) h
+  pub formula-13 : isSystem system ≡ false → formulaOf system n1 n2 n3 ≡ Refused 13
+  unfolding formulaOf
+  formula-13 h = refused-13 (isSystem system) (isMixture (n1 + n2 + n3)) (Number (partialNumber system n1 n2 n3)) h
 
   -- a known system and a mixture: the number as worked out
-  pub partial-is : isSystem system ≡ true → 0 < n1 + n2 + n3 → n1 + n2 + n3 ≤ 1000000 → partialOf system n1 n2 n3 ≡ Number (partialNumber system n1 n2 n3)
-  unfolding partialOf
-  partial-is h k l = answered (isSystem system) (isMixture (n1 + n2 + n3)) (Number (partialNumber system n1 n2 n3)) h (mixture-yes (n1 + n2 + n3) k l)
+  pub formula-is : isSystem system ≡ true → 0 < n1 + n2 + n3 → n1 + n2 + n3 ≤ 1000000
+      → formulaOf system n1 n2 n3 ≡ Number (partialNumber system n1 n2 n3)
+  unfolding formulaOf
+  formula-is h k l =
+      answered (isSystem system) (isMixture (n1 + n2 + n3)) (Number (partialNumber system n1 n2 n3)) h
+      (mixture-yes (n1 + n2 + n3) k l)
 
   -- a known system and no mixture: 12
-  pub partial-12 : isSystem system ≡ true → isMixture (n1 + n2 + n3) ≡ false → partialOf system n1 n2 n3 ≡ Refused 12
+  pub formula-12 : isSystem system ≡ true → isMixture (n1 + n2 + n3) ≡ false → formulaOf system n1 n2 n3 ≡ Refused 12
+  unfolding formulaOf
+  formula-12 h k = refused-12 (isSystem system) (isMixture (n1 + n2 + n3)) (Number (partialNumber system n1 n2 n3)) h k
+
+-- ---- each case of the partial number within its ranges
+
+ranged : (b m r : Bool) (n : ℤ)
+    → numberOf (cond b (cond m (cond r (Number n) (Refused 17)) (Refused 12)) (Refused 13)) ≡ cond b (cond m (cond r 0 17) 12) 13
+ranged true true true n = refl
+ranged true true false n = refl
+ranged true false r n = refl
+ranged false m r n = refl
+
+inside : (b m r : Bool) (p : Partial) → r ≡ true
+    → cond b (cond m p (Refused 12)) (Refused 13) ≡ cond b (cond m (cond r p (Refused 17)) (Refused 12)) (Refused 13)
+inside b m true p h = refl
+inside b m false p h = absurd (subst⁻¹ T h tt)
+
+outside : (b m r : Bool) (p : Partial) → r ≡ false
+    → Refused (cond b (cond m 17 12) 13) ≡ cond b (cond m (cond r p (Refused 17)) (Refused 12)) (Refused 13)
+outside b m true p h = absurd (subst T h tt)
+outside true true false p h = refl
+outside true false false p h = refl
+outside false m false p h = refl
+
+module _ (system n1 n2 n3 : ℕ) where
+  -- the answer's number
+  pub partial-refusal : numberOf (partialOf system n1 n2 n3) ≡ rangedRefusalOf system n1 n2 n3
   unfolding partialOf
-  partial-12 h k = refused-12 (isSystem system) (isMixture (n1 + n2 + n3)) (Number (partialNumber system n1 n2 n3)) h k
+  partial-refusal =
+      ranged (isSystem system) (isMixture (n1 + n2 + n3)) (inRange system n1 n2 n3) (partialNumber system n1 n2 n3)
+
+  -- within the ranges: the formula's answer
+  pub partial-inside : inRange system n1 n2 n3 ≡ true → formulaOf system n1 n2 n3 ≡ partialOf system n1 n2 n3
+  unfolding formulaOf partialOf
+  partial-inside h =
+      inside (isSystem system) (isMixture (n1 + n2 + n3)) (inRange system n1 n2 n3) (Number (partialNumber system n1 n2 n3)) h
+
+  -- outside: 17, if neither 13 nor 12
+  pub partial-outside : inRange system n1 n2 n3 ≡ false
+      → Refused (cond (isSystem system) (cond (isMixture (n1 + n2 + n3)) SHARE NO_MIXTURE) NO_SYSTEM) ≡ partialOf system n1 n2 n3
+  unfolding partialOf
+  partial-outside h =
+      outside (isSystem system) (isMixture (n1 + n2 + n3)) (inRange system n1 n2 n3) (Number (partialNumber system n1 n2 n3)) h

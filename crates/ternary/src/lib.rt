@@ -2,17 +2,21 @@
 //
 // A part is 0.0001 % by volume, a unit 0.0000001 of a methane number: document 01's own terms.
 // No public function has a `requires`.
-mod coefficients;
 mod ratio;
 mod rule;
 
 ghost use mathlib.Core.Path.{_≡_};
-ghost use mathlib.Core.Bool.{true};
+ghost use mathlib.Core.Bool.{true, cond};
 ghost use Prim.Native.Nat.{_+_, _-_, _≤_};
+ghost use Rattle.refusal.specs.Register.{NO_MIXTURE, NO_SYSTEM, SHARE};
+ghost use Rattle.formula.specs.Coefficients.{isSystem};
+ghost use Rattle.formula.specs.Ranges.{shareIn, inRange};
 ghost use Rattle.ternary.specs.PartialCases.{numberOf};
-ghost use Rattle.ternary.specs.Answer.{isSystem, refusalOf, partialOf};
+ghost use Rattle.ternary.specs.Answer.{isMixture, refusalOf, formulaOf, rangedRefusalOf, partialOf};
+use coefficients::is_system;
 use refusal::NO_MIXTURE;
 use refusal::NO_SYSTEM;
+use refusal::SHARE;
 
 // The largest sum of amounts, in parts.
 const LIMIT: u64 = 1000000;
@@ -23,22 +27,71 @@ pub enum Partial {
     Refused(u32),
 }
 
-// The partial number of a system at three amounts, worked out by the rule. Refused 13: no system of that number.
-// Refused 12: the amounts add up to 0 or to more than 1000000.
+// The partial number of a system at three amounts within its ranges of validity. Refused 13: no system of that number.
+// Refused 12: the amounts add up to 0 or to more than 1000000. Refused 17: a share outside its range.
 pub fn partial_number(system: u32, n1: u32, n2: u32, n3: u32) -> Partial
     ensures { λ r. ⌜ r ≡ partialOf system n1 n2 n3 ⌝ }
+    ensures { λ r. ⌜ numberOf r ≡ rangedRefusalOf system n1 n2 n3 ⌝ }
+{
+    if in_range(system, n1, n2, n3) {
+        return formula_number(system, n1, n2, n3);
+    }
+    Partial::Refused(outside(system, n1 as u64 + n2 as u64 + n3 as u64))
+}
+
+// The number that a system's formula gives at three amounts, worked out by the rule, whatever their shares are. Refused 13
+// and 12 as above.
+pub fn formula_number(system: u32, n1: u32, n2: u32, n3: u32) -> Partial
+    ensures { λ r. ⌜ r ≡ formulaOf system n1 n2 n3 ⌝ }
     ensures { λ r. ⌜ numberOf r ≡ refusalOf system (n1 + n2 + n3) ⌝ }
 {
-    if coefficients::is_system(system) {
+    if is_system(system) {
         return of_sum(system, n1, n2, n1 as u64 + n2 as u64 + n3 as u64);
     }
     Partial::Refused(NO_SYSTEM)
 }
 
-// The partial number of one of the systems at n1, n2 and a third amount, of sum d.
+// Whether the shares of three amounts lie in a system's ranges of validity.
+pub fn in_range(system: u32, n1: u32, n2: u32, n3: u32) -> bool
+    ensures { λ r. ⌜ r ≡ inRange system n1 n2 n3 ⌝ }
+{
+    let r = coefficients::ranges_of(system);
+    let d = n1 as u64 + n2 as u64 + n3 as u64;
+    if !share_in(r[0], r[1], n1, d) {
+        return false;
+    }
+    if !share_in(r[2], r[3], n2, d) {
+        return false;
+    }
+    share_in(r[4], r[5], n3, d)
+}
+
+// Whether n / d lies between two percents.
+fn share_in(least: u8, greatest: u8, n: u32, d: u64) -> bool
+    requires { ⌜ d ≤ 12884901885 ⌝ }
+    ensures { λ r. ⌜ r ≡ shareIn least greatest n d ⌝ }
+{
+    let parts = 100 * n as u64;
+    least as u64 * d <= parts && parts <= greatest as u64 * d
+}
+
+// Why amounts of sum d whose shares lie outside the ranges have no partial number.
+fn outside(system: u32, d: u64) -> u32
+    ensures { λ r. ⌜ r ≡ cond (isSystem system) (cond (isMixture d) SHARE NO_MIXTURE) NO_SYSTEM ⌝ }
+{
+    if !is_system(system) {
+        return NO_SYSTEM;
+    }
+    if d == 0 || LIMIT < d {
+        return NO_MIXTURE;
+    }
+    SHARE
+}
+
+// The number of one of the systems at n1, n2 and a third amount, of sum d.
 fn of_sum(system: u32, n1: u32, n2: u32, d: u64) -> Partial
     requires { ⌜ (isSystem system ≡ true) × (n1 + n2 ≤ d) ⌝ }
-    ensures { λ r. ⌜ r ≡ partialOf system n1 n2 (d - n1 - n2) ⌝ }
+    ensures { λ r. ⌜ r ≡ formulaOf system n1 n2 (d - n1 - n2) ⌝ }
 {
     if d == 0 || LIMIT < d {
         return Partial::Refused(NO_MIXTURE);

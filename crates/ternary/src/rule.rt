@@ -2,24 +2,22 @@
 ghost use mathlib.Core.Path.{_≡_};
 ghost use Prim.Native.Nat.{_+_, _<_, _≤_};
 ghost use lib.IntN.{natAbs};
-ghost use mathlib.Core.Bool.{true};
-ghost use Rattle.ternary.specs.Answer.{isSystem};
 ghost use Rattle.formula.specs.Coefficients.{coeffOf};
 ghost use Rattle.formula.specs.WorkingRule.{stepZ, horner, coefs, worked, rowsOf, LARGEST};
 ghost use Rattle.ternary.specs.Precomputed.{Precomputed};
 ghost use Rattle.ternary.specs.Table.{inTable, Bounded};
-use super::coefficients::table;
 use super::ratio::ONE;
 use super::ratio::Ratio;
 use super::ratio::ratio_of;
 use super::ratio::step;
+use coefficients::of_system;
 
 // The number of a system at the amounts n1, n2 and others, of sum d. The inverse of d is its one division.
 pub(crate) fn number(system: u32, n1: u32, n2: u32, d: u64) -> i64
-    requires { ⌜ (isSystem system ≡ true) × (n1 ≤ d) × (n2 ≤ d) × (0 < d) × (d ≤ 1000000) ⌝ }
+    requires { ⌜ (n1 ≤ d) × (n2 ≤ d) × (0 < d) × (d ≤ 1000000) ⌝ }
     ensures { λ r. ⌜ r ≡ worked n1 n2 d (rowsOf (coeffOf system)) ⌝ }
 {
-    let t = table(system);
+    let t = of_system(system);
     let inverse = ONE / d;
     let v = ratio_of(n1, d, inverse);
     let w = ratio_of(n2, d, inverse);

@@ -4,11 +4,11 @@ use borrow.Author.Needs.{needs}
 use Rattle.proposal.proofs.inert_number.Statement.{statement}
 use Rattle.proposal.proofs.inert_number.Tie as tie
 
-sub-partial-number : tie.Need-sub-partial-number
-sub-partial-number c = search needs
+sub-formula-number : tie.Need-sub-formula-number
+sub-formula-number c = search needs
 
-partial-number-requires : tie.Need-partial-number-requires
-partial-number-requires c κs = search needs
+formula-number-requires : tie.Need-formula-number-requires
+formula-number-requires c κs = search needs
 
 enum-known-p : tie.Need-enum-known-p
 enum-known-p c = search needs
@@ -17,12 +17,12 @@ enum-told : tie.Need-enum-told
 enum-told c = search needs
 
 returns : tie.Need-returns
-returns c = inert-ok (c .before .before .before .before .args .n1) _ (c .before .before .before .partial-number .ensures .0) (c .before .before .before .before .pre) _ (c .before .p .given .1)
+returns c = inert-ok (c .before .before .before .before .args .n1) _ (c .before .before .before .formula-number .ensures .0) (c .before .before .before .before .pre) _ (c .before .p .given .1)
 
 returns-2 : tie.Need-returns-2
-returns-2 c = inert-never (c .before .before .before .args .n1) _ (c .before .before .partial-number .ensures .0) (c .before .before .before .pre) _ (c .enum-told .given .1)
+returns-2 c = inert-never (c .before .before .before .args .n1) _ (c .before .before .formula-number .ensures .0) (c .before .before .before .pre) _ (c .enum-told .given .1)
 
 pub inert-number-spec : {M : Type 1} → statement M
 inert-number-spec =
     tie.close
-    (tie.spec sub-partial-number partial-number-requires enum-known-p enum-told returns returns-2)
+    (tie.spec sub-formula-number formula-number-requires enum-known-p enum-told returns returns-2)

@@ -1,36 +1,47 @@
 -- `ternary::partial_number` meets its contract. Assumes nothing.
-use mathlib.Core.Path.{sym, _∙_}
-use native.Mathlib.Omega.{arith}
+use mathlib.Core.Path.{sym, ap, _∙_}
 use borrow.Author.Needs.{needs}
-use Rattle.ternary.specs.Answer.{partial-13}
-use Rattle.ternary.proofs.Tables.{sum-of, with-number}
+use Rattle.ternary.specs.declared.Partial.the-variants.{Refused}
+use Rattle.ternary.specs.Answer.{partial-inside, partial-outside}
+use Rattle.ternary.proofs.Shares.{with-ranged}
 use Rattle.ternary.proofs.partial_number.Statement.{statement}
 use Rattle.ternary.proofs.partial_number.Tie as tie
 
-is-system-requires : tie.Need-is-system-requires
-is-system-requires c κs = search needs
+in-range-requires : tie.Need-in-range-requires
+in-range-requires c κs = search needs
 
-add-of-sum : tie.Need-add-of-sum
-add-of-sum c = search needs
-
-add-of-sum-2 : tie.Need-add-of-sum-2
-add-of-sum-2 c = search needs
-
-of-sum-requires : tie.Need-of-sum-requires
-of-sum-requires c κs = (sym (c .before .is-system .ensures) ∙ c .if1 .taken, omega arith)
+formula-number-requires : tie.Need-formula-number-requires
+formula-number-requires c κs = search needs
 
 returns : tie.Need-returns
 returns c =
     let a = c .before .before .before .args in
-    with-number (a .system) (a .n1) (a .n2) (a .n3) _ (c .of-sum .ensures ∙ sum-of (a .system) (a .n1) (a .n2) (a .n3))
+    with-ranged (a .system) (a .n1) (a .n2) (a .n3) _
+    (c .formula-number .ensures .0 ∙ partial-inside (a .system) (a .n1) (a .n2) (a .n3) (sym (c .before .before .in-range .ensures) ∙ c .before .if1 .taken))
+
+add-outside : tie.Need-add-outside
+add-outside c = search needs
+
+add-outside-2 : tie.Need-add-outside-2
+add-outside-2 c = search needs
+
+outside-requires : tie.Need-outside-requires
+outside-requires c κs = search needs
 
 returns-2 : tie.Need-returns-2
 returns-2 c =
-    let a = c .before .before .args in
-    with-number (a .system) (a .n1) (a .n2) (a .n3) _
-    (sym (partial-13 (a .system) (a .n1) (a .n2) (a .n3) (sym (c .before .is-system .ensures) ∙ c .if1 .left)))
+    let a = c .before .before .before .args in
+    with-ranged (a .system) (a .n1) (a .n2) (a .n3) _
+    (ap Refused (c .outside .ensures) ∙ partial-outside (a .system) (a .n1) (a .n2) (a .n3) (sym (c .before .before .in-range .ensures) ∙ c .before .if1 .left))
 
 pub partial-number-spec : {M : Type 1} → statement M
 partial-number-spec =
     tie.close
-    (tie.spec is-system-requires add-of-sum add-of-sum-2 of-sum-requires returns returns-2)
+    (tie.spec
+    in-range-requires
+    formula-number-requires
+    returns
+    add-outside
+    add-outside-2
+    outside-requires
+    returns-2)

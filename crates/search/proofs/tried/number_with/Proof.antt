@@ -8,8 +8,8 @@ use Rattle.search.proofs.tried.number_with.Tie as tie
 element-copy-out-system : tie.Need-element-copy-out-system
 element-copy-out-system c = search needs
 
-cast-partial-number : tie.Need-cast-partial-number
-cast-partial-number c = system-fits _ (c .before .pre .known)
+cast-formula-number : tie.Need-cast-formula-number
+cast-formula-number c = system-fits _ (c .before .pre .known)
 
 instead-requires : tie.Need-instead-requires
 instead-requires c κs = search needs
@@ -20,8 +20,8 @@ instead-requires-2 c κs = search needs
 instead-requires-3 : tie.Need-instead-requires-3
 instead-requires-3 c κs = search needs
 
-partial-number-requires : tie.Need-partial-number-requires
-partial-number-requires c κs = search needs
+formula-number-requires : tie.Need-formula-number-requires
+formula-number-requires c κs = search needs
 
 enum-known-p : tie.Need-enum-known-p
 enum-known-p c = search needs
@@ -30,21 +30,21 @@ enum-told : tie.Need-enum-told
 enum-told c = search needs
 
 returns : tie.Need-returns
-returns c = with-ok _ _ _ _ _ _ _ _ (c .before .before .before .before .before .before .instead .ensures) (c .before .before .before .before .before .instead2 .ensures) (c .before .before .before .before .instead3 .ensures) (c .before .before .before .before .before .before .before .before .pre) _ (c .before .before .before .partial-number .ensures .0) _ (c .before .p .given .1)
+returns c = with-ok _ _ _ _ _ _ _ _ (c .before .before .before .before .before .before .instead .ensures) (c .before .before .before .before .before .instead2 .ensures) (c .before .before .before .before .instead3 .ensures) (c .before .before .before .before .before .before .before .before .pre) _ (c .before .before .before .formula-number .ensures .0) _ (c .before .p .given .1)
 
 returns-2 : tie.Need-returns-2
-returns-2 c = with-never _ _ _ _ _ _ _ _ (c .before .before .before .before .before .instead .ensures) (c .before .before .before .before .instead2 .ensures) (c .before .before .before .instead3 .ensures) (c .before .before .before .before .before .before .before .pre) _ (c .before .before .partial-number .ensures .0) _ (c .enum-told .given .1)
+returns-2 c = with-never _ _ _ _ _ _ _ _ (c .before .before .before .before .before .instead .ensures) (c .before .before .before .before .instead2 .ensures) (c .before .before .before .instead3 .ensures) (c .before .before .before .before .before .before .before .pre) _ (c .before .before .formula-number .ensures .0) _ (c .enum-told .given .1)
 
 pub number-with-spec : {M : Type 1} → statement M
 number-with-spec =
     tie.close
     (tie.spec
     element-copy-out-system
-    cast-partial-number
+    cast-formula-number
     instead-requires
     instead-requires-2
     instead-requires-3
-    partial-number-requires
+    formula-number-requires
     enum-known-p
     enum-told
     returns

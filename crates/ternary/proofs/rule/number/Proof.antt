@@ -6,8 +6,8 @@ use Rattle.ternary.proofs.Tables.{small-table, number-is}
 use Rattle.ternary.proofs.rule.number.Statement.{statement}
 use Rattle.ternary.proofs.rule.number.Tie as tie
 
-table-requires : tie.Need-table-requires
-table-requires c κs = search needs
+of-system-requires : tie.Need-of-system-requires
+of-system-requires c κs = search needs
 
 div-inverse : tie.Need-div-inverse
 div-inverse c = search needs
@@ -21,7 +21,7 @@ ratio-of-requires-2 c κs = search needs
 rows-requires : tie.Need-rows-requires
 rows-requires c κs =
     let a = c .before .before .before .before .args in
-    let t = c .before .before .before .table in
+    let t = c .before .before .before .of-system in
     let v = c .before .before .ratio-of in
     let w = c .before .ratio-of2 in (
       small-table (a .system) (t .result) (t .ensures),
@@ -33,7 +33,7 @@ rows-requires c κs =
 returns : tie.Need-returns
 returns c =
     let a = c .before .before .before .before .before .args in
-    let t = c .before .before .before .before .table in
+    let t = c .before .before .before .before .of-system in
     let v = c .before .before .before .ratio-of in
     let w = c .before .before .ratio-of2 in
     read-back (c .rows .result) (c .rows .ok) ∙ c .rows .ensures
@@ -41,4 +41,4 @@ returns c =
 
 pub number-spec : {M : Type 1} → statement M
 number-spec =
-    tie.close (tie.spec table-requires div-inverse ratio-of-requires ratio-of-requires-2 rows-requires returns)
+    tie.close (tie.spec of-system-requires div-inverse ratio-of-requires ratio-of-requires-2 rows-requires returns)

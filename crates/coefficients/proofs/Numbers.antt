@@ -1,0 +1,73 @@
+-- Functions of a number: a value that they have at numbers in a row, and numbers that a list has not. Assumes nothing.
+use mathlib.Core.Path.{_≡_, refl, sym, ap, _∙_, subst, subst⁻¹}
+use mathlib.Core.Bool.{Bool, true, false, cond, _&&_}
+use mathlib.Core.List.{List, [], _∷_}
+use Prim.{Unit}
+use Prim.Native.Nat.{ℕ, zero, suc, _+_, _≤_, _<_}
+use native.Mathlib.Omega.{arith}
+use lib.Ieee.Fits.{and-l, and-r}
+use lib.Dec.{T, eqb, ltb, ltb→lt}
+use lib.ListN.{length, getD, drop, replicate}
+use borrow.Author.Tests.{eqb-true, eqb-false}
+use Rattle.refusal.specs.Keys.{isIn}
+use Rattle.formula.specs.Coefficients.{placeIn}
+
+-- ---- one value at k numbers from lo on, by one computed equation
+
+abbrev pub values : {A : Type 0} → (ℕ → A) → ℕ → ℕ → List A
+values f lo zero = []
+values f lo (suc k) = f lo ∷ values f (suc lo) k
+
+pub between : {A : Type 0} (f : ℕ → A) (v : A) (lo k : ℕ) → values f lo k ≡ replicate k v → (s : ℕ) → lo ≤ s → s < lo + k → v ≡ f s
+between f v lo zero t s h l = absurd (omega arith)
+between f v lo (suc k) t s h l =
+    at (eqb lo s) refl (λ n. between f v (suc lo) k (ap (drop 1) t) s (omega (arith, n)) (omega arith))
+  where
+    at : (e : Bool) → eqb lo s ≡ e → ((lo ≡ s → ⊥) → v ≡ f s) → v ≡ f s
+    at true e r = sym (ap (λ u. getD u 0 v) t) ∙ ap f (eqb-true lo s e)
+    at false e r = r (eqb-false lo s e)
+
+-- ---- a test that passes at each number of a list
+
+abbrev pub every : (ℕ → Bool) → List ℕ → Bool
+every f [] = true
+every f (m ∷ ms) = f m && every f ms
+
+pub each : (f : ℕ → Bool) (ms : List ℕ) → T (every f ms) → (n : ℕ) → isIn n ms ≡ true → T (f n)
+each f [] t n h = absurd (subst⁻¹ T h tt)
+each f (m ∷ ms) t n h = at (eqb n m) refl h (each f ms (and-r (f m) (every f ms) t) n)
+  where
+    at : (b : Bool) → eqb n m ≡ b → cond b true (isIn n ms) ≡ true → (isIn n ms ≡ true → T (f n)) → T (f n)
+    at true e q r = subst⁻¹ (λ (u : ℕ). T (f u)) (eqb-true n m e) (and-l (f m) (every f ms) t)
+    at false e q r = r q
+
+-- ---- a number that is none of a list
+
+abbrev pub Apart : ℕ → List ℕ → Type 0
+Apart n [] = Unit {0}
+Apart n (m ∷ ms) = Apart n ms × (n ≡ m → ⊥)
+
+pub not-in : (n : ℕ) (ms : List ℕ) → Apart n ms → isIn n ms ≡ false
+not-in n [] a = refl
+not-in n (m ∷ ms) a = at (eqb n m) refl (not-in n ms (a .0))
+  where
+    at : (b : Bool) → eqb n m ≡ b → isIn n ms ≡ false → cond b true (isIn n ms) ≡ false
+    at true e r = absurd (a .1 (eqb-true n m e))
+    at false e r = r
+
+pub no-place : (n : ℕ) (ms : List ℕ) → Apart n ms → placeIn ms n ≡ length ms
+unfolding placeIn
+no-place n [] a = refl
+no-place n (m ∷ ms) a = at (eqb n m) refl (no-place n ms (a .0))
+  where
+    at : (b : Bool) → eqb n m ≡ b → placeIn ms n ≡ length ms → elim b [ true ↦ 0 | false ↦ suc (placeIn ms n) ] ≡ suc (length ms)
+    at true e r = absurd (a .1 (eqb-true n m e))
+    at false e r = ap suc r
+
+-- above all of the list
+pub above : (n top : ℕ) (ms : List ℕ) → T (every (λ m. ltb m top) ms) → top ≤ n → Apart n ms
+above n top [] t h = tt
+above n top (m ∷ ms) t h = (
+  above n top ms (and-r (ltb m top) (every (λ k. ltb k top) ms) t) h,
+  λ e. omega (arith, ltb→lt m top (and-l (ltb m top) (every (λ k. ltb k top) ms) t)),
+)

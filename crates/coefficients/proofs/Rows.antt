@@ -1,0 +1,116 @@
+-- What each number of a system is answered: whether it is one, its row of the table, its ranges. Assumes nothing.
+use mathlib.Core.Path.{_≡_, refl, sym, ap, _∙_, subst, subst⁻¹}
+use mathlib.Core.Bool.{Bool, true, false, cond, _&&_}
+use mathlib.Core.List.{List, [], _∷_}
+use Prim.Native.Nat.{ℕ, _+_, _≤_, _<_}
+use native.Mathlib.Omega.{arith}
+use lib.Ieee.Fits.{and-l}
+use lib.Ieee.Bits.{is-true}
+use lib.Dec.{T, eqb, ltb}
+use lib.IntN.{ℤ, pos}
+use lib.ListN.{getD, length, replicate}
+use borrow.Author.Tests.{eqb-true, eqb-false}
+use Rattle.refusal.specs.Keys.{isIn}
+use Rattle.formula.specs.WorkingRule.{sumAbs}
+use Rattle.formula.specs.Coefficients.{printed, tables, placeIn, keepsRule, isSystem, tableOf}
+use Rattle.formula.specs.Ranges.{ranges, rangesOf}
+use Rattle.coefficients.proofs.Numbers.{Apart, between, every, each, not-in, no-place, above}
+
+-- ---- which numbers are systems
+
+pub none-below : (s : ℕ) → s < 1 → false ≡ isSystem s
+unfolding isSystem
+none-below s h = between isSystem false 0 1 refl s (omega arith) (omega arith)
+
+pub first-eight : (s : ℕ) → 1 ≤ s → s < 9 → true ≡ isSystem s
+unfolding isSystem keepsRule sumAbs placeIn
+first-eight s h l = between isSystem true 1 8 refl s h l
+
+pub left-out : (s : ℕ) → 9 ≤ s → s < 12 → false ≡ isSystem s
+unfolding isSystem keepsRule sumAbs placeIn
+left-out s h l = between isSystem false 9 3 refl s h l
+
+pub from-12 : (s : ℕ) → 12 ≤ s → s < 19 → true ≡ isSystem s
+unfolding isSystem keepsRule sumAbs placeIn
+from-12 s h l = between isSystem true 12 7 refl s h l
+
+pub is-20 : (s : ℕ) → s ≡ 20 → true ≡ isSystem s
+unfolding isSystem keepsRule sumAbs placeIn
+is-20 s e = ap isSystem (sym e)
+
+-- no system that the table does not print
+pub not-printed : (s : ℕ) → isIn s printed ≡ false → false ≡ isSystem s
+unfolding isSystem
+not-printed s e = sym (ap (λ (b : Bool). b && keepsRule (getD tables (placeIn printed s) [])) e)
+
+-- what holds at 19 and above 20 holds at every number from 19 on but 20
+from-19 : (P : ℕ → Type 0) → P 19 → ((s : ℕ) → 21 ≤ s → P s) → (s : ℕ) → 19 ≤ s → (s ≡ 20 → ⊥) → P s
+from-19 P one more s h n = at (eqb s 19) refl
+  where
+    at : (b : Bool) → eqb s 19 ≡ b → P s
+    at true e = subst⁻¹ P (eqb-true s 19 e) one
+    at false e = more s (omega (arith, n, eqb-false s 19 e))
+
+beyond : (s : ℕ) → 21 ≤ s → Apart s printed
+beyond s h = above s 21 printed tt h
+
+pub none-above : (s : ℕ) → 19 ≤ s → (s ≡ 20 → ⊥) → false ≡ isSystem s
+unfolding isSystem
+none-above = from-19 (λ s. false ≡ isSystem s) refl (λ s h. not-printed s (not-in s printed (beyond s h)))
+
+-- ---- a system's row of the table
+
+pub row-of : (k p : ℕ) → getD tables p [] ≡ tableOf k → (t : List (List ℤ)) (s : ℕ) → t ≡ tables → s ≡ k → getD t p [] ≡ tableOf s
+row-of k p here t s e h = ap (λ u. getD u p []) e ∙ here ∙ ap tableOf (sym h)
+
+-- the systems, from the highest down
+abbrev pub all : List ℕ
+all = 20 ∷ 18 ∷ 17 ∷ 16 ∷ 15 ∷ 14 ∷ 13 ∷ 12 ∷ 8 ∷ 7 ∷ 6 ∷ 5 ∷ 4 ∷ 3 ∷ 2 ∷ 1 ∷ []
+
+abbrev among : ℕ → Bool
+among m = cond (isSystem m) (isIn m all) true
+
+no-system : (s : ℕ) → Apart s all → isSystem s ≡ false
+unfolding isSystem keepsRule sumAbs placeIn
+no-system s a = at (isSystem s) refl
+  where
+    listed : isSystem s ≡ true → T (among s)
+    listed e = each among printed tt s (is-true (isIn s printed) (and-l (isIn s printed) (keepsRule (getD tables (placeIn printed s) [])) (subst⁻¹ T e tt)))
+
+    at : (b : Bool) → isSystem s ≡ b → b ≡ false
+    at true e = absurd (subst T (ap (λ (b : Bool). cond b (isIn s all) true) e ∙ not-in s all a) (listed e))
+    at false e = refl
+
+pub no-row : (s : ℕ) → Apart s all → replicate 20 (pos 0) ≡ tableOf s
+unfolding tableOf
+no-row s a = sym (ap (λ (b : Bool). cond b (getD tables (placeIn printed s) []) (replicate 20 (pos 0))) (no-system s a))
+
+-- ---- a system's ranges
+
+pub ranges-1 : (s : ℕ) → 1 ≤ s → s < 9 → getD ranges 0 [] ≡ rangesOf s
+unfolding rangesOf placeIn
+ranges-1 s h l = between rangesOf (getD ranges 0 []) 1 8 refl s h l
+
+pub ranges-9 : (s : ℕ) → 9 ≤ s → s < 12 → getD ranges 8 [] ≡ rangesOf s
+unfolding rangesOf placeIn
+ranges-9 s h l = between rangesOf (getD ranges 8 []) 9 3 refl s h l
+
+pub ranges-12 : (s : ℕ) → 12 ≤ s → s < 17 → getD ranges 11 [] ≡ rangesOf s
+unfolding rangesOf placeIn
+ranges-12 s h l = between rangesOf (getD ranges 11 []) 12 5 refl s h l
+
+pub ranges-17 : (s : ℕ) → 17 ≤ s → s < 19 → getD ranges 16 [] ≡ rangesOf s
+unfolding rangesOf placeIn
+ranges-17 s h l = between rangesOf (getD ranges 16 []) 17 2 refl s h l
+
+pub ranges-20 : (s : ℕ) → s ≡ 20 → getD ranges 18 [] ≡ rangesOf s
+unfolding rangesOf placeIn
+ranges-20 s e = ap rangesOf (sym e)
+
+pub no-ranges-below : (s : ℕ) → s < 1 → replicate 6 0 ≡ rangesOf s
+unfolding rangesOf placeIn
+no-ranges-below s h = between rangesOf (replicate 6 0) 0 1 refl s (omega arith) (omega arith)
+
+pub no-ranges-above : (s : ℕ) → 19 ≤ s → (s ≡ 20 → ⊥) → replicate 6 0 ≡ rangesOf s
+unfolding rangesOf placeIn
+no-ranges-above = from-19 (λ s. replicate 6 0 ≡ rangesOf s) refl (λ s h. sym (ap (λ (p : ℕ). getD ranges p (replicate 6 0)) (no-place s printed (beyond s h))))

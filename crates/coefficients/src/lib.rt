@@ -1,0 +1,60 @@
+// The systems of 000 Table A.2: which there are, their coefficients, their ranges of validity. The definitions are those of
+// the crate `formula`, Coefficients and Ranges. No public function has a `requires`.
+mod ranges;
+mod table;
+
+ghost use mathlib.Core.Path.{_≡_};
+ghost use Rattle.formula.specs.Coefficients.{isSystem, tableOf};
+ghost use Rattle.formula.specs.Ranges.{rangesOf};
+
+// Whether there is a system of that number: Table A.2 has it, and its coefficients keep the rule.
+pub fn is_system(system: u32) -> bool
+    ensures { λ r. ⌜ r ≡ isSystem system ⌝ }
+{
+    match system {
+        1..=8 | 12..=18 | 20 => true,
+        _ => false,
+    }
+}
+
+// The twenty coefficients of a system; all 0 where there is no such system.
+pub fn of_system(system: u32) -> [i64; 20]
+    ensures { λ r. ⌜ r ≡ tableOf system ⌝ }
+{
+    let t = table::whole();
+    match system {
+        1 => t[0],
+        2 => t[1],
+        3 => t[2],
+        4 => t[3],
+        5 => t[4],
+        6 => t[5],
+        7 => t[6],
+        8 => t[7],
+        12 => t[11],
+        13 => t[12],
+        14 => t[13],
+        15 => t[14],
+        16 => t[15],
+        17 => t[16],
+        18 => t[17],
+        20 => t[18],
+        _ => [0; 20],
+    }
+}
+
+// The least and the greatest share of a system's three components, in percent; all 0 where Table A.2 has no such system.
+// Rows that are alike are read at one place.
+pub fn ranges_of(system: u32) -> [u8; 6]
+    ensures { λ r. ⌜ r ≡ rangesOf system ⌝ }
+{
+    let t = ranges::whole();
+    match system {
+        1..=8 => t[0],
+        9..=11 => t[8],
+        12..=16 => t[11],
+        17..=18 => t[16],
+        20 => t[18],
+        _ => [0; 6],
+    }
+}

@@ -1,0 +1,54 @@
+-- The ranges of validity of the systems' formulas (000 Table A.2; document 02, Six): each component's least and greatest
+-- share in whole percent; a component that the table leaves blank has 0 to 0. Assumes nothing.
+use mathlib.Core.Path.{_≡_, refl}
+use mathlib.Core.List.{List, [], _∷_}
+use mathlib.Core.Bool.{Bool, _&&_}
+use Prim.Native.Nat.{ℕ, _+_, _*_}
+use lib.Dec.{leb}
+use lib.ListN.{length, getD, replicate}
+use Rattle.formula.specs.Coefficients.{printed, placeIn}
+
+-- of each printed system: the first component's least and greatest, the second's, the third's
+abbrev pub ranges : List (List ℕ)
+ranges =
+    (0 ∷ 100 ∷ 0 ∷ 100 ∷ 0 ∷ 100 ∷ []) ∷
+    (0 ∷ 100 ∷ 0 ∷ 100 ∷ 0 ∷ 100 ∷ []) ∷
+    (0 ∷ 100 ∷ 0 ∷ 100 ∷ 0 ∷ 100 ∷ []) ∷
+    (0 ∷ 100 ∷ 0 ∷ 100 ∷ 0 ∷ 100 ∷ []) ∷
+    (0 ∷ 100 ∷ 0 ∷ 100 ∷ 0 ∷ 100 ∷ []) ∷
+    (0 ∷ 100 ∷ 0 ∷ 100 ∷ 0 ∷ 100 ∷ []) ∷
+    (0 ∷ 100 ∷ 0 ∷ 100 ∷ 0 ∷ 100 ∷ []) ∷
+    (0 ∷ 100 ∷ 0 ∷ 100 ∷ 0 ∷ 100 ∷ []) ∷
+    (75 ∷ 100 ∷ 0 ∷ 25 ∷ 0 ∷ 25 ∷ []) ∷
+    (75 ∷ 100 ∷ 0 ∷ 25 ∷ 0 ∷ 25 ∷ []) ∷
+    (75 ∷ 100 ∷ 0 ∷ 25 ∷ 0 ∷ 25 ∷ []) ∷
+    (0 ∷ 100 ∷ 0 ∷ 100 ∷ 0 ∷ 0 ∷ []) ∷
+    (0 ∷ 100 ∷ 0 ∷ 100 ∷ 0 ∷ 0 ∷ []) ∷
+    (0 ∷ 100 ∷ 0 ∷ 100 ∷ 0 ∷ 0 ∷ []) ∷
+    (0 ∷ 100 ∷ 0 ∷ 100 ∷ 0 ∷ 0 ∷ []) ∷
+    (0 ∷ 100 ∷ 0 ∷ 100 ∷ 0 ∷ 0 ∷ []) ∷
+    (100 ∷ 100 ∷ 0 ∷ 0 ∷ 0 ∷ 0 ∷ []) ∷
+    (100 ∷ 100 ∷ 0 ∷ 0 ∷ 0 ∷ 0 ∷ []) ∷
+    (50 ∷ 100 ∷ 0 ∷ 30 ∷ 0 ∷ 50 ∷ []) ∷
+    []
+
+pub each-ranged : length ranges ≡ length printed
+each-ranged = refl
+
+-- the six percents of a system; all 0 where the table prints none
+unfoldable pub rangesOf : ℕ → List ℕ
+rangesOf system = getD ranges (placeIn printed system) (replicate 6 0)
+
+-- whether the share n / d lies between two percents, compared without division
+unfoldable pub shareIn : ℕ → ℕ → ℕ → ℕ → Bool
+shareIn least greatest n d = leb (least * d) (100 * n) && leb (100 * n) (greatest * d)
+
+-- whether the shares of three amounts lie between six percents
+abbrev pub sharesIn : List ℕ → ℕ → ℕ → ℕ → Bool
+sharesIn r n1 n2 n3 =
+    shareIn (getD r 0 0) (getD r 1 0) n1 (n1 + n2 + n3) &&
+    (shareIn (getD r 2 0) (getD r 3 0) n2 (n1 + n2 + n3) && shareIn (getD r 4 0) (getD r 5 0) n3 (n1 + n2 + n3))
+
+-- whether the shares of three amounts lie in the system's ranges
+unfoldable pub inRange : ℕ → ℕ → ℕ → ℕ → Bool
+inRange system n1 n2 n3 = sharesIn (rangesOf system) n1 n2 n3

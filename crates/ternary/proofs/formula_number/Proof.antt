@@ -1,0 +1,36 @@
+-- `ternary::formula_number` meets its contract. Assumes nothing.
+use mathlib.Core.Path.{sym, _∙_}
+use native.Mathlib.Omega.{arith}
+use borrow.Author.Needs.{needs}
+use Rattle.ternary.specs.Answer.{formula-13}
+use Rattle.ternary.proofs.Tables.{sum-of, with-number}
+use Rattle.ternary.proofs.formula_number.Statement.{statement}
+use Rattle.ternary.proofs.formula_number.Tie as tie
+
+is-system-requires : tie.Need-is-system-requires
+is-system-requires c κs = search needs
+
+add-of-sum : tie.Need-add-of-sum
+add-of-sum c = search needs
+
+add-of-sum-2 : tie.Need-add-of-sum-2
+add-of-sum-2 c = search needs
+
+of-sum-requires : tie.Need-of-sum-requires
+of-sum-requires c κs = (sym (c .before .is-system .ensures) ∙ c .if1 .taken, omega arith)
+
+returns : tie.Need-returns
+returns c =
+    let a = c .before .before .before .args in
+    with-number (a .system) (a .n1) (a .n2) (a .n3) _ (c .of-sum .ensures ∙ sum-of (a .system) (a .n1) (a .n2) (a .n3))
+
+returns-2 : tie.Need-returns-2
+returns-2 c =
+    let a = c .before .before .args in
+    with-number (a .system) (a .n1) (a .n2) (a .n3) _
+    (sym (formula-13 (a .system) (a .n1) (a .n2) (a .n3) (sym (c .before .is-system .ensures) ∙ c .if1 .left)))
+
+pub formula-number-spec : {M : Type 1} → statement M
+formula-number-spec =
+    tie.close
+    (tie.spec is-system-requires add-of-sum add-of-sum-2 of-sum-requires returns returns-2)
