@@ -1,11 +1,12 @@
 -- `coefficients::ranges_of` meets its contract: arm by arm, a row of the whole table. Assumes nothing.
 use mathlib.Core.Path.{_≡_, ap, _∙_}
 use mathlib.Core.List.{List, []}
+use mathlib.Core.Logic.{⊎-elim}
 use Prim.Native.Nat.{ℕ}
 use lib.ListN.{getD}
 use borrow.Author.Needs.{needs}
 use Rattle.formula.specs.Ranges.{ranges}
-use Rattle.coefficients.proofs.Rows.{ranges-1, ranges-9, ranges-12, ranges-17, ranges-20, no-ranges-below, no-ranges-above}
+use Rattle.coefficients.proofs.Rows.{ranges-0, ranges-9, ranges-12, ranges-17, ranges-19, ranges-20}
 use Rattle.coefficients.proofs.ranges_of.Statement.{statement}
 use Rattle.coefficients.proofs.ranges_of.Tie as tie
 
@@ -35,22 +36,16 @@ returns : tie.Need-returns
 returns c = at 18 _ (c .before .before .whole .ensures) ∙ ranges-20 (c .before .before .before .args .system) (c .before .match .keys1)
 
 returns-2 : tie.Need-returns-2
-returns-2 c = at 0 _ (c .before .before .before .before .whole .ensures) ∙ ranges-1 (c .before .before .before .before .before .args .system) (c .before .before .if1 .left) (c .before .if2 .taken)
+returns-2 c = at 8 _ (c .before .before .before .before .whole .ensures) ∙ ranges-9 (c .before .before .before .before .before .args .system) (c .before .before .if1 .left) (c .before .if2 .taken)
 
 returns-3 : tie.Need-returns-3
-returns-3 c = at 8 _ (c .before .before .before .before .before .whole .ensures) ∙ ranges-9 (c .before .before .before .before .before .before .args .system) (c .before .before .if2 .left) (c .before .if3 .taken)
+returns-3 c = at 11 _ (c .before .before .before .before .before .whole .ensures) ∙ ranges-12 (c .before .before .before .before .before .before .args .system) (c .before .before .if2 .left) (c .before .if3 .taken)
 
 returns-4 : tie.Need-returns-4
-returns-4 c = at 11 _ (c .before .before .before .before .before .before .whole .ensures) ∙ ranges-12 (c .before .before .before .before .before .before .before .args .system) (c .before .before .if3 .left) (c .before .if4 .taken)
+returns-4 c = at 16 _ (c .before .before .before .before .before .before .whole .ensures) ∙ ranges-17 (c .before .before .before .before .before .before .before .args .system) (c .before .before .if3 .left) (c .before .if4 .taken)
 
 returns-5 : tie.Need-returns-5
-returns-5 c = at 16 _ (c .before .before .before .before .before .before .before .whole .ensures) ∙ ranges-17 (c .before .before .before .before .before .before .before .before .args .system) (c .before .before .if4 .left) (c .before .if5 .taken)
-
-returns-6 : tie.Need-returns-6
-returns-6 c = no-ranges-below (c .before .before .before .args .system) (c .if1 .taken)
-
-returns-7 : tie.Need-returns-7
-returns-7 c = no-ranges-above (c .before .before .before .before .before .before .before .args .system) (c .if5 .left) (c .before .before .before .before .before .match .rest .1)
+returns-5 c = at 0 _ (c .before .before .before .whole .ensures) ∙ ⊎-elim (λ w. ranges-0 (c .before .before .before .before .args .system) (w .taken)) (λ w. ranges-19 (c .before .before .before .before .args .system) (w .3 .left) (c .before .before .match .rest .1)) (c .before .if1 .came)
 
 pub ranges-of-spec : {M : Type 1} → statement M
 ranges-of-spec =
@@ -66,6 +61,4 @@ ranges-of-spec =
     returns-2
     returns-3
     returns-4
-    returns-5
-    returns-6
-    returns-7)
+    returns-5)
