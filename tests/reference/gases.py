@@ -620,7 +620,7 @@ def partial_cases(seed):
                            draw.between(1, 1000000), 1000000,
                            draw.between(1, 1000)))
             n = mixture(draw, system, d) \
-                if system in ref.SHARES and which < 12 \
+                if system in ref.SHARES and which < 9 \
                 else any_mixture(draw, d)
         yield (system, *n)
 
@@ -628,7 +628,7 @@ def partial_cases(seed):
 def share_cases(seed):
     """For every system, at several sums: each share at each end of its range,
     or as near to it as whole parts can be, and one part beyond it.  Then sums
-    of 0 and 1000001, and large amounts, with the same shares."""
+    of 0, and large amounts, also such that wrap 2^32 to a sum of 100."""
     draw = Draw(seed)
     for system in ref.SHARES:
         for d in (1, 2, 20, 100, 999999, 1000000, 1000001,
@@ -642,7 +642,7 @@ def share_cases(seed):
         yield system, 0, 0, 0
         for large in (U32 - 1, U32 // 100, U32 // 100 + 1):
             for n in ((large, 0, 0), (0, large, 0), (0, 0, large),
-                      (large, large, large)):
+                      (large, large, large), (large, U32 - large + 100, 0)):
                 yield (system, *n)
     for system in (*NO_SYSTEMS, *LONG_SYSTEMS):
         for n in ((0, 0, 0), (1000000, 0, 0), (0, 0, 1), (1000001, 0, 0),
