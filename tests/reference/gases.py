@@ -586,11 +586,10 @@ def filled(draw, system, place, n, d):
 
 
 def mixture(draw, system, d):
-    """Amounts of sum d with every share in its range; often at an end."""
-    (x, y, z) = whole_shares(system, d)
+    """Amounts of sum d with every share in its range."""
+    x, y, z = whole_shares(system, d)
     least, greatest = max(x[0], d - y[1] - z[1]), min(x[1], d - y[0] - z[0])
-    n1 = draw.pick((least, greatest, *[draw.between(least, greatest)] * 4))
-    return filled(draw, system, 0, n1, d)
+    return filled(draw, system, 0, draw.between(least, greatest), d)
 
 
 def any_mixture(draw, d):
