@@ -152,20 +152,23 @@ def spec_text(path):
     return re.sub(r'(?m)(^|\s)--.*$', '', text_of(path))
 
 
-def spec_figure(item):
-    """A figure of the specification: pos n is n, negsuc n is -(n + 1), a share stands alone."""
-    found = re.fullmatch(r'(pos |negsuc |)(0|[1-9]\d*)', item)
+def spec_figure(path, item):
+    """A figure of the specification: pos n is n, neg n is -n, a share stands alone."""
+    found = re.fullmatch(r'(pos |)(0|[1-9]\d*)|neg ([1-9]\d*)', item)
     if not found:
-        fail(f'{item} is no figure of a specification')
-    return -1 - int(found[2]) if found[1] == 'negsuc ' else int(found[2])
+        fail(f'{path}: {item} is no figure')
+    return -int(found[3]) if found[3] else int(found[2])
 
 
 def spec_lists(path, name):
     """The lists in a definition `name = (.. ∷ []) ∷ .. ∷ []`."""
-    found = re.search(rf'^{name} =\s+((?:\([^()]*∷\s*\[\]\s*\)\s*∷\s*)+)\[\]$', spec_text(path), re.M)
+    text = spec_text(path)
+    found = re.search(rf'^{name} =\s+((?:\([^()]*∷\s*\[\]\s*\)\s*∷\s*)+)\[\]$', text, re.M)
     if not found:
         fail(f'{path}: {name} is not a list of lists')
-    return [[spec_figure(' '.join(item.split())) for item in row.split('∷')[:-1]]
+    if 'neg ' in found[1] and not re.search(r'^neg n = negℤ \(pos n\)$', text, re.M):
+        fail(f'{path}: neg n is not defined as -n')
+    return [[spec_figure(path, ' '.join(item.split())) for item in row.split('∷')[:-1]]
             for row in re.findall(r'\(([^()]*)\)', found[1])]
 
 
