@@ -481,6 +481,7 @@ def show(tally):
 
 # ------------------------------------------------------------ how often each kind of case must occur
 
+# Numbers of no system, each with a kind of its own; the systems themselves stand in LEAST.
 NO_SYSTEMS = 0, 9, 10, 11, 19, 21, U32 - 1
 
 # Of DEFAULT_SHEETS sheets: for each kind the numbers (0 for an answer) and how often at least, about half of what the
