@@ -200,13 +200,12 @@ def code_rows(path, name, kind, size):
 
 
 def code_systems():
-    """The systems that the code lets through: numbers and runs of numbers in the arm of is_system that is true."""
-    whole = re.search(r'^(?:pub )?fn is_system\(.*?^\}', code_text(CODE_SYSTEMS), re.M | re.S)
-    found = whole and re.search(r'([\d.=|\s]+?)\s*=> true', whole[0])
+    """The systems that the code lets through: the places of the ones in its word of bits, from the right."""
+    found = re.search(r'^const SYSTEMS: u32 = 0b([01_]+);$', code_text(CODE_SYSTEMS), re.M)
     if not found:
-        fail(f'{CODE_SYSTEMS}: no arm of is_system with the systems')
-    runs = [[int(end) for end in run.split('..=')] for run in found[1].split('|')]
-    return [system for run in runs for system in range(run[0], run[-1] + 1)]
+        fail(f'{CODE_SYSTEMS}: no word of bits with the systems')
+    bits = found[1].replace('_', '')
+    return [place for place, bit in enumerate(reversed(bits)) if bit == '1']
 
 
 def compare(path, rows, wanted, names):

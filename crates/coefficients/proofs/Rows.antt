@@ -14,7 +14,7 @@ use Rattle.refusal.specs.Keys.{isIn}
 use Rattle.formula.specs.WorkingRule.{sumAbs}
 use Rattle.formula.specs.Coefficients.{printed, tables, placeIn, keepsRule, isSystem, tableOf}
 use Rattle.formula.specs.Ranges.{ranges, full, rangesOf}
-use Rattle.formula.specs.Agree.{agree}
+use Rattle.formula.specs.Agree.{values, agree}
 use Rattle.coefficients.proofs.Numbers.{Apart, every, each, not-in, no-place, above}
 
 -- ---- which numbers are systems
@@ -23,9 +23,8 @@ use Rattle.coefficients.proofs.Numbers.{Apart, every, each, not-in, no-
 abbrev bit : ℕ → ℕ → Bool
 bit word s = eqb (word / 2 ^ s % 2) 1
 
-pub bit-is : (s : ℕ) → s < 21 → bit 1569278 s ≡ isSystem s
-unfolding isSystem keepsRule sumAbs placeIn
-bit-is s h = agree (bit 1569278) isSystem 0 21 refl s zero-le (omega arith)
+pub bit-is : (word : ℕ) → values (bit word) 0 21 ≡ values isSystem 0 21 → (s : ℕ) → s < 21 → bit word s ≡ isSystem s
+bit-is word t s h = agree (bit word) isSystem 0 21 t s zero-le (omega arith)
 
 beyond : (s : ℕ) → 21 ≤ s → Apart s printed
 beyond s h = above s 21 printed tt h
@@ -63,29 +62,19 @@ no-row s a = sym (ap (λ (b : Bool). cond b (getD tables (placeIn printed s) [])
 
 -- ---- a system's ranges
 
-pub ranges-0 : (s : ℕ) → s < 9 → full ≡ rangesOf s
-unfolding rangesOf placeIn
-ranges-0 s h = agree (λ _. full) rangesOf 0 9 refl s zero-le (omega arith)
+-- a row at k numbers from lo on
+pub ranges-run : (p lo k : ℕ) → values (λ _. getD ranges p []) lo k ≡ values rangesOf lo k
+    → (t : List (List ℕ)) (s : ℕ) → t ≡ ranges → lo ≤ s → s < lo + k → getD t p [] ≡ rangesOf s
+ranges-run p lo k c t s e h l = ap (λ u. getD u p []) e ∙ agree (λ _. getD ranges p []) rangesOf lo k c s h l
 
-pub ranges-9 : (s : ℕ) → 9 ≤ s → s < 12 → getD ranges 8 [] ≡ rangesOf s
-unfolding rangesOf placeIn
-ranges-9 s h l = agree (λ _. getD ranges 8 []) rangesOf 9 3 refl s h l
+-- at 20
+pub ranges-20 : (p : ℕ) → getD ranges p [] ≡ rangesOf 20 → (t : List (List ℕ)) (s : ℕ) → t ≡ ranges → s ≡ 20 → getD t p [] ≡ rangesOf s
+ranges-20 p here t s e h = ap (λ u. getD u p []) e ∙ here ∙ ap rangesOf (sym h)
 
-pub ranges-12 : (s : ℕ) → 12 ≤ s → s < 17 → getD ranges 11 [] ≡ rangesOf s
+-- at 19 and above 20
+pub ranges-19 : (p : ℕ) → getD ranges p [] ≡ full → (t : List (List ℕ)) (s : ℕ) → t ≡ ranges → 19 ≤ s → (s ≡ 20 → ⊥) → getD t p [] ≡ rangesOf s
 unfolding rangesOf placeIn
-ranges-12 s h l = agree (λ _. getD ranges 11 []) rangesOf 12 5 refl s h l
-
-pub ranges-17 : (s : ℕ) → 17 ≤ s → s < 19 → getD ranges 16 [] ≡ rangesOf s
-unfolding rangesOf placeIn
-ranges-17 s h l = agree (λ _. getD ranges 16 []) rangesOf 17 2 refl s h l
-
-pub ranges-20 : (s : ℕ) → s ≡ 20 → getD ranges 18 [] ≡ rangesOf s
-unfolding rangesOf placeIn
-ranges-20 s e = ap rangesOf (sym e)
-
-pub ranges-19 : (s : ℕ) → 19 ≤ s → (s ≡ 20 → ⊥) → full ≡ rangesOf s
-unfolding rangesOf placeIn
-ranges-19 s h n = at (eqb s 19) refl
+ranges-19 p here t s q h n = ap (λ u. getD u p []) q ∙ here ∙ at (eqb s 19) refl
   where
     at : (b : Bool) → eqb s 19 ≡ b → full ≡ rangesOf s
     at true e = ap rangesOf (sym (eqb-true s 19 e))
