@@ -136,8 +136,8 @@ saugrinte_answer saugrinte_rate_split(const uint32_t amounts[SAUGRINTE_CODES], s
 
 /* The partial number, in units, of a system at amounts n1, n2, n3 of its components. These stand here in the order of
    the formula, each with its range of validity: the least and the greatest share, in percent, that its amount may have
-   of n1 + n2 + n3. The systems are those of EN 16726 Table A.2; 9, 10 and 11 are left out, for their coefficients, each
-   times 100^(k+l), add up to more than 200000 methane numbers:
+   of n1 + n2 + n3. The systems are those of EN 16726 Table A.2; 9, 10 and 11 are left out, for the magnitudes of their
+   coefficients a(k,l), each times 100^(k+l), add up to more than 200000 methane numbers:
 
      system  n1                      n2                    n3
           1  methane 0..100          hydrogen 0..100       ethane 0..100
@@ -157,7 +157,7 @@ saugrinte_answer saugrinte_rate_split(const uint32_t amounts[SAUGRINTE_CODES], s
          18  butylene 100..100       none 0..0             none 0..0
          20  methane 50..100         carbon dioxide 0..30  nitrogen 0..50
 
-   Ratings do not test these ranges.
+   Ratings do not test these ranges. Version 1.0 knew 2, 4, 7, 8 and 20 and tested no range.
    Done: *number holds it.
    Refused 13, then 12, then 17: *number is unchanged. */
 saugrinte_answer saugrinte_partial_number(uint32_t system, uint32_t n1, uint32_t n2, uint32_t n3,

@@ -31,7 +31,7 @@ COMPONENTS = ['x:', 'y:', 'z:']
 ENDS = ['%s(%s), %% vol/vol' % (component, end) for component in 'xyz' for end in ('min', 'max')]
 ROWS = {*COMPONENTS, *ENDS, *('a(%d,%d)' % place for place in PLACES)}
 # the magnitudes of a system's coefficients add up to no more
-MOST = 2000000000000
+RULE, MOST = 'crates/formula/specs/WorkingRule.antt', 2000000000000
 
 
 def fail(message):
@@ -252,6 +252,8 @@ def main():
     compare(CODE, code_rows(CODE, 'TABLE', 'i64', len(coefficients)), wanted, coefficients)
     compare(SPEC_RANGES, spec_lists(SPEC_RANGES, 'ranges'), ranges, ends)
     compare(CODE_RANGES, code_rows(CODE_RANGES, 'RANGES', 'u8', len(ends)), ranges, ends)
+    if not re.search(rf'^LARGEST = {MOST}$', text_of(RULE), re.M):
+        fail(f'{RULE}: LARGEST is not {MOST}')
     if code_systems() != kept:
         fail(f'{CODE_SYSTEMS}: lets through {code_systems()}')
     compare_tables(columns, ranges, kept)

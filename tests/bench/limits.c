@@ -44,7 +44,7 @@ static void call_rate_split(void)
 {
     saugrinte_rate_split(amounts, proposed, read_systems, read_codes, read_parts, &figures);
 }
-static void call_partial_number(void) { saugrinte_partial_number(7, amounts[1], amounts[2], amounts[3], &number); }
+static void call_partial_number(void) { saugrinte_partial_number(20, amounts[1], amounts[11], amounts[12], &number); }
 static void call_read(void)
 {
     saugrinte_read(sheet, length, amounts, &proposed, read_systems, read_codes, read_parts);

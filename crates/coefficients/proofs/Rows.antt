@@ -6,16 +6,16 @@ use Prim.Native.Nat.{ℕ, _+_, _/_, _%_, _^_, _≤_, _<_, zero-le}
 use native.Mathlib.Omega.{arith}
 use lib.Ieee.Fits.{and-l}
 use lib.Ieee.Bits.{is-true}
-use lib.Dec.{T, eqb, ltb}
+use lib.Dec.{T, eqb}
 use lib.IntN.{ℤ, pos}
-use lib.ListN.{getD, length, replicate}
+use lib.ListN.{getD, replicate}
 use borrow.Author.Tests.{eqb-true, eqb-false}
 use Rattle.refusal.specs.Keys.{isIn}
 use Rattle.formula.specs.WorkingRule.{sumAbs}
 use Rattle.formula.specs.Coefficients.{printed, tables, placeIn, keepsRule, isSystem, tableOf}
 use Rattle.formula.specs.Ranges.{ranges, full, rangesOf}
 use Rattle.formula.specs.Agree.{values, agree}
-use Rattle.coefficients.proofs.Numbers.{Apart, every, each, not-in, no-place, above}
+use Rattle.coefficients.proofs.Numbers.{Apart, each, not-in, no-place, above}
 
 -- ---- which numbers are systems
 

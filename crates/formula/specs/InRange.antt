@@ -8,7 +8,6 @@ use native.Mathlib.Nat as N
 use native.Mathlib.Omega.{arith}
 use lib.Dec.{T, leb, le→leb, leb→le}
 use lib.Ieee.Fits.{and-l, and-r}
-use lib.Ieee.Bits.{is-true}
 use lib.ListN.{getD}
 use Rattle.formula.specs.Coefficients.{placeIn}
 use Rattle.formula.specs.Ranges.{full, rangesOf, shareIn, sharesIn, inRange}

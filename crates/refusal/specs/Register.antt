@@ -109,6 +109,6 @@ numbers-rise = refl
 pub numbers-kept : take 14 (numbersOf register) ≡ 1 ∷ 2 ∷ 3 ∷ 4 ∷ 5 ∷ 6 ∷ 7 ∷ 8 ∷ 9 ∷ 10 ∷ 11 ∷ 12 ∷ 13 ∷ 14 ∷ []
 numbers-kept = refl
 
--- and so do those that requests have added
+-- and so are those that requests have added
 pub requests-kept : allIn (17 ∷ []) (numbersOf register) ≡ true
 requests-kept = refl

@@ -15,8 +15,9 @@ use lib.ListN.{length, getD, set, length-set, replicate, length-replicate, getD-
 use lib.Seq.{getD-set-same, getD-set-other, ext-getD}
 use borrow.Author.Tests.{ltb-true, ltb-false, lt-ltb, le-leb, lt-leb, leb-true}
 use borrow.Author.Count.{below-more}
+use Rattle.formula.specs.Coefficients.{isSystem}
 use Rattle.formula.specs.Partial.{partialNumber, partial-small}
-use Rattle.ternary.specs.Answer.{isMixture, mixture-yes, formulaOf, formula-is, formula-12}
+use Rattle.ternary.specs.Answer.{isMixture, mixture-yes, mixture-of, formulaOf, formula-is, formula-12}
 use Rattle.ternary.specs.declared.Partial.{Partial}
 use Rattle.ternary.specs.declared.Partial.the-variants.{Number, Refused}
 use Rattle.systems.specs.Systems.{candidates, elem, memberOf, Candidate}
@@ -108,18 +109,9 @@ module _ (system : ℕ) (a : List ℕ) (s : ℕ) where
   unfolding answerIn
   candidate-answer e = sym (rw (e, answerIn))
 
-  pub answer-is : (w x y z : ℕ) → w ≡ system → x ≡ n1 → y ≡ n2 → z ≡ n3 → elem system candidates ≡ true → formulaOf w x y z ≡ answerIn system a s
+  pub answer-is : (w x y z : ℕ) → w ≡ system → x ≡ n1 → y ≡ n2 → z ≡ n3 → elem system candidates ≡ true
+      → formulaOf w x y z ≡ answerIn system a s
   answer-is w x y z o p q r e = rw (o, p, q, r) (candidate-answer e)
-
-  mixture-of : (d : ℕ) → isMixture d ≡ true → (0 < d) × (d ≤ 1000000)
-  mixture-of d e = go (ltb 0 d) refl
-    where
-      go : (b : Bool) → ltb 0 d ≡ b → (0 < d) × (d ≤ 1000000)
-      go true z = (ltb-true 0 d z, leb-true d 1000000 (rw (z, isMixture) at e))
-      go false z = absurd (let w : 0 ≡ 1 = clash (rw (z, isMixture) at e) in omega arith)
-        where
-          clash : false ≡ true → _≡_ {A = ℕ} 0 1
-          clash u = ap (λ b. elim b [ true ↦ 1 | false ↦ 0 ]) u
 
   -- a number is that of a candidate at a mixture
   pub record Worked (x : ℤ) : Type 0 where
@@ -137,10 +129,13 @@ module _ (system : ℕ) (a : List ℕ) (s : ℕ) where
         go : (b m : Bool) → elem system candidates ≡ b → isMixture (n1 + n2 + n3) ≡ m → Worked x
         go true true e f =
             let g = mixture-of (n1 + n2 + n3) f in
-            let t : p ≡ Number (partialNumber system n1 n2 n3) = q ∙ sym (candidate-answer e) ∙ formula-is system n1 n2 n3 (known-system system (record { listed = e })) (g .0) (g .1) in
+            let k : isSystem system ≡ true = known-system system (record { listed = e }) in
+            let t : p ≡ Number (partialNumber system n1 n2 n3) =
+            q ∙ sym (candidate-answer e) ∙ formula-is system n1 n2 n3 k (g .0) (g .1) in
             record { listed = e; mixture = f; some = g .0; few = g .1; value = cc }
         go true false e f =
-            let t : p ≡ Refused 12 = q ∙ sym (candidate-answer e) ∙ formula-12 system n1 n2 n3 (known-system system (record { listed = e })) f in
+            let k : isSystem system ≡ true = known-system system (record { listed = e }) in
+            let t : p ≡ Refused 12 = q ∙ sym (candidate-answer e) ∙ formula-12 system n1 n2 n3 k f in
             absurd (let z : _≡_ {A = ℕ} 0 1 = cc in omega arith)
         go false m e f =
             let t : p ≡ Refused 13 = q ∙ sym (no-candidate e) in
@@ -153,7 +148,9 @@ module _ (system : ℕ) (a : List ℕ) (s : ℕ) where
         go : (b m : Bool) → elem system candidates ≡ b → isMixture (n1 + n2 + n3) ≡ m → both (elem system candidates) (isMixture (n1 + n2 + n3)) ≡ false
         go true true e f =
             let g = mixture-of (n1 + n2 + n3) f in
-            let t : p ≡ Number (partialNumber system n1 n2 n3) = q ∙ sym (candidate-answer e) ∙ formula-is system n1 n2 n3 (known-system system (record { listed = e })) (g .0) (g .1) in
+            let k : isSystem system ≡ true = known-system system (record { listed = e }) in
+            let t : p ≡ Number (partialNumber system n1 n2 n3) =
+            q ∙ sym (candidate-answer e) ∙ formula-is system n1 n2 n3 k (g .0) (g .1) in
             absurd (let z : _≡_ {A = ℕ} 0 1 = cc in omega arith)
         go true false e f = rw (e, f)
         go false m e f = rw e
@@ -247,7 +244,12 @@ module _ (ch : List ℕ) (k : ℕ) (a : List ℕ) where
 
         pub fit-sound : Sound ch k a
         unfolding rowFit
-        fit-sound = record { stock = st; some = λ s l. mixture-of 0 a 0 (partsOf ch a s) (both-right (elem (systemOf ch s) candidates) _ (each-fit is-fit s l)) .0 }
+        fit-sound =
+            record {
+              stock = st;
+              some = λ s l.
+                  mixture-of (partsOf ch a s) (both-right (elem (systemOf ch s) candidates) _ (each-fit is-fit s l)) .0;
+            }
 
         numbers-are : r .numbers ≡ upTo (pos 0) k (numberAt ch a) SYSTEMS 0
         unfolding rowsOf

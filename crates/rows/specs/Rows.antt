@@ -27,7 +27,11 @@ partsIn system a s = cellOf a s (memberOf system 0) + cellOf a s (memberOf syste
 unfoldable pub answerIn : ℕ → List ℕ → ℕ → Partial
 answerIn system a s =
     elim (elem system candidates) [
-      | true ↦ formulaOf system (cellOf a s (memberOf system 0)) (cellOf a s (memberOf system 1)) (cellOf a s (memberOf system 2))
+      | true ↦
+          formulaOf system
+          (cellOf a s (memberOf system 0))
+          (cellOf a s (memberOf system 1))
+          (cellOf a s (memberOf system 2))
       | false ↦ Refused NO_SYSTEM
     ]
 

@@ -24,14 +24,6 @@ pub candidate-le : (system : ℕ) → Candidate system → system ≤ 8
 unfolding small
 candidate-le system k = leb→le system 8 (each-candidate small tt system k)
 
--- each candidate is one of the five systems that have coefficients
-known : ℕ → Bool
-known system = elem system (2 ∷ 4 ∷ 7 ∷ 8 ∷ 20 ∷ [])
-
-pub candidate-known : (system : ℕ) → Candidate system → elem system (2 ∷ 4 ∷ 7 ∷ 8 ∷ 20 ∷ []) ≡ true
-unfolding known elem
-candidate-known system k = to-true (known system) (each-candidate known tt system k)
-
 low : ℕ → Bool
 low system = everyTo (λ j. ltb (memberOf system j) COMPONENTS) 3
 

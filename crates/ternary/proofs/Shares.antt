@@ -2,12 +2,12 @@
 use mathlib.Core.Path.{_≡_, refl, sym, ap, ap₂, _∙_, subst, subst⁻¹}
 use mathlib.Core.Bool.{Bool, true, false, cond, _&&_}
 use mathlib.Core.List.{List}
-use Prim.Native.Nat.{ℕ, _+_, _*_, _^_, _≤_, _<_}
+use Prim.Native.Nat.{ℕ, _+_, _*_, _≤_, _<_}
 use native.Mathlib.Nat as N
 use native.Mathlib.Omega.{arith}
-use lib.Dec.{T, leb}
+use lib.Dec.{T, ltb, leb}
 use lib.ListN.{getD}
-use borrow.Author.Tests.{le-leb, lt-leb}
+use borrow.Author.Tests.{lt-ltb, le-ltb, le-leb, lt-leb}
 use mir.Syntax.{w64}
 use mir.Val.{Fits}
 use Rattle.refusal.specs.Register.{NO_MIXTURE, NO_SYSTEM, SHARE}
@@ -31,6 +31,12 @@ both false b h = absurd (subst⁻¹ T h tt)
 first : (a b : Bool) → a ≡ false → false ≡ a && b
 first true b h = absurd (subst T h tt)
 first false b h = refl
+
+pub some-parts : (d : ℕ) → 0 < d → leb d 1000000 ≡ isMixture d
+some-parts d h = both (ltb 0 d) (leb d 1000000) (lt-ltb 0 d h)
+
+pub no-parts : (d : ℕ) → d ≤ 0 → ltb 0 d ≡ isMixture d
+no-parts d h = let e = le-ltb 0 d h in e ∙ first (ltb 0 d) (leb d 1000000) e
 
 module _ (least greatest n d : ℕ) where
   pub share-upper : least * d ≤ 100 * n → leb (100 * n) (greatest * d) ≡ shareIn least greatest n d

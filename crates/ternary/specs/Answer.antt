@@ -1,10 +1,13 @@
 -- The answer to a partial number by cases (document 01, "What is turned away"; document 02, Six): 13, then 12, then
 -- 17, else the number as worked out; and the answer of the formula alone, which tests no range. Assumes nothing.
 use mathlib.Core.Path.{_≡_, refl, subst, subst⁻¹}
-use mathlib.Core.Bool.{Bool, true, false, cond}
+use mathlib.Core.Bool.{Bool, true, false, cond, _&&_}
+use mathlib.Core.Logic.{_⊎_, inl, inr}
 use Prim.Native.Nat.{ℕ, _+_, _≤_, _<_}
-use native.Mathlib.Nat as N
-use lib.Dec.{T, ltb, leb, lt→ltb, le→leb, leb→le}
+use native.Mathlib.Omega.{arith}
+use lib.Dec.{T, ltb, leb, lt→ltb, le→leb, ltb→lt, leb→le}
+use lib.Ieee.Fits.{and-l, and-r}
+use borrow.Author.Tests.{ltb-false, leb-false}
 use lib.IntN.{ℤ}
 use Rattle.refusal.specs.Register.{NO_MIXTURE, NO_SYSTEM, SHARE}
 use Rattle.ternary.specs.declared.Partial.{Partial}
@@ -16,7 +19,7 @@ use Rattle.formula.specs.Partial.{partialNumber}
 
 -- the amounts of a mixture add up to 1 to 1000000 parts
 abbrev pub isMixture : ℕ → Bool
-isMixture d = elim (ltb 0 d) [ true ↦ leb d 1000000 | false ↦ false ]
+isMixture d = ltb 0 d && leb d 1000000
 
 -- ---- the formula's number, at any shares: what ratings are made of
 
@@ -71,24 +74,40 @@ refused-13 : (b m : Bool) (p : Partial) → b ≡ false → cond b (cond m p (Re
 refused-13 true m p h = absurd (subst T h tt)
 refused-13 false m p h = refl
 
-within-limit : (a b : Bool) → T a → T b → elim a [ true ↦ b | false ↦ false ] ≡ true
-within-limit true true h k = refl
-within-limit true false h k = absurd k
-within-limit false b h k = absurd h
-
+-- what a mixture's sum is, and what none is
 pub mixture-yes : (d : ℕ) → 0 < d → d ≤ 1000000 → isMixture d ≡ true
-mixture-yes d h k = within-limit (ltb 0 d) (leb d 1000000) (lt→ltb 0 d h) (le→leb d 1000000 k)
+mixture-yes d h k = both (ltb 0 d) (leb d 1000000) (lt→ltb 0 d h) (le→leb d 1000000 k)
+  where
+    both : (a b : Bool) → T a → T b → a && b ≡ true
+    both true true s t = refl
+    both true false s t = absurd t
+    both false b s t = absurd s
+
+pub mixture-of : (d : ℕ) → isMixture d ≡ true → (0 < d) × (d ≤ 1000000)
+mixture-of d e =
+    let t : T (isMixture d) = subst⁻¹ T e tt in
+    (ltb→lt 0 d (and-l (ltb 0 d) (leb d 1000000) t), leb→le d 1000000 (and-r (ltb 0 d) (leb d 1000000) t))
+
+pub mixture-not : (d : ℕ) → isMixture d ≡ false → (d ≡ 0) ⊎ (1000000 < d)
+mixture-not d e = at (ltb 0 d) (leb d 1000000) refl refl e
+  where
+    at : (a b : Bool) → ltb 0 d ≡ a → leb d 1000000 ≡ b → a && b ≡ false → (d ≡ 0) ⊎ (1000000 < d)
+    at true true s t q = absurd (subst T q tt)
+    at true false s t q = inr (leb-false d 1000000 t)
+    at false b s t q = inl (omega (arith, ltb-false 0 d s))
+
+no-mixture : (d : ℕ) → ((0 < d) × (d ≤ 1000000) → ⊥) → isMixture d ≡ false
+no-mixture d h = at (isMixture d) refl
+  where
+    at : (b : Bool) → isMixture d ≡ b → b ≡ false
+    at true e = absurd (h (mixture-of d e))
+    at false e = refl
 
 pub mixture-zero : (d : ℕ) → d ≡ 0 → isMixture d ≡ false
-mixture-zero d e = rw e
-
-beyond : (a b : Bool) → (T b → ⊥) → elim a [ true ↦ b | false ↦ false ] ≡ false
-beyond true true h = absurd (h tt)
-beyond true false h = refl
-beyond false b h = refl
+mixture-zero d e = no-mixture d (λ m. omega arith)
 
 pub mixture-above : (d : ℕ) → 1000000 < d → isMixture d ≡ false
-mixture-above d h = beyond (ltb 0 d) (leb d 1000000) (λ t. N.not-le-of-lt h (leb→le d 1000000 t))
+mixture-above d h = no-mixture d (λ m. omega arith)
 
 module _ (system n1 n2 n3 : ℕ) where
   -- the answer's number

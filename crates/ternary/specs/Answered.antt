@@ -1,10 +1,12 @@
 -- The partial number of a single system (document 02, Six): answered exactly when there is such a system, the amounts
--- are a mixture's and each share lies in its range, and then less than 19 units from the exact one. Assumes nothing.
+-- are a mixture's and each share lies in its range, and then less than 19 units from the exact one; 13, 12 and 17 each
+-- exactly when. Assumes nothing.
 use mathlib.Core.Path.{_≡_, refl, sym, ap, _∙_, subst, subst⁻¹}
 use mathlib.Core.Bool.{Bool, true, false, cond}
+use mathlib.Core.Logic.{_⊎_, ⊎-elim}
 use Prim.Native.Nat.{ℕ, _+_, _≤_, _<_}
 use native.Mathlib.Omega.{arith}
-use lib.Dec.{T, ltb, leb, ltb→lt, leb→le}
+use lib.Dec.{T}
 use lib.IntN.{ℤ, pos}
 use Rattle.integer.specs.Fraction.{Within}
 use Rattle.formula.specs.Coefficients.{isSystem}
@@ -14,7 +16,8 @@ use Rattle.formula.specs.Partial.{partialNumber, exactNumber, partial-within}
 use Rattle.ternary.specs.declared.Partial.{Partial}
 use Rattle.ternary.specs.declared.Partial.the-variants.{Number, Refused}
 use Rattle.ternary.specs.PartialCases.{numberOf, figuresOf}
-use Rattle.ternary.specs.Answer.{isMixture, partialOf, formula-is, partial-inside}
+use Rattle.ternary.specs.Answer.{isMixture, mixture-yes, mixture-of, mixture-not, mixture-zero, mixture-above}
+use Rattle.ternary.specs.Answer.{partialOf, formula-is, partial-inside}
 
 -- what is asked of the system and the amounts
 pub record Answerable (system n1 n2 n3 : ℕ) : Type 0 where
@@ -34,10 +37,6 @@ passed true true false n z e = never (omega arith) e
 passed true false r n z e = never (omega arith) e
 passed false m r n z e = never (omega arith) e
 
-mixed : (a b : Bool) → elim a [ true ↦ b | false ↦ false ] ≡ true → T a × T b
-mixed true b e = (tt, subst⁻¹ T e tt)
-mixed false b e = absurd (subst⁻¹ T e tt)
-
 module _ (system n1 n2 n3 : ℕ) where
   pub answered-when : Answerable system n1 n2 n3 → partialOf system n1 n2 n3 ≡ Number (partialNumber system n1 n2 n3)
   answered-when a =
@@ -55,11 +54,11 @@ module _ (system n1 n2 n3 : ℕ) where
       → Answerable system n1 n2 n3 × (z ≡ partialNumber system n1 n2 n3)
   answered-only z e =
       let t = tests z e in
-      let m = mixed (ltb 0 (n1 + n2 + n3)) (leb (n1 + n2 + n3) 1000000) (t .1) in (
+      let m = mixture-of (n1 + n2 + n3) (t .1) in (
         record {
           known = t .0;
-          some = ltb→lt 0 (n1 + n2 + n3) (m .0);
-          few = leb→le (n1 + n2 + n3) 1000000 (m .1);
+          some = m .0;
+          few = m .1;
           shares = in-range-only system n1 n2 n3 (t .2);
         },
         t .3,
@@ -69,3 +68,85 @@ module _ (system n1 n2 n3 : ℕ) where
   answered-within z e =
       let (a, q) = answered-only z e in
       subst⁻¹ (λ (u : ℤ). Within u (exactNumber system n1 n2 n3) 19) q (partial-within system n1 n2 n3 (a .some))
+
+-- ---- each refusal
+
+unlike : {A : Type 0} {p q : Partial} → (numberOf p ≡ numberOf q → ⊥) → p ≡ q → A
+unlike h e = absurd (h (ap numberOf e))
+
+module _ (n : ℤ) where
+  abbrev answer : Bool → Bool → Bool → Partial
+  answer b m r = cond b (cond m (cond r (Number n) (Refused 17)) (Refused 12)) (Refused 13)
+
+  to-13 : (b m r : Bool) → answer b m r ≡ Refused 13 → b ≡ false
+  to-13 true true true e = unlike (λ q. omega arith) e
+  to-13 true true false e = unlike (λ q. omega arith) e
+  to-13 true false r e = unlike (λ q. omega arith) e
+  to-13 false m r e = refl
+
+  to-12 : (b m r : Bool) → answer b m r ≡ Refused 12 → (b ≡ true) × (m ≡ false)
+  to-12 true true true e = unlike (λ q. omega arith) e
+  to-12 true true false e = unlike (λ q. omega arith) e
+  to-12 true false r e = (refl, refl)
+  to-12 false m r e = unlike (λ q. omega arith) e
+
+  to-17 : (b m r : Bool) → answer b m r ≡ Refused 17 → (b ≡ true) × (m ≡ true) × (r ≡ false)
+  to-17 true true true e = unlike (λ q. omega arith) e
+  to-17 true true false e = (refl, refl, refl)
+  to-17 true false r e = unlike (λ q. omega arith) e
+  to-17 false m r e = unlike (λ q. omega arith) e
+
+module _ (system n1 n2 n3 : ℕ) where
+  abbrev parts : ℕ
+  parts = n1 + n2 + n3
+
+  abbrev is : Partial → Type 0
+  is p = partialOf system n1 n2 n3 ≡ p
+
+  at : {b m r : Bool} → isSystem system ≡ b → isMixture parts ≡ m → inRange system n1 n2 n3 ≡ r
+      → is (answer (partialNumber system n1 n2 n3) b m r)
+  unfolding partialOf
+  at {b} {m} {r} p q s =
+      ap (λ (u : Bool). answer (partialNumber system n1 n2 n3) u (isMixture parts) (inRange system n1 n2 n3)) p
+      ∙ ap (λ (u : Bool). answer (partialNumber system n1 n2 n3) b u (inRange system n1 n2 n3)) q
+      ∙ ap (λ (u : Bool). answer (partialNumber system n1 n2 n3) b m u) s
+
+  out : ¬ Shares (rangesOf system) n1 n2 n3 → inRange system n1 n2 n3 ≡ false
+  out h = go (inRange system n1 n2 n3) refl
+    where
+      go : (b : Bool) → inRange system n1 n2 n3 ≡ b → b ≡ false
+      go true e = absurd (h (in-range-only system n1 n2 n3 e))
+      go false e = refl
+
+  -- 13: no such system
+  pub refused-13 : (isSystem system ≡ false → is (Refused 13)) × (is (Refused 13) → isSystem system ≡ false)
+  unfolding partialOf
+  refused-13 = (
+    λ h. at {m = isMixture parts} {r = inRange system n1 n2 n3} h refl refl,
+    to-13 (partialNumber system n1 n2 n3) (isSystem system) (isMixture parts) (inRange system n1 n2 n3),
+  )
+
+  -- 12: such a system, and the amounts add up to 0 or to more than 1000000
+  pub refused-12 :
+      ((isSystem system ≡ true) × ((parts ≡ 0) ⊎ (1000000 < parts)) → is (Refused 12))
+      × (is (Refused 12) → (isSystem system ≡ true) × ((parts ≡ 0) ⊎ (1000000 < parts)))
+  unfolding partialOf
+  refused-12 = (
+    λ h. at {r = inRange system n1 n2 n3} (h .0) (⊎-elim (mixture-zero parts) (mixture-above parts) (h .1)) refl,
+    λ e.
+        let t = to-12 (partialNumber system n1 n2 n3) (isSystem system) (isMixture parts) (inRange system n1 n2 n3) e in
+        (t .0, mixture-not parts (t .1)),
+  )
+
+  -- 17: such a system and a mixture, and a share outside its range
+  pub refused-17 :
+      ((isSystem system ≡ true) × (0 < parts) × (parts ≤ 1000000) × ¬ Shares (rangesOf system) n1 n2 n3 → is (Refused 17))
+      × (is (Refused 17) → (isSystem system ≡ true) × (0 < parts) × (parts ≤ 1000000) × ¬ Shares (rangesOf system) n1 n2 n3)
+  unfolding partialOf
+  refused-17 = (
+    λ h. at (h .0) (mixture-yes parts (h .1) (h .2)) (out (h .3)),
+    λ e.
+        let t = to-17 (partialNumber system n1 n2 n3) (isSystem system) (isMixture parts) (inRange system n1 n2 n3) e in
+        let m = mixture-of parts (t .1) in
+        (t .0, m .0, m .1, λ s. absurd (subst T (sym (in-range-when system n1 n2 n3 s) ∙ t .2) tt)),
+  )

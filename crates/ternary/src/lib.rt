@@ -28,7 +28,8 @@ pub enum Partial {
 }
 
 // The partial number of a system at three amounts within its ranges of validity. Refused 13: no system of that number.
-// Refused 12: the amounts add up to 0 or to more than 1000000. Refused 17: a share outside its range.
+// Refused 12: the amounts add up to 0 or to more than 1000000. Refused 17: a share outside its range. The ranges are
+// looked at first, as most amounts lie in them; outside them 13 and 12 still come before 17.
 pub fn partial_number(system: u32, n1: u32, n2: u32, n3: u32) -> Partial
     ensures { λ r. ⌜ r ≡ partialOf system n1 n2 n3 ⌝ }
     ensures { λ r. ⌜ numberOf r ≡ rangedRefusalOf system n1 n2 n3 ⌝ }
@@ -72,6 +73,13 @@ pub fn in_range(system: u32, n1: u32, n2: u32, n3: u32) -> bool
     share_in(r[4], r[5], n3, d)
 }
 
+// Whether amounts of sum d are a mixture's.
+fn is_mixture(d: u64) -> bool
+    ensures { λ r. ⌜ r ≡ isMixture d ⌝ }
+{
+    0 < d && d <= LIMIT
+}
+
 // The amounts, added.
 fn sum(n1: u32, n2: u32, n3: u32) -> u64
     ensures { λ r. ⌜ r ≡ n1 + n2 + n3 ⌝ }
@@ -95,10 +103,10 @@ fn outside(system: u32, d: u64) -> u32
     if !is_system(system) {
         return NO_SYSTEM;
     }
-    if LIMIT < d || d == 0 {
-        return NO_MIXTURE;
+    if is_mixture(d) {
+        return SHARE;
     }
-    SHARE
+    NO_MIXTURE
 }
 
 // The number of one of the systems at n1, n2 and a third amount, of sum d.
@@ -106,8 +114,8 @@ fn of_sum(system: u32, n1: u32, n2: u32, d: u64) -> Partial
     requires { ⌜ (isSystem system ≡ true) × (n1 + n2 ≤ d) ⌝ }
     ensures { λ r. ⌜ r ≡ formulaOf system n1 n2 (d - n1 - n2) ⌝ }
 {
-    if d == 0 || LIMIT < d {
-        return Partial::Refused(NO_MIXTURE);
+    if is_mixture(d) {
+        return Partial::Number(rule::number(system, n1, n2, d));
     }
-    Partial::Number(rule::number(system, n1, n2, d))
+    Partial::Refused(NO_MIXTURE)
 }

@@ -1,5 +1,5 @@
 -- `ternary::partial_number` meets its contract. Assumes nothing.
-use mathlib.Core.Path.{sym, ap, _∙_}
+use mathlib.Core.Path.{sym, _∙_}
 use borrow.Author.Needs.{needs}
 use Rattle.ternary.specs.Answer.{partial-inside}
 use Rattle.ternary.proofs.Shares.{with-ranged, out-of-range}
