@@ -13,7 +13,7 @@ use Rattle.split.specs.declared.Answer.the-variants.{Rated, Refused}
 use Rattle.split.specs.AnswerCases.{numberOf, codeOf, figuresOf, heldOf}
 use Rattle.rating.specs.declared.Outcome.{Outcome}
 use Rattle.demand.specs.Small.{SmallFigures}
-use Rattle.c_reply.specs.Interface.{reply, codeIn, replyOf}
+use Rattle.c_reply.specs.Interface.{codeIn, replyOf}
 use Rattle.c_reply.specs.declared.Reply.{Reply}
 
 -- ---- the figures of a rating
@@ -36,21 +36,9 @@ module _ (x : Answer) (w : ℤ) (s r : ℕ) (e : x ≡ Rated w s r) where
       ∙ ap (λ (z : ℤ). w ∷ pos s ∷ z ∷ []) (toZ-ofZ w64 (pos r) few)
       ∙ sym (ap (λ (y : Answer). figuresOf y l) e)
 
-  pub reply-done : reply 0 0 ≡ replyOf x
-  reply-done = sym (ap replyOf e)
-
 module _ (x : Answer) (number place : ℕ) (e : x ≡ Refused number place) where
-  pub reply-refused : reply number place ≡ replyOf x
-  reply-refused = sym (ap replyOf e)
-
   pub figures-left : (l : List ℤ) → l ≡ figuresOf x l
   figures-left l = sym (ap (λ (y : Answer). figuresOf y l) e)
-
-  pub left : {A : Type 0} → (new old : A) → old ≡ heldOf x new old
-  left new old = sym (ap (λ (y : Answer). heldOf y new old) e)
-
-pub put : (x : Answer) (w : ℤ) (s r : ℕ) → x ≡ Rated w s r → {A : Type 0} → (new old : A) → new ≡ heldOf x new old
-put x w s r e new old = sym (ap (λ (y : Answer). heldOf y new old) e)
 
 -- ---- number and place tell the code that 5 carries
 

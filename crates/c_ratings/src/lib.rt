@@ -13,6 +13,8 @@ ghost use Rattle.c_reply.specs.Interface.{codeIn, replyOf, splitFrom};
 use analysis::Analysis;
 use analysis::CODES;
 use c_reply::Reply;
+use c_reply::put_split;
+use c_reply::reply_of;
 use c_reply::split_from;
 use rating::Outcome;
 use sheet::RECORDS;
@@ -47,23 +49,6 @@ fn proposed(amounts: [u32; CODES], split: Split) -> Answer
     rating::rate_split(Analysis { amounts }, split)
 }
 
-// The reply of a rating, or of its refusal.
-fn reply_of(answer: Answer) -> Reply
-    ensures { λ r. ⌜ r ≡ replyOf answer ⌝ }
-{
-    match answer {
-        Answer::Rated {
-            rating: _,
-            spread: _,
-            rounds: _,
-        } => Reply {
-            number: 0,
-            place: 0,
-        },
-        Answer::Refused { number, place } => Reply { number, place },
-    }
-}
-
 // The figures of a rating; a refusal leaves them.
 fn put_figures(answer: Answer, figures: &mut [i64; FIGURES])
     requires { ⌜ SmallFigures answer ⌝ }
@@ -77,36 +62,6 @@ fn put_figures(answer: Answer, figures: &mut [i64; FIGURES])
         let signed_spread = spread as i64;
         let signed_rounds = rounds as i64;
         *figures = [rating, signed_spread, signed_rounds];
-    }
-}
-
-// The split beside a rating; a refusal leaves count and columns.
-fn put_split(
-    answer: Answer,
-    split: Split,
-    count: &mut usize,
-    systems: &mut [u8; RECORDS],
-    codes: &mut [u8; RECORDS],
-    parts: &mut [u32; RECORDS],
-)
-    ensures { λ _. ⌜ (now (count .exit) ≡ heldOf answer (split .count) (now (count .entry)))
-        × (now (systems .exit) ≡ heldOf answer (split .systems) (now (systems .entry)))
-        × (now (codes .exit) ≡ heldOf answer (split .codes) (now (codes .entry)))
-        × (now (parts .exit) ≡ heldOf answer (split .amounts) (now (parts .entry))) ⌝ }
-{
-    let found_count = split.count;
-    let found_systems = split.systems;
-    let found_codes = split.codes;
-    let found_parts = split.amounts;
-    if let Answer::Rated {
-        rating: _,
-        spread: _,
-        rounds: _,
-    } = answer {
-        *count = found_count;
-        *systems = found_systems;
-        *codes = found_codes;
-        *parts = found_parts;
     }
 }
 

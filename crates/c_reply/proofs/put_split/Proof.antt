@@ -1,8 +1,8 @@
--- `c_ratings::put_split` meets its contract. Assumes nothing.
-use Rattle.c_ratings.proofs.Cases.{put, left}
+-- `c_reply::put_split` meets its contract. Assumes nothing.
+use Rattle.c_reply.proofs.Cases.{put, left}
 use borrow.Author.Needs.{needs}
-use Rattle.c_ratings.proofs.put_split.Statement.{statement}
-use Rattle.c_ratings.proofs.put_split.Tie as tie
+use Rattle.c_reply.proofs.put_split.Statement.{statement}
+use Rattle.c_reply.proofs.put_split.Tie as tie
 
 enum-told : tie.Need-enum-told
 enum-told c = search needs

@@ -1,8 +1,8 @@
--- `c_ratings::reply_of` meets its contract. Assumes nothing.
-use Rattle.c_ratings.proofs.Cases.{reply-done, reply-refused}
+-- `c_reply::reply_of` meets its contract. Assumes nothing.
+use Rattle.c_reply.proofs.Cases.{reply-done, reply-refused}
 use borrow.Author.Needs.{needs}
-use Rattle.c_ratings.proofs.reply_of.Statement.{statement}
-use Rattle.c_ratings.proofs.reply_of.Tie as tie
+use Rattle.c_reply.proofs.reply_of.Statement.{statement}
+use Rattle.c_reply.proofs.reply_of.Tie as tie
 
 enum-told : tie.Need-enum-told
 enum-told c = search needs
