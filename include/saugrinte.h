@@ -36,7 +36,7 @@
 extern "C" {
 #endif
 
-#define SAUGRINTE_VERSION 10000     /* of this header, 1.0.0: 10000, 100 and 1 times its three figures */
+#define SAUGRINTE_VERSION 10100     /* of this header, 1.1.0: 10000, 100 and 1 times its three figures */
 
 #define SAUGRINTE_CODES 16          /* entries of an analysis, one for each code from 0 to 15 */
 #define SAUGRINTE_RECORDS 21        /* room for a split's records */
@@ -58,8 +58,9 @@ enum {
     SAUGRINTE_WIDE = 10,            /* wide: the split's spread is above 500000 units */
     SAUGRINTE_UNBALANCED = 11,      /* unbalanced: no split within that spread was found */
     SAUGRINTE_NO_MIXTURE = 12,      /* no mixture: amounts whose sum is 0 or above 1000000 */
-    SAUGRINTE_NO_SYSTEM = 13,       /* no system: not one of 2, 4, 7, 8, 20 */
-    SAUGRINTE_SHORT_BLANK = 14      /* short blank: the writer's buffer is too short */
+    SAUGRINTE_NO_SYSTEM = 13,       /* no system: not one of those below, at saugrinte_partial_number */
+    SAUGRINTE_SHORT_BLANK = 14,     /* short blank: the writer's buffer is too short */
+    SAUGRINTE_SHARE = 17            /* share: a share outside the system's range of validity */
 };
 
 /* Component codes; 9 and 13 are retired and never given again. */
@@ -133,9 +134,32 @@ saugrinte_answer saugrinte_rate_split(const uint32_t amounts[SAUGRINTE_CODES], s
                                       const uint8_t codes[SAUGRINTE_RECORDS],
                                       const uint32_t parts[SAUGRINTE_RECORDS], saugrinte_figures *figures);
 
-/* The partial number, in units, of a system (2, 4, 7, 8, 20) at amounts n1, n2, n3 in the order of its formula.
+/* The partial number, in units, of a system at amounts n1, n2, n3 of its components. These stand here in the order of
+   the formula, each with its range of validity: the least and the greatest share, in percent, that its amount may have
+   of n1 + n2 + n3. The systems are those of EN 16726 Table A.2; 9, 10 and 11 are left out, for their coefficients, each
+   times 100^(k+l), add up to more than 200000 methane numbers:
+
+     system  n1                      n2                    n3
+          1  methane 0..100          hydrogen 0..100       ethane 0..100
+          2  propane 0..100          ethane 0..100         butane 0..100
+          3  hydrogen 0..100         propane 0..100        propylene 0..100
+          4  methane 0..100          ethane 0..100         propane 0..100
+          5  methane 0..100          hydrogen 0..100       propane 0..100
+          6  methane 0..100          hydrogen 0..100       butane 0..100
+          7  methane 0..100          propane 0..100        butane 0..100
+          8  methane 0..100          ethane 0..100         butane 0..100
+         12  methane 0..100          propylene 0..100      none 0..0
+         13  ethane 0..100           propylene 0..100      none 0..0
+         14  carbon monoxide 0..100  hydrogen 0..100       none 0..0
+         15  ethane 0..100           ethylene 0..100       none 0..0
+         16  propane 0..100          ethylene 0..100       none 0..0
+         17  butadiene 100..100      none 0..0             none 0..0
+         18  butylene 100..100       none 0..0             none 0..0
+         20  methane 50..100         carbon dioxide 0..30  nitrogen 0..50
+
+   Ratings do not test these ranges.
    Done: *number holds it.
-   Refused 13, then 12: *number is unchanged. */
+   Refused 13, then 12, then 17: *number is unchanged. */
 saugrinte_answer saugrinte_partial_number(uint32_t system, uint32_t n1, uint32_t n2, uint32_t n3,
                                           int64_t *number);
 

@@ -329,6 +329,10 @@ def at_no_code(draw, analysis):
     return tuple(a)
 
 
+def system_word(system):
+    return '%d' % system if system in ref.SHARES or system in NO_SYSTEMS else 'no system'
+
+
 def call_cases(cases, seed, sheets):
     """The single calls; so many for so many sheets."""
     draw = gases.Draw(seed + 1)
@@ -346,7 +350,7 @@ def call_cases(cases, seed, sheets):
             kind = 'rate split, another count'
         cases.split(kind, analysis, count, records, rate_split(analysis, count, records))
     for case in itertools.islice(gases.partial_cases(seed), sheets // 5):
-        cases.partial('partial number, ' + ('%d' % case[0] if case[0] in ref.TABLE_SYSTEMS else 'no system'), *case)
+        cases.partial('partial number, ' + system_word(case[0]), *case)
     for analysis, records, room in itertools.islice(gases.writer_cases(seed), sheets // 20):
         kind = 'write, a split' if records else 'write, no split'
         if draw.one_in(32):
@@ -442,6 +446,8 @@ def part_cases(seed, sheets, first):
     exact, cases = Exact(seed), Cases()
     if first:
         kept_cases(cases, exact)
+        for case in gases.share_cases(seed):
+            cases.partial('ends of shares, ' + system_word(case[0]), *case)
     seldom_cases(cases, exact, seed)
     call_cases(cases, seed, sheets)
     for kind, sheet in itertools.islice(gases.sheets(seed, SEARCH_ONE_IN), sheets):
@@ -475,8 +481,11 @@ def show(tally):
 
 # ------------------------------------------------------------ how often each kind of case must occur
 
+# Numbers of no system, each with a kind of its own; the systems themselves stand in LEAST.
+NO_SYSTEMS = 0, 9, 10, 11, 19, 21, U32 - 1
+
 # Of DEFAULT_SHEETS sheets: for each kind the numbers (0 for an answer) and how often at least, about half of what the
-# seed gives; of the cases kept in tests/data all.
+# seed gives; of the ends of shares and of the cases kept in tests/data all.
 LEAST = {
     # sheets without a split
     'search even_gas': {0: 300, 11: 5},
@@ -532,12 +541,16 @@ LEAST = {
     'rate split wrap': {8: 400},
     'rate split, amount at no code': {5: 150},
     'rate split, another count': {7: 100},
-    'partial number, 2': {0: 1000, 12: 400},
-    'partial number, 4': {0: 1000, 12: 400},
-    'partial number, 7': {0: 1000, 12: 400},
-    'partial number, 8': {0: 1000, 12: 400},
-    'partial number, 20': {0: 1000, 12: 400},
-    'partial number, no system': {13: 1000},
+    **{'partial number, %d' % s: {0: 350, 12: 130} for s in range(1, 9)},
+    **{'partial number, %d' % s: {0: 250, 12: 130, 17: 70} for s in (*range(12, 19), 20)},
+    **{'partial number, %d' % s: {13: 75} for s in NO_SYSTEMS},
+    'partial number, no system': {13: 500},
+    # all of them, at the ends of each range and beyond
+    **{'ends of shares, %d' % s: {0: 48, 12: 22} for s in range(1, 9)},
+    **{'ends of shares, %d' % s: {0: 48, 12: 23, 17: 8} for s in range(12, 17)},
+    **{'ends of shares, %d' % s: {0: 48, 12: 25, 17: 24} for s in (17, 18, 20)},
+    **{'ends of shares, %d' % s: {13: 6} for s in NO_SYSTEMS},
+    'ends of shares, no system': {13: 30},
     'write, no split': {0: 250, 5: 40, 6: 20, 14: 200},
     'write, a split': {0: 700, 5: 100, 6: 70, 14: 800},
     'write, amount at no code': {5: 70},
@@ -554,8 +567,9 @@ LEAST = {
     'kept: passes-500001': {0: 28, 11: 4},
     'kept: would-empty': {11: 24},
 }
-# Each number from 0 to 14, of all kinds together; and ratings compared with the exact fraction.
-LEAST_NUMBERS = (70000, 15000, 4000, 4000, 8000, 10000, 6000, 3000, 9000, 1500, 6000, 400, 2000, 1000, 8000)
+# Each number, of all kinds together; and ratings compared with the exact fraction.
+LEAST_NUMBERS = {0: 70000, 1: 15000, 2: 4000, 3: 4000, 4: 8000, 5: 10000, 6: 6000, 7: 3000, 8: 9000, 9: 1500, 10: 6000,
+                 11: 400, 12: 2000, 13: 1000, 14: 8000, 17: 700}
 LEAST_EXACT = 3000
 
 
@@ -567,7 +581,7 @@ def too_few(tally, compared):
         for number, least in numbers.items():
             if tally.get((kind, number), 0) < least:
                 yield '%s, number %d: %d times, not %d' % (kind, number, tally.get((kind, number), 0), least)
-    for number, least in enumerate(LEAST_NUMBERS):
+    for number, least in LEAST_NUMBERS.items():
         times = sum(n for (_, other), n in tally.items() if other == number)
         if times < least:
             yield 'number %d: %d times, not %d' % (number, times, least)

@@ -14,6 +14,7 @@ import sys
 
 ROOT = os.path.join(os.path.dirname(os.path.abspath(__file__)), '..')
 RETIRED, SPLITS_ONLY = 'retired', 'splitsOnly'
+NOT_YET = {15, 16}          # refusals of requests that have not landed (Two and Five)
 OTHER_ROOM = {'LISTED': 12, 'LONGEST_SPLIT': 21}     # what SAUGRINTE_SHEET leaves room for (requests Five and Seven)
 
 
@@ -121,8 +122,8 @@ def main():
     for name, n in refusals.items():
         if not re.search(r'SAUGRINTE_%s = %d,? +/\* %s: ' % (name, n, words[n]), header):
             fail('refusal %d is without its word' % n)
-    if sorted(words) != list(range(1, len(words) + 1)):
-        fail('refusals are not numbered from 1')
+    if sorted([*words, *NOT_YET]) != list(range(1, len(words) + len(NOT_YET) + 1)):
+        fail('refusals are not numbered from 1, with %s left free' % sorted(NOT_YET))
 
     # component codes: the register's entries, each under its name
     register = text('crates', 'analysis', 'specs', 'Register.antt')

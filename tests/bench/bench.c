@@ -1,14 +1,17 @@
 /* Times the C interface. Linked once with the library and once with the plain C program; tests/bench/run asks both
    in turn for the same chunks of the same input.
 
-     bench GASES       GASES: a file with an amount for each code from 0 on a line, one gas each
+     bench GASES MIXTURES
+       GASES: a file with an amount for each code from 0 on a line, one gas each
+       MIXTURES: a file with a system and its three amounts on a line
 
    Commands on standard input, one answer line each:
      rounds                        the rounds that each gas needs, -1 where it is refused
      search FIRST COUNT ALLOWANCE  rate so many gases by the search
      sheet FIRST COUNT             rate so many sheets, reading included
      split FIRST COUNT             rate the found splits of so many gases
-     partial SYSTEM SEED COUNT     so many partial numbers of one system
+     partial FIRST COUNT           so many mixtures' partial numbers
+     refused FIRST COUNT           how many of these are refused
    The answer is the nanoseconds of processor time and a sum over all answers, which must not depend on who gives
    them. */
 #define _POSIX_C_SOURCE 199309L
@@ -29,8 +32,14 @@ typedef struct {
     int64_t rounds;
 } gas;
 
+typedef struct {
+    uint32_t system, n1, n2, n3;
+} mixture;
+
 static gas *gases;
 static size_t count;
+static mixture *mixtures;
+static size_t mixture_count;
 
 static void fail(const char *why)
 {
@@ -50,13 +59,43 @@ static uint64_t mixed(uint64_t sum, uint64_t value)
     return (sum ^ value) * 0x9E3779B97F4A7C15u + (sum >> 29);
 }
 
-static void load(const char *path)
+static FILE *opened(const char *path)
 {
     FILE *f = fopen(path, "r");
+    if (!f)
+        fail("a file is not there");
+    return f;
+}
+
+/* Room for one more. */
+static void *grown(void *all, size_t number, size_t *room, size_t size)
+{
+    if (number < *room)
+        return all;
+    *room = *room ? 2 * *room : 1024;
+    all = realloc(all, *room * size);
+    if (!all)
+        fail("no memory");
+    return all;
+}
+
+static void load_mixtures(const char *path)
+{
+    FILE *f = opened(path);
+    size_t room = 0;
+    mixture m;
+    while (fscanf(f, "%" SCNu32 "%" SCNu32 "%" SCNu32 "%" SCNu32, &m.system, &m.n1, &m.n2, &m.n3) == 4) {
+        mixtures = grown(mixtures, mixture_count, &room, sizeof m);
+        mixtures[mixture_count++] = m;
+    }
+    fclose(f);
+}
+
+static void load(const char *path)
+{
+    FILE *f = opened(path);
     size_t room = 0;
     gas g;
-    if (!f)
-        fail("the file of gases is not there");
     for (;;) {
         memset(&g, 0, sizeof g);
         for (int c = 0; c < SAUGRINTE_CODES; c++)
@@ -70,12 +109,7 @@ static void load(const char *path)
         saugrinte_answer answer = saugrinte_search(g.amounts, SAUGRINTE_ROUNDS, &figures, &g.count, g.systems, g.codes,
                                                    g.parts);
         g.rounds = answer.number ? -1 : figures.rounds;
-        if (count == room) {
-            room = room ? 2 * room : 1024;
-            gases = realloc(gases, room * sizeof *gases);
-            if (!gases)
-                fail("no memory");
-        }
+        gases = grown(gases, count, &room, sizeof g);
         gases[count++] = g;
     }
 }
@@ -120,17 +154,25 @@ static uint64_t split(size_t first, size_t last)
     return sum;
 }
 
-static uint64_t partial(uint32_t system, uint64_t seed, size_t times)
+static uint64_t partial(size_t first, size_t last)
 {
-    uint64_t sum = 0, x = seed * 2 + 1;
-    for (size_t i = 0; i < times; i++) {
+    uint64_t sum = 0;
+    for (size_t i = first; i < last; i++) {
+        const mixture *m = &mixtures[i];
         int64_t number = 0;
-        x ^= x << 13;
-        x ^= x >> 7;
-        x ^= x << 17;
-        uint32_t n1 = (uint32_t)(x & 0x7FFFF), n2 = (uint32_t)(x >> 20 & 0x3FFFF), n3 = (uint32_t)(x >> 40 & 0x1FFFF);
-        saugrinte_answer answer = saugrinte_partial_number(system, n1, n2, n3, &number);
+        saugrinte_answer answer = saugrinte_partial_number(m->system, m->n1, m->n2, m->n3, &number);
         sum = mixed(sum, (uint64_t)number + answer.number);
+    }
+    return sum;
+}
+
+static uint64_t refused(size_t first, size_t last)
+{
+    uint64_t sum = 0;
+    for (size_t i = first; i < last; i++) {
+        const mixture *m = &mixtures[i];
+        int64_t number;
+        sum += saugrinte_partial_number(m->system, m->n1, m->n2, m->n3, &number).number != 0;
     }
     return sum;
 }
@@ -138,10 +180,11 @@ static uint64_t partial(uint32_t system, uint64_t seed, size_t times)
 int main(int words, char **word)
 {
     char name[16];
-    unsigned long a, b, c;
-    if (words != 2)
-        fail("usage: bench GASES");
+    unsigned long a, b, c = 0;
+    if (words != 3)
+        fail("usage: bench GASES MIXTURES");
     load(word[1]);
+    load_mixtures(word[2]);
     while (scanf("%15s", name) == 1) {
         uint64_t sum = 0;
         int64_t begin = 0, end = 0;
@@ -154,12 +197,10 @@ int main(int words, char **word)
         }
         if (scanf("%lu %lu", &a, &b) != 2)
             fail("a number is missing");
-        if (!strcmp(name, "partial") || !strcmp(name, "search")) {
-            if (scanf("%lu", &c) != 1)
-                fail("a number is missing");
-        }
-        if (strcmp(name, "partial") && a + b > count)
-            fail("no such gas");
+        if (!strcmp(name, "search") && scanf("%lu", &c) != 1)
+            fail("a number is missing");
+        if (a + b > (!strcmp(name, "partial") || !strcmp(name, "refused") ? mixture_count : count))
+            fail("no such gas or mixture");
         begin = now();
         if (!strcmp(name, "search"))
             sum = search(a, a + b, (uint32_t)c);
@@ -168,7 +209,9 @@ int main(int words, char **word)
         else if (!strcmp(name, "split"))
             sum = split(a, a + b);
         else if (!strcmp(name, "partial"))
-            sum = partial((uint32_t)a, b, c);
+            sum = partial(a, a + b);
+        else if (!strcmp(name, "refused"))
+            sum = refused(a, a + b);
         else
             fail("no such command");
         end = now();

@@ -5,7 +5,7 @@
 #include "saugrinte.h"
 
 enum { TORN = 1, UNKNOWN, RETIRED, OUT_OF_ORDER, OUT_OF_RANGE, TOTAL, MISFIT, UNSUMMED, EMPTY_SYSTEM, WIDE,
-       UNBALANCED, NO_MIXTURE, NO_SYSTEM, SHORT_BLANK };
+       UNBALANCED, NO_MIXTURE, NO_SYSTEM, SHORT_BLANK, SHARE = 17 };
 
 enum { CODES = SAUGRINTE_CODES, ROOM = SAUGRINTE_RECORDS, ROUNDS = SAUGRINTE_ROUNDS };
 
@@ -15,8 +15,8 @@ enum { RECORDS = 9 };
 /* Components of the simplified mixture. */
 enum { METHANE, ETHANE, PROPANE, BUTANE, COMPONENTS };
 
-/* The four systems to choose from, in the order of their numbers 2, 4, 7, 8; the inert system is 20. */
-enum { CANDIDATES = 4, INERT = 4, CHOSEN = 3, MEMBERS = 3 };
+/* The four systems to choose from, in the order of their numbers 2, 4, 7, 8; the inert system, 20; the others. */
+enum { CANDIDATES = 4, INERT = 4, SYSTEMS = 16, CHOSEN = 3, MEMBERS = 3 };
 
 #define WHOLE 1000000
 #define LIMIT 500000
@@ -68,11 +68,12 @@ static saugrinte_answer check(const uint32_t amounts[CODES])
     return done;
 }
 
-/* ---- partial numbers (001 Table 5, in units; a(2,2) of system 20 as in 000) ---- */
+/* ---- partial numbers (in units: 001 Table 5, a(2,2) of system 20 as in 000; the others 000 Table A.2) ---- */
 
 static const int highest[8] = { 6, 3, 2, 1, 0, 0, 0, 0 };
 
-static const int64_t coefficients[CANDIDATES + 1][8][7] = {
+/* Systems 9, 10 and 11 are left out: the magnitudes in each of them add up to more than 2000000000000. */
+static const int64_t coefficients[SYSTEMS][8][7] = {
     { /* 2: propane, ethane, butane */
         { 102451300, 149821300, 513697100, -568561500, 240394800, 0, 0 },
         { 85906610, 957050400, -458027700, -314015700 },
@@ -123,6 +124,116 @@ static const int64_t coefficients[CANDIDATES + 1][8][7] = {
         { 261057000000 },
         { -61439140000 },
     },
+    { /* 1: methane, hydrogen, ethane */
+        { 436281900, -10488580, -432027400, 685074200, -671380200, 0, 0 },
+        { -92508870, -250077300, -535280100, 297065800 },
+        { 1644927000, -604869600, 1210969000 },
+        { -3119169000, 2199370000 },
+        { 2122334000 },
+        { 0 },
+        { 0 },
+        { 0 },
+    },
+    { /* 3: hydrogen, propane, propylene */
+        { 186279400, 108710900, 179850000, -258366700, 119878900, 0, 0 },
+        { -120358100, -130506300, 856137600, -626261300 },
+        { 1929801000, 299044700, -685464600 },
+        { -13018080000, 200112400 },
+        { 41692950000 },
+        { -69526380000 },
+        { 57989840000 },
+        { -19133740000 },
+    },
+    { /* 5: methane, hydrogen, propane */
+        { 347580400, 54737050, -1056781000, 2289769000, -1634024000, 0, 0 },
+        { -519490500, 2642531000, -3555327000, 748608500 },
+        { 4405446000, -10846450000, 7987488000 },
+        { -8743329000, 11309800000 },
+        { 5476742000 },
+        { 0 },
+        { 0 },
+        { 0 },
+    },
+    { /* 6: methane, hydrogen, butane */
+        { 122990200, -451037000, 1786630000, -1427912000, 0, 0, 0 },
+        { -751820700, 5126147000, -10022400000, 5249888000 },
+        { 5143333000, -16406520000, 15763060000 },
+        { -10241590000, 15661210000 },
+        { 6699563000 },
+        { 0 },
+        { 0 },
+        { 0 },
+    },
+    { /* 12: methane, propylene */
+        { 590955150, -3406924000, 15370325000, -36748700000, 46273625000, -29054230000, 7163830000 },
+        { 106027050, 0, 0, 0 },
+        { -318848300, 0, 0 },
+        { -1080121000, 0 },
+        { 8459930000 },
+        { -13928745000 },
+        { 7163830000 },
+        { 0 },
+    },
+    { /* 13: ethane, propylene */
+        { 315507000, -177068750, 48659675, 0, 0, 0, 0 },
+        { 79749400, 0, 0, 0 },
+        { 48659675, 0, 0 },
+        { 0, 0 },
+        { 0 },
+        { 0 },
+        { 0 },
+        { 0 },
+    },
+    { /* 14: carbon monoxide, hydrogen */
+        { 0, 0, 0, 0, 0, 0, 0 },
+        { 1500000000, -750000000, 0, 0 },
+        { -750000000, 0, 0 },
+        { 0, 0 },
+        { 0 },
+        { 0 },
+        { 0 },
+        { 0 },
+    },
+    { /* 15: ethane, ethylene */
+        { 296555950, -123444050, -23601400, 0, 0, 0, 0 },
+        { 170646850, 0, 0, 0 },
+        { -23601400, 0, 0 },
+        { 0, 0 },
+        { 0 },
+        { 0 },
+        { 0 },
+        { 0 },
+    },
+    { /* 16: propane, ethylene */
+        { 244947550, -54597900, -41083915, 0, 0, 0, 0 },
+        { 136765750, 0, 0, 0 },
+        { -41083915, 0, 0 },
+        { 0, 0 },
+        { 0 },
+        { 0 },
+        { 0 },
+        { 0 },
+    },
+    { /* 17: butadiene */
+        { 120000000, 0, 0, 0, 0, 0, 0 },
+        { 0, 0, 0, 0 },
+        { 0, 0, 0 },
+        { 0, 0 },
+        { 0 },
+        { 0 },
+        { 0 },
+        { 0 },
+    },
+    { /* 18: butylene */
+        { 200000000, 0, 0, 0, 0, 0, 0 },
+        { 0, 0, 0, 0 },
+        { 0, 0, 0 },
+        { 0, 0 },
+        { 0 },
+        { 0 },
+        { 0 },
+        { 0 },
+    },
 };
 
 static int64_t partial_number(int system, int64_t n1, int64_t n2, int64_t n3)
@@ -137,6 +248,47 @@ static int64_t partial_number(int system, int64_t n1, int64_t n2, int64_t n3)
         number = k == 7 ? inner : number * n1 / d + inner;
     }
     return number;
+}
+
+/* ---- ranges of validity (000 Table A.2), which a single system's call tests ---- */
+
+/* The place of a system's coefficients and shares, by its number. */
+enum { NONE = 255 };
+static const uint8_t places[21] = {
+    NONE, 5, 0, 6, 1, 7, 8, 2, 3, NONE, NONE, NONE, 9, 10, 11, 12, 13, 14, 15, NONE, INERT,
+};
+
+/* Least and greatest share of a component, in percent. */
+typedef struct {
+    uint8_t least, greatest;
+} range;
+
+#define ANY { 0, 100 }
+#define BLANK { 0, 0 }
+#define ALL { 100, 100 }
+
+static const range shares[SYSTEMS][MEMBERS] = {
+    { ANY, ANY, ANY },                      /* 2 */
+    { ANY, ANY, ANY },                      /* 4 */
+    { ANY, ANY, ANY },                      /* 7 */
+    { ANY, ANY, ANY },                      /* 8 */
+    { { 50, 100 }, { 0, 30 }, { 0, 50 } },  /* 20 */
+    { ANY, ANY, ANY },                      /* 1 */
+    { ANY, ANY, ANY },                      /* 3 */
+    { ANY, ANY, ANY },                      /* 5 */
+    { ANY, ANY, ANY },                      /* 6 */
+    { ANY, ANY, BLANK },                    /* 12 */
+    { ANY, ANY, BLANK },                    /* 13 */
+    { ANY, ANY, BLANK },                    /* 14 */
+    { ANY, ANY, BLANK },                    /* 15 */
+    { ANY, ANY, BLANK },                    /* 16 */
+    { ALL, BLANK, BLANK },                  /* 17 */
+    { ALL, BLANK, BLANK },                  /* 18 */
+};
+
+static int in_share(range r, uint64_t n, uint64_t d)
+{
+    return r.least * d <= 100 * n && 100 * n <= r.greatest * d;
 }
 
 /* ---- simplification and the inert mixture (000 A.3.1) ---- */
@@ -179,7 +331,7 @@ static mixture simplify(const uint32_t amounts[CODES])
 
 /* ---- choice of systems (000 A.3.2) ---- */
 
-static const int system_numbers[CANDIDATES + 1] = { 2, 4, 7, 8, 20 };
+static const int system_numbers[CANDIDATES] = { 2, 4, 7, 8 };
 
 /* Members as named: the first two are the formula's variables. */
 static const int formula[CANDIDATES][MEMBERS] = {
@@ -531,15 +683,16 @@ saugrinte_answer saugrinte_rate_split(const uint32_t amounts[CODES], size_t coun
 
 saugrinte_answer saugrinte_partial_number(uint32_t system, uint32_t n1, uint32_t n2, uint32_t n3, int64_t *number)
 {
-    for (int s = 0; s < CANDIDATES + 1; s++)
-        if (system == (uint32_t)system_numbers[s]) {
-            uint64_t d = (uint64_t)n1 + n2 + n3;
-            if (d == 0 || d > WHOLE)
-                return refused(NO_MIXTURE, 0);
-            *number = partial_number(s, n1, n2, n3);
-            return done;
-        }
-    return refused(NO_SYSTEM, 0);
+    if (system >= sizeof places || places[system] == NONE)
+        return refused(NO_SYSTEM, 0);
+    uint64_t d = (uint64_t)n1 + n2 + n3;
+    if (d == 0 || d > WHOLE)
+        return refused(NO_MIXTURE, 0);
+    int s = places[system];
+    if (!in_share(shares[s][0], n1, d) || !in_share(shares[s][1], n2, d) || !in_share(shares[s][2], n3, d))
+        return refused(SHARE, 0);
+    *number = partial_number(s, n1, n2, n3);
+    return done;
 }
 
 saugrinte_answer saugrinte_read(const uint8_t *sheet, size_t length, uint32_t amounts[CODES], size_t *count,

@@ -5,6 +5,7 @@ answer(sheet)       the reference's answer to one sheet
 search_cases(seed)  yields (analysis, allowance); answers by saugrinte.search
 split_cases(seed)   yields (kind, analysis, records); by saugrinte.rate_split
 partial_cases(seed) yields (system, n1, n2, n3); by saugrinte.partial_number
+share_cases(seed)   the same, at the ends of the systems' ranges; comes to an end
 writer_cases(seed)  yields (analysis, split or None, buffer size)
 
 Command line:
@@ -558,13 +559,53 @@ def split_cases(seed):
         yield kind, analysis, records
 
 
+NO_SYSTEMS = (0, 9, 10, 11, 19, 21, U32 - 1)
+# The same as a system in their last 8, 16 or 24 binary digits.
+LONG_SYSTEMS = (258, 276, 65540, (1 << 24) + 7, (1 << 31) + 8)
+
+
+def whole_shares(system, d):
+    """Least and greatest amount of each component at the sum d."""
+    return [(-(-least * d // 100), greatest * d // 100)
+            for least, greatest in ref.SHARES[system]]
+
+
+def filled(draw, system, place, n, d):
+    """Amounts of sum d with n at one place; the two others in their ranges
+    where that can be."""
+    ends = whole_shares(system, d)
+    i, j = (p for p in range(3) if p != place)
+    rest = d - n
+    least = max(ends[i][0], rest - ends[j][1], 0)
+    greatest = min(ends[i][1], rest - ends[j][0], rest)
+    out = [n, n, n]
+    out[i] = (draw.between(least, greatest) if least <= greatest
+              else min(ends[i][1], rest))
+    out[j] = rest - out[i]
+    return tuple(out)
+
+
+def mixture(draw, system, d):
+    """Amounts of sum d with every share in its range."""
+    x, y, z = whole_shares(system, d)
+    least, greatest = max(x[0], d - y[1] - z[1]), min(x[1], d - y[0] - z[0])
+    return filled(draw, system, 0, draw.between(least, greatest), d)
+
+
+def any_mixture(draw, d):
+    """Amounts of sum d, whatever the shares."""
+    n1 = draw.pick((0, d, draw.between(0, d)))
+    n2 = draw.pick((0, d - n1, draw.between(0, d - n1)))
+    return n1, n2, d - n1 - n2
+
+
 def partial_cases(seed):
-    """Legal ones in the main; other systems, d of 0, above 1000000, and sums
-    that wrap 2^32."""
+    """In range in the main; no systems, shares out of range, d of 0, above
+    1000000, and sums that wrap 2^32."""
     draw = Draw(seed)
     while True:
-        system = draw.pick((2, 4, 7, 8, 20)) if not draw.one_in(8) \
-            else draw.pick((0, 1, 3, 5, 6, 9, 19, 21, 255, draw.below(256)))
+        system = draw.pick(tuple(ref.SHARES)) if not draw.one_in(8) \
+            else draw.pick((*NO_SYSTEMS, *LONG_SYSTEMS, draw.below(256)))
         which = draw.below(16)
         if which == 0:
             n = (0, 0, 0)
@@ -577,10 +618,35 @@ def partial_cases(seed):
             d = draw.pick((1, 2, 3, 999999, 1000000, 1000001,
                            draw.between(1, 1000000), 1000000,
                            draw.between(1, 1000)))
-            n1 = draw.pick((0, d, draw.between(0, d)))
-            n2 = draw.pick((0, d - n1, draw.between(0, d - n1)))
-            n = (n1, n2, d - n1 - n2)
+            n = mixture(draw, system, d) \
+                if system in ref.SHARES and which < 9 \
+                else any_mixture(draw, d)
         yield (system, *n)
+
+
+def share_cases(seed):
+    """For every system, at several sums: each share at each end of its range,
+    or as near to it as whole parts can be, and one part beyond it.  Then sums
+    of 0, and large amounts, also such that wrap 2^32 to a sum of 100."""
+    draw = Draw(seed)
+    for system in ref.SHARES:
+        for d in (1, 2, 20, 100, 999999, 1000000, 1000001,
+                  100 * draw.between(2, 9999), draw.between(3, 999998)):
+            for place, ends in enumerate(whole_shares(system, d)):
+                for n, beyond in zip(ends, (-1, 1)):
+                    yield (system, *filled(draw, system, place, n, d))
+                    if 0 <= n + beyond <= d:
+                        yield (system, *filled(draw, system, place, n + beyond,
+                                               d))
+        yield system, 0, 0, 0
+        for large in (U32 - 1, U32 // 100, U32 // 100 + 1):
+            for n in ((large, 0, 0), (0, large, 0), (0, 0, large),
+                      (large, large, large), (large, U32 - large + 100, 0)):
+                yield (system, *n)
+    for system in (*NO_SYSTEMS, *LONG_SYSTEMS):
+        for n in ((0, 0, 0), (1000000, 0, 0), (0, 0, 1), (1000001, 0, 0),
+                  (U32 - 1, U32 - 1, U32 - 1), (800000, 150000, 50000)):
+            yield (system, *n)
 
 
 def writer_cases(seed):

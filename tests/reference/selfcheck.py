@@ -1,9 +1,11 @@
 """Checks the reference against document 01: the figures given there, the
-limits of 19 and 40 units, found splits put back, and sums.
+limits of 19 and 40 units, found splits put back, and sums; and against request
+Six of document 02: the systems, their rule and their ranges.
 
 selfcheck.py [SEED [GASES]]     default 1 and 300
 """
 
+import itertools
 import os
 import sys
 from fractions import Fraction
@@ -112,7 +114,7 @@ def refusals():
     records[4], records[2] = (7, 3, 1), (4, 3, p - 1)
     assert ref.rate_split(A1, records) == Refusal(10)
 
-    assert ref.partial_number(3, 0, 0, 0) == Refusal(13)
+    assert ref.partial_number(9, 0, 0, 0) == Refusal(13)
     assert ref.partial_number(4, 0, 0, 0) == Refusal(12)
     assert ref.partial_number(4, 1000000, 1, 0) == Refusal(12)
     assert ref.partial_number(4, 2 ** 32 - 1, 2, 0) == Refusal(12)
@@ -132,6 +134,102 @@ def refusals():
     assert ref.write(thin, None, bytearray()) == Refusal(5, frozenset([2]))
     light = (0, 900000, *A1[2:])
     assert ref.write(light, None, bytearray()) == Refusal(6)
+
+
+PRINTED = ref.columns(ref.TABLE_A2)
+EVERY_SHARE = ((0, 100), (0, 100), (0, 100))
+
+# Components of the systems, in the order of the formula.
+SYSTEMS = """
+1 methane hydrogen ethane
+2 propane ethane butane
+3 hydrogen propane propylene
+4 methane ethane propane
+5 methane hydrogen propane
+6 methane hydrogen butane
+7 methane propane butane
+8 methane ethane butane
+12 methane propylene
+13 ethane propylene
+14 carbon-monoxide hydrogen
+15 ethane ethylene
+16 propane ethylene
+17 butadiene
+18 butylene
+20 methane carbon-dioxide nitrogen
+"""
+
+
+def table_a2():
+    """The systems that there are, what the rule leaves out, and that a
+    component alone has nearly the same number in every system."""
+    sums = {s: sum(abs(a) for row in rows for a in row)
+            for s, rows in ref.SCALED.items()}
+    assert list(sums) == [*range(1, 19), 20]
+    assert {s: sums[s] for s in sums if s not in ref.COEFFICIENTS} == {
+        9: 491617380592000, 10: 406188095304000, 11: 459686778793000}
+    assert max(sums[s] for s in ref.COEFFICIENTS) == sums[20] == 1795922978600
+    own = ref.columns(ref.TABLE_5)
+    assert all(PRINTED[s][row] == own[s][row] for s in own for row in own[s])
+
+    alone = {}
+    for line in SYSTEMS.strip().split("\n"):
+        system, *components = line.split()
+        blank = 3 - len(components)
+        assert ref.SHARES[int(system)][3 - blank:] == ((0, 0),) * blank
+        for place, component in enumerate(components):
+            n = [1000000 if p == place else 0 for p in range(3)]
+            got = ref.partial_number(int(system), *n)
+            alone.setdefault(component, []).append(got)
+    for inert in ("carbon-dioxide", "nitrogen"):
+        assert alone.pop(inert) == [Refusal(17)]
+    assert len(alone) == 10
+    for numbers in alone.values():
+        assert max(numbers) - min(numbers) < 4 * ref.UNITS
+    assert alone["carbon-monoxide"] == [750000000]
+    assert alone["butadiene"] == [120000000]
+    assert alone["butylene"] == [200000000]
+
+
+def ranges():
+    """Ends of ranges and one part beyond, blanks, and the order 13, 12, 17;
+    ratings test no range."""
+    def number(*case):
+        got = ref.partial_number(*case)
+        return got.number if isinstance(got, Refusal) else 0
+    for system in (1, 2, 3, 4, 5, 6, 7, 8):
+        for n in ((1, 0, 0), (0, 1, 0), (0, 0, 1), (333333, 333333, 333334)):
+            assert number(system, *n) == 0
+    for system in (12, 13, 14, 15, 16):
+        assert number(system, 1000000, 0, 0) == 0
+        assert number(system, 0, 1, 0) == 0
+        assert number(system, 999999, 0, 1) == 17
+        assert number(system, 999999, 1, 1) == 12
+    for system in (17, 18):
+        assert number(system, 1, 0, 0) == number(system, 1000000, 0, 0) == 0
+        assert number(system, 999999, 1, 0) == 17
+        assert number(system, 999999, 0, 1) == 17
+        assert number(system, 0, 0, 0) == 12
+    for n1, n2, n3, wanted in (
+            (500000, 300000, 200000, 0), (499999, 300000, 200001, 17),
+            (500000, 300001, 199999, 17), (500000, 0, 500000, 0),
+            (499999, 0, 500000, 17), (499999, 0, 500001, 17),
+            (10, 6, 4, 0), (9, 6, 5, 17), (10, 7, 3, 17), (1, 0, 1, 0),
+            (1, 0, 0, 0), (0, 1, 0, 17), (1000000, 0, 0, 0),
+            (0, 0, 0, 12), (0, 1000001, 0, 12)):
+        assert number(20, n1, n2, n3) == wanted, (n1, n2, n3)
+    for system in (0, 9, 10, 11, 19, 21, 2 ** 32 - 1):
+        for n in ((0, 0, 0), (0, 0, 1), (1000000, 0, 0), (1000001, 0, 0)):
+            assert number(system, *n) == 13
+
+    # Ratings test no range: the number below 50 % methane is there for them.
+    # No analysis in range leads to such a share: systems 2, 4, 7, 8 take every
+    # share, and the inert mixture has never more carbon dioxide than here.
+    below = ref.work(20, 100000, 900000, 1000000)
+    assert number(20, 100000, 900000, 0) == 17
+    assert abs(below - ref.exact_number(20, 100000, 900000, 0)) < 19
+    inert = (0, 749680, 100, 100, 10, 10, 0, 0, 0, 0, 0, 100000, 150000, 0)
+    assert not ref.check(inert) and ref.inert(inert) == (882339, 117661)
 
 
 def spread_limit():
@@ -229,25 +327,46 @@ def plain_search(analysis, allowance):
             stride //= 2
 
 
+def plain_shares(system, *amounts):
+    """Whether the shares, as fractions, are in the ranges as printed."""
+    for c, n in zip("xyz", amounts):
+        least, greatest = (Fraction(PRINTED[system][c + end].replace("-", "0"))
+                           for end in ("min", "max"))
+        share = Fraction(100 * n, sum(amounts))
+        if share < least or share > greatest:
+            return False
+    return True
+
+
 def partial_limits(seed, count):
-    """Under 19 units from exact; the trimmed rule equals the full one."""
-    cases = gases.partial_cases(seed)
-    worst = Fraction(0)
-    for _ in range(count):
-        system, n1, n2, n3 = case = next(cases)
+    """Under 19 units from exact, in range or not; the trimmed rule equals the
+    full one."""
+    cases = itertools.chain(gases.share_cases(seed), itertools.islice(
+        gases.partial_cases(seed), count))
+    worst, seen = Fraction(0), {}
+    for case in cases:
+        system, n1, n2, n3 = case
+        d = n1 + n2 + n3
         got = ref.partial_number(*case)
         if system not in ref.COEFFICIENTS:
             assert got == ref.exact_number(*case) == Refusal(13)
-        elif not 1 <= n1 + n2 + n3 <= 1000000:
+        elif not 1 <= d <= 1000000:
             assert got == ref.exact_number(*case) == Refusal(12)
         else:
-            assert got == plain_number(*case)
+            number = plain_number(*case)
+            fits = plain_shares(*case)
+            assert ref.work(system, n1, n2, d) == number
+            assert got == (number if fits else Refusal(17))
             exact = ref.exact_number(*case)
-            d = n1 + n2 + n3
             assert d ** 7 % exact.denominator == 0
-            worst = max(worst, abs(got - exact))
+            worst = max(worst, abs(number - exact))
+            seen[system, fits] = seen.get((system, fits), 0) + 1
+    for system, ends in ref.SHARES.items():
+        outside = seen.get((system, False), 0)
+        assert seen[system, True] >= 50
+        assert outside == 0 if ends == EVERY_SHARE else outside >= 10
     assert worst < 19
-    return worst
+    return sum(seen.values()), worst
 
 
 def resums(analysis, records):
@@ -331,11 +450,14 @@ def main(arguments):
     marked_figures()
     compared_figures()
     refusals()
+    table_a2()
+    ranges()
     spread_limit()
-    print("figures and refusals of document 01: as written")
-    worst = partial_limits(seed, 10 * count)
-    print("partial numbers: %d cases, farthest from exact %.3f units"
-          % (10 * count, worst))
+    print("figures and refusals of document 01, Table A.2's rule and ranges: "
+          "as written")
+    cases, worst = partial_limits(seed, 10 * count)
+    print("partial numbers: %d of %d systems, farthest from exact %.3f units"
+          % (cases, len(ref.SHARES), worst))
     rated, worst = found_splits(seed, count)
     print("found splits: %d of %d gases rated, put back and re-summed; "
           "farthest from exact %.3f units" % (rated, count, worst))

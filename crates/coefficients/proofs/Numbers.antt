@@ -1,4 +1,4 @@
--- Functions of a number: a value that they have at numbers in a row, and numbers that a list has not. Assumes nothing.
+-- A test that passes at each number of a list, and numbers that are none of it. Assumes nothing.
 use mathlib.Core.Path.{_≡_, refl, sym, ap, _∙_, subst, subst⁻¹}
 use mathlib.Core.Bool.{Bool, true, false, cond, _&&_}
 use mathlib.Core.List.{List, [], _∷_}
@@ -7,25 +7,10 @@ use Prim.Native.Nat.{ℕ, zero, suc, _+_, _≤_, _<_}
 use native.Mathlib.Omega.{arith}
 use lib.Ieee.Fits.{and-l, and-r}
 use lib.Dec.{T, eqb, ltb, ltb→lt}
-use lib.ListN.{length, getD, drop, replicate}
+use lib.ListN.{length}
 use borrow.Author.Tests.{eqb-true, eqb-false}
 use Rattle.refusal.specs.Keys.{isIn}
 use Rattle.formula.specs.Coefficients.{placeIn}
-
--- ---- one value at k numbers from lo on, by one computed equation
-
-abbrev pub values : {A : Type 0} → (ℕ → A) → ℕ → ℕ → List A
-values f lo zero = []
-values f lo (suc k) = f lo ∷ values f (suc lo) k
-
-pub between : {A : Type 0} (f : ℕ → A) (v : A) (lo k : ℕ) → values f lo k ≡ replicate k v → (s : ℕ) → lo ≤ s → s < lo + k → v ≡ f s
-between f v lo zero t s h l = absurd (omega arith)
-between f v lo (suc k) t s h l =
-    at (eqb lo s) refl (λ n. between f v (suc lo) k (ap (drop 1) t) s (omega (arith, n)) (omega arith))
-  where
-    at : (e : Bool) → eqb lo s ≡ e → ((lo ≡ s → ⊥) → v ≡ f s) → v ≡ f s
-    at true e r = sym (ap (λ u. getD u 0 v) t) ∙ ap f (eqb-true lo s e)
-    at false e r = r (eqb-false lo s e)
 
 -- ---- a test that passes at each number of a list
 

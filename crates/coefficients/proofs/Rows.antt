@@ -2,7 +2,7 @@
 use mathlib.Core.Path.{_≡_, refl, sym, ap, _∙_, subst, subst⁻¹}
 use mathlib.Core.Bool.{Bool, true, false, cond, _&&_}
 use mathlib.Core.List.{List, [], _∷_}
-use Prim.Native.Nat.{ℕ, _+_, _≤_, _<_}
+use Prim.Native.Nat.{ℕ, _+_, _/_, _%_, _^_, _≤_, _<_, zero-le}
 use native.Mathlib.Omega.{arith}
 use lib.Ieee.Fits.{and-l}
 use lib.Ieee.Bits.{is-true}
@@ -13,50 +13,25 @@ use borrow.Author.Tests.{eqb-true, eqb-false}
 use Rattle.refusal.specs.Keys.{isIn}
 use Rattle.formula.specs.WorkingRule.{sumAbs}
 use Rattle.formula.specs.Coefficients.{printed, tables, placeIn, keepsRule, isSystem, tableOf}
-use Rattle.formula.specs.Ranges.{ranges, rangesOf}
-use Rattle.coefficients.proofs.Numbers.{Apart, between, every, each, not-in, no-place, above}
+use Rattle.formula.specs.Ranges.{ranges, full, rangesOf}
+use Rattle.formula.specs.Agree.{values, agree}
+use Rattle.coefficients.proofs.Numbers.{Apart, every, each, not-in, no-place, above}
 
 -- ---- which numbers are systems
 
-pub none-below : (s : ℕ) → s < 1 → false ≡ isSystem s
-unfolding isSystem
-none-below s h = between isSystem false 0 1 refl s (omega arith) (omega arith)
+-- the bit of a number in a word
+abbrev bit : ℕ → ℕ → Bool
+bit word s = eqb (word / 2 ^ s % 2) 1
 
-pub first-eight : (s : ℕ) → 1 ≤ s → s < 9 → true ≡ isSystem s
-unfolding isSystem keepsRule sumAbs placeIn
-first-eight s h l = between isSystem true 1 8 refl s h l
-
-pub left-out : (s : ℕ) → 9 ≤ s → s < 12 → false ≡ isSystem s
-unfolding isSystem keepsRule sumAbs placeIn
-left-out s h l = between isSystem false 9 3 refl s h l
-
-pub from-12 : (s : ℕ) → 12 ≤ s → s < 19 → true ≡ isSystem s
-unfolding isSystem keepsRule sumAbs placeIn
-from-12 s h l = between isSystem true 12 7 refl s h l
-
-pub is-20 : (s : ℕ) → s ≡ 20 → true ≡ isSystem s
-unfolding isSystem keepsRule sumAbs placeIn
-is-20 s e = ap isSystem (sym e)
-
--- no system that the table does not print
-pub not-printed : (s : ℕ) → isIn s printed ≡ false → false ≡ isSystem s
-unfolding isSystem
-not-printed s e = sym (ap (λ (b : Bool). b && keepsRule (getD tables (placeIn printed s) [])) e)
-
--- what holds at 19 and above 20 holds at every number from 19 on but 20
-from-19 : (P : ℕ → Type 0) → P 19 → ((s : ℕ) → 21 ≤ s → P s) → (s : ℕ) → 19 ≤ s → (s ≡ 20 → ⊥) → P s
-from-19 P one more s h n = at (eqb s 19) refl
-  where
-    at : (b : Bool) → eqb s 19 ≡ b → P s
-    at true e = subst⁻¹ P (eqb-true s 19 e) one
-    at false e = more s (omega (arith, n, eqb-false s 19 e))
+pub bit-is : (word : ℕ) → values (bit word) 0 21 ≡ values isSystem 0 21 → (s : ℕ) → s < 21 → bit word s ≡ isSystem s
+bit-is word t s h = agree (bit word) isSystem 0 21 t s zero-le (omega arith)
 
 beyond : (s : ℕ) → 21 ≤ s → Apart s printed
 beyond s h = above s 21 printed tt h
 
-pub none-above : (s : ℕ) → 19 ≤ s → (s ≡ 20 → ⊥) → false ≡ isSystem s
+pub none-beyond : (s : ℕ) → 21 ≤ s → false ≡ isSystem s
 unfolding isSystem
-none-above = from-19 (λ s. false ≡ isSystem s) refl (λ s h. not-printed s (not-in s printed (beyond s h)))
+none-beyond s h = sym (ap (λ (b : Bool). b && keepsRule (getD tables (placeIn printed s) [])) (not-in s printed (beyond s h)))
 
 -- ---- a system's row of the table
 
@@ -87,30 +62,20 @@ no-row s a = sym (ap (λ (b : Bool). cond b (getD tables (placeIn printed s) [])
 
 -- ---- a system's ranges
 
-pub ranges-1 : (s : ℕ) → 1 ≤ s → s < 9 → getD ranges 0 [] ≡ rangesOf s
-unfolding rangesOf placeIn
-ranges-1 s h l = between rangesOf (getD ranges 0 []) 1 8 refl s h l
+-- a row at k numbers from lo on
+pub ranges-run : (p lo k : ℕ) → values (λ _. getD ranges p []) lo k ≡ values rangesOf lo k
+    → (t : List (List ℕ)) (s : ℕ) → t ≡ ranges → lo ≤ s → s < lo + k → getD t p [] ≡ rangesOf s
+ranges-run p lo k c t s e h l = ap (λ u. getD u p []) e ∙ agree (λ _. getD ranges p []) rangesOf lo k c s h l
 
-pub ranges-9 : (s : ℕ) → 9 ≤ s → s < 12 → getD ranges 8 [] ≡ rangesOf s
-unfolding rangesOf placeIn
-ranges-9 s h l = between rangesOf (getD ranges 8 []) 9 3 refl s h l
+-- at 20
+pub ranges-20 : (p : ℕ) → getD ranges p [] ≡ rangesOf 20 → (t : List (List ℕ)) (s : ℕ) → t ≡ ranges → s ≡ 20 → getD t p [] ≡ rangesOf s
+ranges-20 p here t s e h = ap (λ u. getD u p []) e ∙ here ∙ ap rangesOf (sym h)
 
-pub ranges-12 : (s : ℕ) → 12 ≤ s → s < 17 → getD ranges 11 [] ≡ rangesOf s
+-- at 19 and above 20
+pub ranges-19 : (p : ℕ) → getD ranges p [] ≡ full → (t : List (List ℕ)) (s : ℕ) → t ≡ ranges → 19 ≤ s → (s ≡ 20 → ⊥) → getD t p [] ≡ rangesOf s
 unfolding rangesOf placeIn
-ranges-12 s h l = between rangesOf (getD ranges 11 []) 12 5 refl s h l
-
-pub ranges-17 : (s : ℕ) → 17 ≤ s → s < 19 → getD ranges 16 [] ≡ rangesOf s
-unfolding rangesOf placeIn
-ranges-17 s h l = between rangesOf (getD ranges 16 []) 17 2 refl s h l
-
-pub ranges-20 : (s : ℕ) → s ≡ 20 → getD ranges 18 [] ≡ rangesOf s
-unfolding rangesOf placeIn
-ranges-20 s e = ap rangesOf (sym e)
-
-pub no-ranges-below : (s : ℕ) → s < 1 → replicate 6 0 ≡ rangesOf s
-unfolding rangesOf placeIn
-no-ranges-below s h = between rangesOf (replicate 6 0) 0 1 refl s (omega arith) (omega arith)
-
-pub no-ranges-above : (s : ℕ) → 19 ≤ s → (s ≡ 20 → ⊥) → replicate 6 0 ≡ rangesOf s
-unfolding rangesOf placeIn
-no-ranges-above = from-19 (λ s. replicate 6 0 ≡ rangesOf s) refl (λ s h. sym (ap (λ (p : ℕ). getD ranges p (replicate 6 0)) (no-place s printed (beyond s h))))
+ranges-19 p here t s q h n = ap (λ u. getD u p []) q ∙ here ∙ at (eqb s 19) refl
+  where
+    at : (b : Bool) → eqb s 19 ≡ b → full ≡ rangesOf s
+    at true e = ap rangesOf (sym (eqb-true s 19 e))
+    at false e = sym (ap (λ (p : ℕ). getD ranges p full) (no-place s printed (beyond s (omega (arith, n, eqb-false s 19 e)))))

@@ -7,14 +7,20 @@ ghost use mathlib.Core.Path.{_≡_};
 ghost use Rattle.formula.specs.Coefficients.{isSystem, tableOf};
 ghost use Rattle.formula.specs.Ranges.{rangesOf};
 
+// System numbers are below this one.
+const NUMBERS: u32 = 21;
+
+// A bit for each number, from the right: 1 where it is a system.
+const SYSTEMS: u32 = 0b1_0111_1111_0001_1111_1110;
+
 // Whether there is a system of that number: Table A.2 has it, and its coefficients keep the rule.
 pub fn is_system(system: u32) -> bool
     ensures { λ r. ⌜ r ≡ isSystem system ⌝ }
 {
-    match system {
-        1..=8 | 12..=18 | 20 => true,
-        _ => false,
+    if system >= NUMBERS {
+        return false;
     }
+    (SYSTEMS >> system) % 2 == 1
 }
 
 // The twenty coefficients of a system; all 0 where there is no such system.
@@ -43,18 +49,17 @@ pub fn of_system(system: u32) -> [i64; 20]
     }
 }
 
-// The least and the greatest share of a system's three components, in percent; all 0 where Table A.2 has no such system.
+// The least and the greatest share of a system's three components, in percent; 0 to 100 where Table A.2 has no such system.
 // Rows that are alike are read at one place.
 pub fn ranges_of(system: u32) -> [u8; 6]
     ensures { λ r. ⌜ r ≡ rangesOf system ⌝ }
 {
     let t = ranges::whole();
     match system {
-        1..=8 => t[0],
         9..=11 => t[8],
         12..=16 => t[11],
         17..=18 => t[16],
         20 => t[18],
-        _ => [0; 6],
+        _ => t[0],
     }
 }

@@ -5,4 +5,6 @@ pub mod Error
 pub mod Size
 pub mod Bound
 pub mod Partial
+pub mod Agree
+pub mod InRange
 pub mod Marked

@@ -5,7 +5,7 @@ use mathlib.Core.List.{List, [], _∷_}
 use mathlib.Core.Bool.{Bool, _&&_}
 use Prim.Native.Nat.{ℕ, _+_, _*_}
 use lib.Dec.{leb}
-use lib.ListN.{length, getD, replicate}
+use lib.ListN.{length, getD}
 use Rattle.formula.specs.Coefficients.{printed, placeIn}
 
 -- of each printed system: the first component's least and greatest, the second's, the third's
@@ -35,9 +35,13 @@ ranges =
 pub each-ranged : length ranges ≡ length printed
 each-ranged = refl
 
--- the six percents of a system; all 0 where the table prints none
+-- 0 to 100 for each component, which no share leaves
+abbrev pub full : List ℕ
+full = 0 ∷ 100 ∷ 0 ∷ 100 ∷ 0 ∷ 100 ∷ []
+
+-- the six percents of a system; 0 to 100 for a number that the table does not print
 unfoldable pub rangesOf : ℕ → List ℕ
-rangesOf system = getD ranges (placeIn printed system) (replicate 6 0)
+rangesOf system = getD ranges (placeIn printed system) full
 
 -- whether the share n / d lies between two percents, compared without division
 unfoldable pub shareIn : ℕ → ℕ → ℕ → ℕ → Bool

@@ -15,7 +15,8 @@ use Rattle.formula.specs.Coefficients.{isSystem}
 use Rattle.formula.specs.Ranges.{rangesOf, shareIn, sharesIn, inRange}
 use Rattle.ternary.specs.declared.Partial.{Partial}
 use Rattle.ternary.specs.PartialCases.{numberOf}
-use Rattle.ternary.specs.Answer.{isMixture, rangedRefusalOf, partialOf, partial-refusal}
+use Rattle.ternary.specs.declared.Partial.the-variants.{Refused}
+use Rattle.ternary.specs.Answer.{isMixture, rangedRefusalOf, partialOf, partial-refusal, partial-outside}
 
 -- a percent of a sum of three amounts
 pub product-fits : (p d : ℕ) → p ≤ 255 → d ≤ 12884901885 → Fits w64 (p * d)
@@ -44,10 +45,7 @@ module _ (least greatest n d : ℕ) where
 
 -- ---- the three shares
 
-module _ (system n1 n2 n3 : ℕ) (r : List ℕ) (e : r ≡ rangesOf system) where
-  abbrev d : ℕ
-  d = n1 + n2 + n3
-
+module _ (system n1 n2 n3 : ℕ) (r : List ℕ) (e : r ≡ rangesOf system) (d : ℕ) (f : d ≡ n1 + n2 + n3) where
   abbrev x : Bool
   x = shareIn (getD r 0 0) (getD r 1 0) n1 d
 
@@ -59,7 +57,8 @@ module _ (system n1 n2 n3 : ℕ) (r : List ℕ) (e : r ≡ rangesOf system) wher
 
   all-is : x && (y && z) ≡ inRange system n1 n2 n3
   unfolding inRange
-  all-is = ap (λ (u : List ℕ). sharesIn u n1 n2 n3) e
+  all-is = ap (λ (u : ℕ). shareIn (getD r 0 0) (getD r 1 0) n1 u && (shareIn (getD r 2 0) (getD r 3 0) n2 u && shareIn (getD r 4 0) (getD r 5 0) n3 u)) f
+      ∙ ap (λ (u : List ℕ). sharesIn u n1 n2 n3) e
 
   pub first-out : x ≡ false → false ≡ inRange system n1 n2 n3
   first-out h = first x (y && z) h ∙ all-is
@@ -90,3 +89,10 @@ module _ (system d : ℕ) where
 pub with-ranged : (s n1 n2 n3 : ℕ) (r : Partial) → r ≡ partialOf s n1 n2 n3
     → (r ≡ partialOf s n1 n2 n3) × (numberOf r ≡ rangedRefusalOf s n1 n2 n3)
 with-ranged s n1 n2 n3 r e = (e, ap numberOf e ∙ partial-refusal s n1 n2 n3)
+
+-- the refusal of a sum d that is that of the three amounts
+pub out-of-range : (s n1 n2 n3 d : ℕ) → d ≡ n1 + n2 + n3 → (n : ℕ) → n ≡ cond (isSystem s) (cond (isMixture d) SHARE NO_MIXTURE) NO_SYSTEM
+    → inRange s n1 n2 n3 ≡ false → Refused n ≡ partialOf s n1 n2 n3
+out-of-range s n1 n2 n3 d e n q h =
+    ap Refused (q ∙ ap (λ (x : ℕ). cond (isSystem s) (cond (isMixture x) SHARE NO_MIXTURE) NO_SYSTEM) e)
+    ∙ partial-outside s n1 n2 n3 h

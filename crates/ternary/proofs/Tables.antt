@@ -46,8 +46,8 @@ pub with-number : (s n1 n2 n3 : ℕ) (r : Partial) → r ≡ formulaOf s n1 n2 n
 with-number s n1 n2 n3 r e = (e, ap numberOf e ∙ formula-refusal s n1 n2 n3)
 
 -- and from there to the three amounts
-pub sum-of : (s n1 n2 n3 : ℕ) → formulaOf s n1 n2 (n1 + n2 + n3 - n1 - n2) ≡ formulaOf s n1 n2 n3
-sum-of s n1 n2 n3 = ap (formulaOf s n1 n2) third
+pub sum-of : (s n1 n2 n3 d : ℕ) → d ≡ n1 + n2 + n3 → formulaOf s n1 n2 (d - n1 - n2) ≡ formulaOf s n1 n2 n3
+sum-of s n1 n2 n3 d e = ap (formulaOf s n1 n2) third
   where
-    third : n1 + n2 + n3 - n1 - n2 ≡ n3
+    third : d - n1 - n2 ≡ n3
     third = omega arith

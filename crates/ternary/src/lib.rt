@@ -36,7 +36,7 @@ pub fn partial_number(system: u32, n1: u32, n2: u32, n3: u32) -> Partial
     if in_range(system, n1, n2, n3) {
         return formula_number(system, n1, n2, n3);
     }
-    Partial::Refused(outside(system, n1 as u64 + n2 as u64 + n3 as u64))
+    Partial::Refused(outside(system, sum(n1, n2, n3)))
 }
 
 // The number that a system's formula gives at three amounts, worked out by the rule, whatever their shares are. Refused 13
@@ -46,17 +46,23 @@ pub fn formula_number(system: u32, n1: u32, n2: u32, n3: u32) -> Partial
     ensures { λ r. ⌜ numberOf r ≡ refusalOf system (n1 + n2 + n3) ⌝ }
 {
     if is_system(system) {
-        return of_sum(system, n1, n2, n1 as u64 + n2 as u64 + n3 as u64);
+        return of_sum(system, n1, n2, sum(n1, n2, n3));
     }
     Partial::Refused(NO_SYSTEM)
 }
+
+// Up to this number no system has a range that a share could leave.
+const FULL: u32 = 8;
 
 // Whether the shares of three amounts lie in a system's ranges of validity.
 pub fn in_range(system: u32, n1: u32, n2: u32, n3: u32) -> bool
     ensures { λ r. ⌜ r ≡ inRange system n1 n2 n3 ⌝ }
 {
+    if system <= FULL {
+        return true;
+    }
     let r = coefficients::ranges_of(system);
-    let d = n1 as u64 + n2 as u64 + n3 as u64;
+    let d = sum(n1, n2, n3);
     if !share_in(r[0], r[1], n1, d) {
         return false;
     }
@@ -64,6 +70,13 @@ pub fn in_range(system: u32, n1: u32, n2: u32, n3: u32) -> bool
         return false;
     }
     share_in(r[4], r[5], n3, d)
+}
+
+// The amounts, added.
+fn sum(n1: u32, n2: u32, n3: u32) -> u64
+    ensures { λ r. ⌜ r ≡ n1 + n2 + n3 ⌝ }
+{
+    n1 as u64 + n2 as u64 + n3 as u64
 }
 
 // Whether n / d lies between two percents.
@@ -82,7 +95,7 @@ fn outside(system: u32, d: u64) -> u32
     if !is_system(system) {
         return NO_SYSTEM;
     }
-    if d == 0 || LIMIT < d {
+    if LIMIT < d || d == 0 {
         return NO_MIXTURE;
     }
     SHARE

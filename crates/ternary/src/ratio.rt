@@ -56,14 +56,20 @@ pub(crate) fn step(acc: i64, c: i64, w: Ratio) -> i64
     c + share(acc, w)
 }
 
-// n / d of a, which is not negative, its fraction dropped: an estimate from below by the digits of n / d, and one correction.
+// n / d of a, which is not negative, its fraction dropped: an estimate from below by the digits of n / d. It is less than
+// x / 2^21 + 2 parts of 2^21 too small, so that it is exact where its own fraction leaves room for these; else it is
+// compared with what is left over, and corrected once.
 fn share(a: i64, w: Ratio) -> i64
     requires { ⌜ T (nonNeg a) × (natAbs a ≤ LARGEST) × Precomputed (w .n) (w .d) (w .high) (w .low) ⌝ }
     ensures { λ r. ⌜ r ≡ pos (natAbs a * (w .n) / (w .d)) ⌝ }
 {
     let x = a as u64;
     let d = w.d;
-    let q = (x * w.high + x * w.low / LOW) / HIGH;
+    let estimate = x * w.high + x * w.low / LOW;
+    let q = estimate / HIGH;
+    if estimate % HIGH + x / HIGH + 2 <= HIGH {
+        return q as i64;
+    }
     let rest = x * w.n - q * d;
     if rest < d { q as i64 } else { (q + 1) as i64 }
 }

@@ -1,17 +1,13 @@
 -- `coefficients::ranges_of` meets its contract: arm by arm, a row of the whole table. Assumes nothing.
-use mathlib.Core.Path.{_≡_, ap, _∙_}
-use mathlib.Core.List.{List, []}
-use Prim.Native.Nat.{ℕ}
-use lib.ListN.{getD}
+use mathlib.Core.Path.{refl}
+use mathlib.Core.Logic.{⊎-elim}
+use Prim.Native.Nat.{zero-le}
 use borrow.Author.Needs.{needs}
-use Rattle.formula.specs.Ranges.{ranges}
-use Rattle.coefficients.proofs.Rows.{ranges-1, ranges-9, ranges-12, ranges-17, ranges-20, no-ranges-below, no-ranges-above}
+use Rattle.formula.specs.Coefficients.{placeIn}
+use Rattle.formula.specs.Ranges.{rangesOf}
+use Rattle.coefficients.proofs.Rows.{ranges-run, ranges-19, ranges-20}
 use Rattle.coefficients.proofs.ranges_of.Statement.{statement}
 use Rattle.coefficients.proofs.ranges_of.Tie as tie
-
--- a row of the whole table, at a place
-at : (p : ℕ) (t : List (List ℕ)) → t ≡ ranges → getD t p [] ≡ getD ranges p []
-at p t e = ap (λ (u : List (List ℕ)). getD u p []) e
 
 whole-requires : tie.Need-whole-requires
 whole-requires c κs = search needs
@@ -32,25 +28,27 @@ array-copy-out-result-5 : tie.Need-array-copy-out-result-5
 array-copy-out-result-5 c = search needs
 
 returns : tie.Need-returns
-returns c = at 18 _ (c .before .before .whole .ensures) ∙ ranges-20 (c .before .before .before .args .system) (c .before .match .keys1)
+unfolding rangesOf placeIn
+returns c = ranges-20 _ refl _ (c .before .before .before .args .system) (c .before .before .whole .ensures) (c .before .match .keys1)
 
 returns-2 : tie.Need-returns-2
-returns-2 c = at 0 _ (c .before .before .before .before .whole .ensures) ∙ ranges-1 (c .before .before .before .before .before .args .system) (c .before .before .if1 .left) (c .before .if2 .taken)
+unfolding rangesOf placeIn
+returns-2 c = ranges-run _ 9 3 refl _ (c .before .before .before .before .before .args .system) (c .before .before .before .before .whole .ensures) (c .before .before .if1 .left) (c .before .if2 .taken)
 
 returns-3 : tie.Need-returns-3
-returns-3 c = at 8 _ (c .before .before .before .before .before .whole .ensures) ∙ ranges-9 (c .before .before .before .before .before .before .args .system) (c .before .before .if2 .left) (c .before .if3 .taken)
+unfolding rangesOf placeIn
+returns-3 c = ranges-run _ 12 5 refl _ (c .before .before .before .before .before .before .args .system) (c .before .before .before .before .before .whole .ensures) (c .before .before .if2 .left) (c .before .if3 .taken)
 
 returns-4 : tie.Need-returns-4
-returns-4 c = at 11 _ (c .before .before .before .before .before .before .whole .ensures) ∙ ranges-12 (c .before .before .before .before .before .before .before .args .system) (c .before .before .if3 .left) (c .before .if4 .taken)
+unfolding rangesOf placeIn
+returns-4 c = ranges-run _ 17 2 refl _ (c .before .before .before .before .before .before .before .args .system) (c .before .before .before .before .before .before .whole .ensures) (c .before .before .if3 .left) (c .before .if4 .taken)
 
 returns-5 : tie.Need-returns-5
-returns-5 c = at 16 _ (c .before .before .before .before .before .before .before .whole .ensures) ∙ ranges-17 (c .before .before .before .before .before .before .before .before .args .system) (c .before .before .if4 .left) (c .before .if5 .taken)
-
-returns-6 : tie.Need-returns-6
-returns-6 c = no-ranges-below (c .before .before .before .args .system) (c .if1 .taken)
-
-returns-7 : tie.Need-returns-7
-returns-7 c = no-ranges-above (c .before .before .before .before .before .before .before .args .system) (c .if5 .left) (c .before .before .before .before .before .match .rest .1)
+unfolding rangesOf placeIn
+returns-5 c = 
+    let s = c .before .before .before .before .args .system in
+    let e = c .before .before .before .whole .ensures in
+    ⊎-elim (λ w. ranges-run _ 0 9 refl _ s e zero-le (w .taken)) (λ w. ranges-19 _ refl _ s e (w .3 .left) (c .before .before .match .rest .1)) (c .before .if1 .came)
 
 pub ranges-of-spec : {M : Type 1} → statement M
 ranges-of-spec =
@@ -66,6 +64,4 @@ ranges-of-spec =
     returns-2
     returns-3
     returns-4
-    returns-5
-    returns-6
-    returns-7)
+    returns-5)

@@ -1,5 +1,5 @@
 -- `ternary::formula_number` meets its contract. Assumes nothing.
-use mathlib.Core.Path.{sym, _∙_}
+use mathlib.Core.Path.{sym, ap, _∙_}
 use native.Mathlib.Omega.{arith}
 use borrow.Author.Needs.{needs}
 use Rattle.ternary.specs.Answer.{formula-13}
@@ -10,19 +10,17 @@ use Rattle.ternary.proofs.formula_number.Tie as tie
 is-system-requires : tie.Need-is-system-requires
 is-system-requires c κs = search needs
 
-add-of-sum : tie.Need-add-of-sum
-add-of-sum c = search needs
-
-add-of-sum-2 : tie.Need-add-of-sum-2
-add-of-sum-2 c = search needs
+sum-requires : tie.Need-sum-requires
+sum-requires c κs = search needs
 
 of-sum-requires : tie.Need-of-sum-requires
-of-sum-requires c κs = (sym (c .before .is-system .ensures) ∙ c .if1 .taken, omega arith)
+of-sum-requires c κs = (sym (c .before .before .is-system .ensures) ∙ c .before .if1 .taken, omega (arith, c .sum .ensures))
 
 returns : tie.Need-returns
 returns c =
-    let a = c .before .before .before .args in
-    with-number (a .system) (a .n1) (a .n2) (a .n3) _ (c .of-sum .ensures ∙ sum-of (a .system) (a .n1) (a .n2) (a .n3))
+    let a = c .before .before .before .before .args in
+    with-number (a .system) (a .n1) (a .n2) (a .n3) _
+    (c .of-sum .ensures ∙ sum-of (a .system) (a .n1) (a .n2) (a .n3) _ (c .before .sum .ensures))
 
 returns-2 : tie.Need-returns-2
 returns-2 c =
@@ -32,5 +30,4 @@ returns-2 c =
 
 pub formula-number-spec : {M : Type 1} → statement M
 formula-number-spec =
-    tie.close
-    (tie.spec is-system-requires add-of-sum add-of-sum-2 of-sum-requires returns returns-2)
+    tie.close (tie.spec is-system-requires sum-requires of-sum-requires returns returns-2)

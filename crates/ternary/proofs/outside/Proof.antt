@@ -3,7 +3,7 @@ use mathlib.Core.Path.{sym, _∙_}
 use mathlib.Core.Logic.{⊎-elim}
 use native.Mathlib.Omega.{arith}
 use borrow.Author.Needs.{needs}
-use borrow.Author.Tests.{ltb-true, ltb-false, not-true, not-false}
+use borrow.Author.Tests.{eqb-true, eqb-false, not-true, not-false}
 use Rattle.ternary.specs.Answer.{mixture-yes, mixture-zero, mixture-above}
 use Rattle.ternary.proofs.Shares.{outside-13, outside-12, outside-17}
 use Rattle.ternary.proofs.outside.Statement.{statement}
@@ -21,13 +21,13 @@ returns-2 : tie.Need-returns-2
 returns-2 c =
     let a = c .before .before .before .args in
     outside-12 (a .system) (a .d) (sym (c .before .before .is-system .ensures) ∙ not-false _ (c .before .if1 .left))
-    (⊎-elim (λ w. mixture-zero (a .d) (w .taken)) (λ w. mixture-above (a .d) (ltb-true 1000000 (a .d) (w .1 .taken))) (c .if2 .came))
+    (⊎-elim (λ w. mixture-above (a .d) (w .taken)) (λ w. mixture-zero (a .d) (eqb-true (a .d) 0 (w .1 .taken))) (c .if2 .came))
 
 returns-3 : tie.Need-returns-3
 returns-3 c =
     let a = c .before .before .before .before .args in
     outside-17 (a .system) (a .d) (sym (c .before .before .before .is-system .ensures) ∙ not-false _ (c .before .before .if1 .left))
-    (mixture-yes (a .d) (omega arith) (omega (arith, ltb-false 1000000 (a .d) (c .if3 .left))))
+    (mixture-yes (a .d) (omega (arith, eqb-false (a .d) 0 (c .if3 .left))) (omega arith))
 
 pub outside-spec : {M : Type 1} → statement M
 outside-spec = tie.close (tie.spec is-system-requires returns returns-2 returns-3)

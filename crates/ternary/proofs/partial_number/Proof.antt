@@ -1,9 +1,8 @@
 -- `ternary::partial_number` meets its contract. Assumes nothing.
 use mathlib.Core.Path.{sym, ap, _∙_}
 use borrow.Author.Needs.{needs}
-use Rattle.ternary.specs.declared.Partial.the-variants.{Refused}
-use Rattle.ternary.specs.Answer.{partial-inside, partial-outside}
-use Rattle.ternary.proofs.Shares.{with-ranged}
+use Rattle.ternary.specs.Answer.{partial-inside}
+use Rattle.ternary.proofs.Shares.{with-ranged, out-of-range}
 use Rattle.ternary.proofs.partial_number.Statement.{statement}
 use Rattle.ternary.proofs.partial_number.Tie as tie
 
@@ -19,20 +18,17 @@ returns c =
     with-ranged (a .system) (a .n1) (a .n2) (a .n3) _
     (c .formula-number .ensures .0 ∙ partial-inside (a .system) (a .n1) (a .n2) (a .n3) (sym (c .before .before .in-range .ensures) ∙ c .before .if1 .taken))
 
-add-outside : tie.Need-add-outside
-add-outside c = search needs
-
-add-outside-2 : tie.Need-add-outside-2
-add-outside-2 c = search needs
+sum-requires : tie.Need-sum-requires
+sum-requires c κs = search needs
 
 outside-requires : tie.Need-outside-requires
 outside-requires c κs = search needs
 
 returns-2 : tie.Need-returns-2
 returns-2 c =
-    let a = c .before .before .before .args in
+    let a = c .before .before .before .before .args in
     with-ranged (a .system) (a .n1) (a .n2) (a .n3) _
-    (ap Refused (c .outside .ensures) ∙ partial-outside (a .system) (a .n1) (a .n2) (a .n3) (sym (c .before .before .in-range .ensures) ∙ c .before .if1 .left))
+    (out-of-range (a .system) (a .n1) (a .n2) (a .n3) _ (c .before .sum .ensures) _ (c .outside .ensures) (sym (c .before .before .before .in-range .ensures) ∙ c .before .before .if1 .left))
 
 pub partial-number-spec : {M : Type 1} → statement M
 partial-number-spec =
@@ -41,7 +37,6 @@ partial-number-spec =
     in-range-requires
     formula-number-requires
     returns
-    add-outside
-    add-outside-2
+    sum-requires
     outside-requires
     returns-2)

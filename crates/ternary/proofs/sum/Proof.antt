@@ -1,0 +1,16 @@
+-- `ternary::sum` meets its contract. Assumes nothing.
+use borrow.Author.Needs.{needs}
+use Rattle.ternary.proofs.sum.Statement.{statement}
+use Rattle.ternary.proofs.sum.Tie as tie
+
+add-result : tie.Need-add-result
+add-result c = search needs
+
+add-result-2 : tie.Need-add-result-2
+add-result-2 c = search needs
+
+returns : tie.Need-returns
+returns c = search needs
+
+pub sum-spec : {M : Type 1} → statement M
+sum-spec = tie.close (tie.spec add-result add-result-2 returns)
