@@ -6,7 +6,7 @@ for systems 2, 4, 7, 8 and 20; where they differ, document 01's stays. Each deci
 100^(k+l) * 10^7, and must be a whole count of units: the figure in specs/Coefficients.antt of the crate formula and in
 src/table.rt of the crate coefficients. The ranges must be those in specs/Ranges.antt and src/ranges.rt.
 A system whose counts' magnitudes add up to more than 2000000000000 is left out: the others are those that the code lets
-through, and that the header and README.md have in their tables.
+through, and that the header, README.md and docs/PROMISES.md have in their tables.
 Exit status 1 and a message where a figure differs, is missing, or stands there in excess."""
 import os
 import re
@@ -19,7 +19,7 @@ OWN = 'tests/data/coefficients.txt'
 SPEC, SPEC_RANGES = 'crates/formula/specs/Coefficients.antt', 'crates/formula/specs/Ranges.antt'
 CODE, CODE_RANGES = 'crates/coefficients/src/table.rt', 'crates/coefficients/src/ranges.rt'
 CODE_SYSTEMS = 'crates/coefficients/src/lib.rt'
-HEADER, README = 'include/saugrinte.h', 'README.md'
+HEADER, DOCUMENTS = 'include/saugrinte.h', ('README.md', 'docs/PROMISES.md')
 
 SYSTEMS = [*range(1, 19), 20]
 OWN_SYSTEMS = [2, 4, 7, 8, 20]
@@ -222,12 +222,13 @@ def compare(path, rows, wanted, names):
 # ------------------------------------------------------------ the tables that callers read
 
 def compare_tables(columns, ranges, kept):
-    """The header's lines and README's rows: number, then each component with its least and greatest share."""
+    """The header's lines and the documents' rows: number, then each component with its least and greatest share."""
     wanted = [(str(system), *('%s %d..%d' % (columns[system][component] or 'none', *ranges[system][2 * i:2 * i + 2])
                               for i, component in enumerate(COMPONENTS))) for system in kept]
     share = r'([a-z ]+ \d+\.\.\d+)'
-    for path, line in ((HEADER, rf'^ +(\d+)  +{share}  +{share}  +{share}$'),
-                       (README, rf'^\| (\d+) \| {share} \| {share} \| {share} \|$')):
+    lines = {HEADER: rf'^ +(\d+)  +{share}  +{share}  +{share}$'}
+    lines.update((path, rf'^\| (\d+) \| {share} \| {share} \| {share} \|$') for path in DOCUMENTS)
+    for path, line in lines.items():
         rows = re.findall(line, text_of(path), re.M)
         for row, right in zip(rows, wanted):
             if row != right:
@@ -255,7 +256,7 @@ def main():
         fail(f'{CODE_SYSTEMS}: lets through {code_systems()}')
     compare_tables(columns, ranges, kept)
     print(f'coefficients: OK, {len(SYSTEMS) * len(coefficients)} figures and {len(SYSTEMS) * len(ends)} ends of ranges '
-          'as printed, in specs and code; the systems too, in the header and README.md')
+          'as printed, in specs and code; the systems too, in the header and the documents')
 
 
 if __name__ == '__main__':

@@ -1,4 +1,4 @@
-// The systems of 000 Table A.2: which there are, their coefficients, their ranges of validity. The definitions are those of
+// The systems of 000 Table A.2: which there are, their coefficients, their ranges of validity. The definitions are in
 // the crate `formula`, Coefficients and Ranges. No public function has a `requires`.
 mod ranges;
 mod table;
@@ -49,8 +49,8 @@ pub fn of_system(system: u32) -> [i64; 20]
     }
 }
 
-// The least and the greatest share of a system's three components, in percent; 0 to 100 where Table A.2 has no such system.
-// Rows that are alike are read at one place.
+// The least and the greatest share of a system's three components, in percent; 0 to 100 where Table A.2 has no such
+// system. Rows that are alike are read at one place.
 pub fn ranges_of(system: u32) -> [u8; 6]
     ensures { λ r. ⌜ r ≡ rangesOf system ⌝ }
 {

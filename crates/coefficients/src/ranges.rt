@@ -1,5 +1,5 @@
-// The ranges of validity of 000 Table A.2: for each of systems 1 to 18 and 20 the least and the greatest share of its three
-// components, in percent.
+// The ranges of validity of 000 Table A.2: for each of systems 1 to 18 and 20 the least and the greatest share of its
+// three components, in percent.
 ghost use mathlib.Core.Path.{_≡_};
 ghost use Rattle.formula.specs.Ranges.{ranges};
 

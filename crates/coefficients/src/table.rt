@@ -1,5 +1,5 @@
-// The coefficients of 000 Table A.2 in units (those of 2, 4, 7, 8 and 20 are document 01's): a row of twenty for each of
-// systems 1 to 18 and 20, in it those of n1^k by powers of n2, k rising.
+// The coefficients of 000 Table A.2 in units (those of 2, 4, 7, 8 and 20 are document 01's): a row of twenty for each
+// of systems 1 to 18 and 20, in it those of n1^k by powers of n2, k rising.
 ghost use mathlib.Core.Path.{_≡_};
 ghost use Rattle.formula.specs.Coefficients.{tables};
 
@@ -424,8 +424,8 @@ const TABLE: [[i64; 20]; 19] = [
     ],
 ];
 
-// The whole table, those systems too that are left out. It is named here alone: an array that is read at a variable place
-// would be built again at each read, where a row at a constant place costs nothing.
+// The whole table, those systems too that are left out. It is named here alone: an array that is read at a variable
+// place would be built again at each read, where a row at a constant place costs nothing.
 pub(crate) fn whole() -> [[i64; 20]; 19]
     ensures { λ r. ⌜ r ≡ tables ⌝ }
 {

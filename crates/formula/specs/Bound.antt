@@ -1,4 +1,5 @@
--- The rule of the table carried to every system and to each of its coefficients; so no partial number is larger. Assumes nothing.
+-- The rule of the table carried to every system and to each of its coefficients; so no partial number is larger.
+-- Assumes nothing.
 use mathlib.Core.Path.{_≡_, refl, sym, subst, subst⁻¹}
 use mathlib.Core.Bool.{Bool, true, false, cond, _&&_}
 use mathlib.Core.List.{List, [], _∷_}
@@ -45,7 +46,8 @@ table-small : (system : ℕ) → sumAbs (tableOf system) ≤ LARGEST
 unfolding tableOf keepsRule
 table-small system = at (isSystem system) refl
   where
-    at : (b : Bool) → isSystem system ≡ b → sumAbs (cond b (getD tables (placeIn printed system) []) (replicate 20 (pos 0))) ≤ LARGEST
+    at : (b : Bool) → isSystem system ≡ b
+        → sumAbs (cond b (getD tables (placeIn printed system) []) (replicate 20 (pos 0))) ≤ LARGEST
     at true e = leb→le (sumAbs (getD tables (placeIn printed system) [])) LARGEST (listed system e)
     at false e = none-small
 
@@ -70,4 +72,5 @@ each-small system i =
 pub worked-small : (system n1 n2 d : ℕ) → n1 ≤ d → n2 ≤ d → natAbs (worked n1 n2 d (rowsOf (coeffOf system))) ≤ LARGEST
 worked-small s n1 n2 d h1 h2 =
     rw (← worked-is (coeffOf s) n1 n2 d)
-    (N.le-trans (horner-le n1 d (coefs (innerOf (coeffOf s) n2 d) 0 8) h1) (N.le-trans (inner-le (coeffOf s) n2 d h2) (small s)))
+    (N.le-trans (horner-le n1 d (coefs (innerOf (coeffOf s) n2 d) 0 8) h1)
+    (N.le-trans (inner-le (coeffOf s) n2 d h2) (small s)))

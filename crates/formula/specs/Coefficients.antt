@@ -1,6 +1,6 @@
--- The coefficients of the systems (000 Table A.2; document 02, Six) in units: a(k,l) times 100 ^ (k + l), by rows, row k
--- with l rising. Those of 2, 4, 7, 8 and 20 are document 01's: 001 Table 5, with a(2,2) of system 20 as 000 prints it.
--- Assumes nothing.
+-- The coefficients of the systems (000 Table A.2; document 02, Six) in units: a(k,l) times 100 ^ (k + l), by rows,
+-- row k with l rising. Those of 2, 4, 7, 8 and 20 are document 01's: 001 Table 5, with a(2,2) of system 20 as 000
+-- prints it. Assumes nothing.
 use mathlib.Core.Path.{_≡_, refl}
 use mathlib.Core.List.{List, [], _∷_}
 use mathlib.Core.Bool.{Bool, true, false, cond, _&&_}

@@ -34,7 +34,11 @@ share-is least greatest n d t = (
 is-share : (least greatest n d : ℕ) → Between least greatest n d → T (shareIn least greatest n d)
 unfolding shareIn
 is-share least greatest n d b =
-    subst⁻¹ T (and-both (leb (least * d) (100 * n)) (leb (100 * n) (greatest * d)) (le→leb (least * d) (100 * n) (b .0)) (le→leb (100 * n) (greatest * d) (b .1))) tt
+    subst⁻¹ T
+    (and-both (leb (least * d) (100 * n)) (leb (100 * n) (greatest * d))
+    (le→leb (least * d) (100 * n) (b .0))
+    (le→leb (100 * n) (greatest * d) (b .1)))
+    tt
 
 module _ (r : List ℕ) (n1 n2 n3 : ℕ) where
   abbrev d : ℕ
@@ -42,7 +46,9 @@ module _ (r : List ℕ) (n1 n2 n3 : ℕ) where
 
   abbrev pub Shares : Type 0
   Shares =
-      Between (getD r 0 0) (getD r 1 0) n1 d × Between (getD r 2 0) (getD r 3 0) n2 d × Between (getD r 4 0) (getD r 5 0) n3 d
+      Between (getD r 0 0) (getD r 1 0) n1 d
+      × Between (getD r 2 0) (getD r 3 0) n2 d
+      × Between (getD r 4 0) (getD r 5 0) n3 d
 
   abbrev x : Bool
   x = shareIn (getD r 0 0) (getD r 1 0) n1 d
@@ -63,7 +69,11 @@ module _ (r : List ℕ) (n1 n2 n3 : ℕ) where
   are-shares : Shares → sharesIn r n1 n2 n3 ≡ true
   are-shares s =
       and-both x (y && z) (is-share (getD r 0 0) (getD r 1 0) n1 d (s .0))
-      (subst⁻¹ T (and-both y z (is-share (getD r 2 0) (getD r 3 0) n2 d (s .1)) (is-share (getD r 4 0) (getD r 5 0) n3 d (s .2))) tt)
+      (subst⁻¹ T
+      (and-both y z
+      (is-share (getD r 2 0) (getD r 3 0) n2 d (s .1))
+      (is-share (getD r 4 0) (getD r 5 0) n3 d (s .2)))
+      tt)
 
 module _ (system n1 n2 n3 : ℕ) where
   -- in range exactly when each share is
@@ -84,7 +94,11 @@ pub full-range : (system n1 n2 n3 : ℕ) → system < 9 → inRange system n1 n2
 unfolding inRange rangesOf placeIn
 full-range system n1 n2 n3 h =
     sym (ap (λ (r : List ℕ). sharesIn r n1 n2 n3) (agree (λ _. full) rangesOf 0 9 refl system zero-le (omega arith)))
-    ∙ are-shares full n1 n2 n3 (full-between n1 (n1 + n2 + n3) (omega arith), full-between n2 (n1 + n2 + n3) (omega arith), full-between n3 (n1 + n2 + n3) (omega arith))
+    ∙ are-shares full n1 n2 n3 (
+      full-between n1 (n1 + n2 + n3) (omega arith),
+      full-between n2 (n1 + n2 + n3) (omega arith),
+      full-between n3 (n1 + n2 + n3) (omega arith),
+    )
 
 -- ---- computed: the ends of system 20's ranges and one part beyond each; blanks with no part and with one
 

@@ -1,5 +1,5 @@
--- The ranges of validity of the systems' formulas (000 Table A.2; document 02, Six): each component's least and greatest
--- share in whole percent; a component that the table leaves blank has 0 to 0. Assumes nothing.
+-- The ranges of validity of the systems' formulas (000 Table A.2; document 02, Six): each component's least and
+-- greatest share in whole percent; a component that the table leaves blank has 0 to 0. Assumes nothing.
 use mathlib.Core.Path.{_≡_, refl}
 use mathlib.Core.List.{List, [], _∷_}
 use mathlib.Core.Bool.{Bool, _&&_}

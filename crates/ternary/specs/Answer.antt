@@ -1,5 +1,5 @@
--- The answer to a partial number by cases (document 01, "What is turned away"; document 02, Six): 13, then 12, then 17, else
--- the number as worked out; and the answer of the formula alone, which tests no range. Assumes nothing.
+-- The answer to a partial number by cases (document 01, "What is turned away"; document 02, Six): 13, then 12, then
+-- 17, else the number as worked out; and the answer of the formula alone, which tests no range. Assumes nothing.
 use mathlib.Core.Path.{_≡_, refl, subst, subst⁻¹}
 use mathlib.Core.Bool.{Bool, true, false, cond}
 use Prim.Native.Nat.{ℕ, _+_, _≤_, _<_}
@@ -117,7 +117,8 @@ module _ (system n1 n2 n3 : ℕ) where
 -- ---- each case of the partial number within its ranges
 
 ranged : (b m r : Bool) (n : ℤ)
-    → numberOf (cond b (cond m (cond r (Number n) (Refused 17)) (Refused 12)) (Refused 13)) ≡ cond b (cond m (cond r 0 17) 12) 13
+    → numberOf (cond b (cond m (cond r (Number n) (Refused 17)) (Refused 12)) (Refused 13))
+    ≡ cond b (cond m (cond r 0 17) 12) 13
 ranged true true true n = refl
 ranged true true false n = refl
 ranged true false r n = refl
@@ -146,11 +147,14 @@ module _ (system n1 n2 n3 : ℕ) where
   pub partial-inside : inRange system n1 n2 n3 ≡ true → formulaOf system n1 n2 n3 ≡ partialOf system n1 n2 n3
   unfolding formulaOf partialOf
   partial-inside h =
-      inside (isSystem system) (isMixture (n1 + n2 + n3)) (inRange system n1 n2 n3) (Number (partialNumber system n1 n2 n3)) h
+      inside (isSystem system) (isMixture (n1 + n2 + n3)) (inRange system n1 n2 n3)
+      (Number (partialNumber system n1 n2 n3)) h
 
   -- outside: 17, if neither 13 nor 12
   pub partial-outside : inRange system n1 n2 n3 ≡ false
-      → Refused (cond (isSystem system) (cond (isMixture (n1 + n2 + n3)) SHARE NO_MIXTURE) NO_SYSTEM) ≡ partialOf system n1 n2 n3
+      → Refused (cond (isSystem system) (cond (isMixture (n1 + n2 + n3)) SHARE NO_MIXTURE) NO_SYSTEM)
+      ≡ partialOf system n1 n2 n3
   unfolding partialOf
   partial-outside h =
-      outside (isSystem system) (isMixture (n1 + n2 + n3)) (inRange system n1 n2 n3) (Number (partialNumber system n1 n2 n3)) h
+      outside (isSystem system) (isMixture (n1 + n2 + n3)) (inRange system n1 n2 n3)
+      (Number (partialNumber system n1 n2 n3)) h

@@ -1,5 +1,5 @@
--- The partial number of a single system (document 02, Six): answered exactly when there is such a system, the amounts are
--- a mixture's and each share lies in its range, and then less than 19 units from the exact one. Assumes nothing.
+-- The partial number of a single system (document 02, Six): answered exactly when there is such a system, the amounts
+-- are a mixture's and each share lies in its range, and then less than 19 units from the exact one. Assumes nothing.
 use mathlib.Core.Path.{_≡_, refl, sym, ap, _∙_, subst, subst⁻¹}
 use mathlib.Core.Bool.{Bool, true, false, cond}
 use Prim.Native.Nat.{ℕ, _+_, _≤_, _<_}
@@ -46,7 +46,7 @@ module _ (system n1 n2 n3 : ℕ) where
 
   tests : (z : ℤ) → partialOf system n1 n2 n3 ≡ Number z
       → (isSystem system ≡ true) × (isMixture (n1 + n2 + n3) ≡ true) × (inRange system n1 n2 n3 ≡ true)
-          × (z ≡ partialNumber system n1 n2 n3)
+      × (z ≡ partialNumber system n1 n2 n3)
   unfolding partialOf
   tests z e =
       passed (isSystem system) (isMixture (n1 + n2 + n3)) (inRange system n1 n2 n3) (partialNumber system n1 n2 n3) z e

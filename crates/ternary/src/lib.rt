@@ -39,8 +39,8 @@ pub fn partial_number(system: u32, n1: u32, n2: u32, n3: u32) -> Partial
     Partial::Refused(outside(system, sum(n1, n2, n3)))
 }
 
-// The number that a system's formula gives at three amounts, worked out by the rule, whatever their shares are. Refused 13
-// and 12 as above.
+// The number that a system's formula gives at three amounts, worked out by the rule, whatever their shares are. Refused
+// 13 and 12 as above.
 pub fn formula_number(system: u32, n1: u32, n2: u32, n3: u32) -> Partial
     ensures { λ r. ⌜ r ≡ formulaOf system n1 n2 n3 ⌝ }
     ensures { λ r. ⌜ numberOf r ≡ refusalOf system (n1 + n2 + n3) ⌝ }

@@ -56,9 +56,9 @@ pub(crate) fn step(acc: i64, c: i64, w: Ratio) -> i64
     c + share(acc, w)
 }
 
-// n / d of a, which is not negative, its fraction dropped: an estimate from below by the digits of n / d. It is less than
-// x / 2^21 + 2 parts of 2^21 too small, so that it is exact where its own fraction leaves room for these; else it is
-// compared with what is left over, and corrected once.
+// n / d of a, which is not negative, its fraction dropped: an estimate from below by the digits of n / d. It is less
+// than x / 2^21 + 2 parts of 2^21 too small, so that it is exact where its own fraction leaves room for these; else it
+// is compared with what is left over, and corrected once.
 fn share(a: i64, w: Ratio) -> i64
     requires { ⌜ T (nonNeg a) × (natAbs a ≤ LARGEST) × Precomputed (w .n) (w .d) (w .high) (w .low) ⌝ }
     ensures { λ r. ⌜ r ≡ pos (natAbs a * (w .n) / (w .d)) ⌝ }

@@ -45,7 +45,7 @@ returns-4 c = ranges-run _ 17 2 refl _ (c .before .before .before .before .befor
 
 returns-5 : tie.Need-returns-5
 unfolding rangesOf placeIn
-returns-5 c = 
+returns-5 c =
     let s = c .before .before .before .before .args .system in
     let e = c .before .before .before .whole .ensures in
     ⊎-elim (λ w. ranges-run _ 0 9 refl _ s e zero-le (w .taken)) (λ w. ranges-19 _ refl _ s e (w .3 .left) (c .before .before .match .rest .1)) (c .before .if1 .came)
