@@ -4,8 +4,9 @@
   python3 tests/header.py
 
 Compared: the version, the sizes, the greatest allowance, each refusal with its word (README.md has document 01's
-table), each component code with its name in the register, and that the library has the functions that the header
-declares.
+table), each component code with its name in the register, that the library has the functions that the header
+declares, and that each has the promise of the function that it calls, word for word: the must-fail edits of the C
+interface wrong the functions that are called.
 """
 import os
 import re
@@ -49,6 +50,40 @@ def upper(words):
     return re.sub('[^A-Z0-9]+', '_', words.upper()).strip('_')
 
 
+def functions(crate):
+    """Each function's parameters with its result and promise, on one line, and its body."""
+    source = text('crates', crate, 'src', 'lib.rt')
+    found = re.findall(r'^(?:pub )?(?:extern "C" )?fn (\w+)(.*?)^\{\n(.*?)^\}', source, re.M | re.S)
+    return {name: (re.sub(r',? ?\)', ')', ' '.join(promise.split())).replace('( ', '('), body.strip())
+            for name, promise, body in found}
+
+
+def meanings(crate):
+    """What the names that a source brings in stand for, and its public constants."""
+    source = text('crates', crate, 'src', 'lib.rt')
+    out = {name: (crate, name) for name in re.findall(r'^pub const (\w+):', source, re.M)}
+    for line in re.findall(r'^(?:ghost )?use [^;]*;', source, re.M):
+        ghost, plain = re.fullmatch(r'ghost use (\S+)\.\{(.*)\};', line), re.fullmatch(r'use (\S+)::(\w+);', line)
+        if not ghost and not plain:
+            fail('not understood in crates/%s/src/lib.rt: %s' % (crate, line))
+        for name in ghost[2].split(', ') if ghost else [plain[2]]:
+            out[name.strip('_')] = ((ghost or plain)[1], name)
+    return out
+
+
+def same_promise(name, promise, body):
+    """An exported function hands its parameters on, and promises what the function that it calls promises."""
+    call = re.fullmatch(r'(\w+)::(\w+)\(([\w, ]*)\)', body)
+    if not call or call[3].split(', ') != re.findall(r'(\w+): ', promise.partition(')')[0]):
+        fail('%s does more than to hand its parameters on' % name)
+    if functions(call[1])[call[2]][0] != promise:
+        fail('%s and %s::%s have other parameters or promises' % (name, call[1], call[2]))
+    here, there = meanings('saugrinte'), meanings(call[1])
+    for word in set(re.findall(r'[^\s(){}\[\],;:&]+', promise)):
+        if here.get(word) != there.get(word):
+            fail('%s in the promises of %s and %s::%s is not the same' % (word, name, call[1], call[2]))
+
+
 def sheet_bytes(sizes):
     """The bytes of the longest sheet by the source's own sum, with these figures in place of the source's."""
     source = text('crates', 'sheet', 'src', 'lib.rt')
@@ -63,7 +98,7 @@ def main():
     refusals, codes = ({n: int(v) for n, v in re.findall(r'SAUGRINTE_([A-Z_]+) = ([0-9]+)', body)} for body in enums)
 
     same('the version', macros['VERSION'], constant('saugrinte', 'VERSION'),
-         definition('saugrinte', 'Interface.antt', 'VERSION'))
+         definition('c_reply', 'Interface.antt', 'VERSION'))
     same('the size of an analysis', macros['CODES'], constant('analysis', 'CODES'),
          definition('analysis', 'Register.antt', 'CODES'))
     same('the room for records', macros['RECORDS'], constant('sheet', 'RECORDS'),
@@ -105,6 +140,11 @@ def main():
     exported = set(re.findall(r'extern "C" fn (saugrinte_\w+)\(', text('crates', 'saugrinte', 'src', 'lib.rt')))
     if declared != exported:
         fail('functions of the header or of the library alone: %s' % sorted(declared ^ exported))
+    handed_on = {name: f for name, f in functions('saugrinte').items() if name != 'saugrinte_version'}
+    if len(handed_on) != len(exported) - 1:
+        fail('the library has other functions than it exports')
+    for name, (promise, body) in handed_on.items():
+        same_promise(name, promise, body)
     print('header: version %d, %d sizes, %d refusals, %d codes and %d functions are the library\'s' % (
         macros['VERSION'], len(macros) - 1, len(refusals), len(codes), len(declared)))
 

@@ -1,5 +1,6 @@
-// The C interface of include/saugrinte.h. An answer holds 0, or a refusal's number with its place; what a call leaves
-// in each buffer is in specs/Interface.antt.
+// The C interface of include/saugrinte.h: the version, and each other function as a call of the crate that has it, with
+// the same promise. An answer holds 0, or a refusal's number with its place; what a call leaves in each buffer is in
+// c_reply/specs/Interface.antt.
 //
 // No public function has a `requires`.
 ghost use mathlib.Core.Path.{_≡_};
@@ -7,40 +8,22 @@ ghost use lib.ListN.{getD};
 ghost use Rattle.analysis.specs.Check.{AtFault};
 ghost use Rattle.sheet.specs.Read.{readOf, FaultIn};
 ghost use Rattle.sheet.specs.Write.{writtenOf, leftOf};
-ghost use Rattle.sheet.specs.declared.Reading.the-variants.{Refused};
 ghost use Rattle.ternary.specs.Answer.{partialOf};
 ghost use Rattle.whole.specs.Whole.{wholeNumber};
 ghost use Rattle.controller.specs.Record.{recordOf};
-ghost use Rattle.split.specs.AnswerCases.{numberOf, codeOf, figuresOf, heldOf};
+ghost use Rattle.split.specs.AnswerCases.{figuresOf, heldOf};
 ghost use Rattle.rating.specs.Rate.{splitAnswer, searchOutcome, sheetOutcome};
-ghost use Rattle.demand.specs.Small.{SmallFigures};
-ghost use Rattle.saugrinte.specs.Interface.{VERSION, reply, codeIn, replyOf, splitFrom, size};
-ghost use Rattle.saugrinte.specs.Interface.{partialReply, partialIn, readReply, readOr};
-ghost use Rattle.saugrinte.specs.Interface.{writtenReply, writtenLength};
-use analysis::Analysis;
+ghost use Rattle.c_reply.specs.Interface.{VERSION, codeIn, replyOf, splitFrom, size};
+ghost use Rattle.c_reply.specs.Interface.{partialReply, partialIn, readReply, readOr};
+ghost use Rattle.c_reply.specs.Interface.{writtenReply, writtenLength};
 use analysis::CODES;
+use c_ratings::FIGURES;
+use c_reply::Reply;
 use controller::ControllerRecord;
-use rating::Outcome;
-use refusal::OUT_OF_RANGE;
 use sheet::RECORDS;
-use sheet::Reading;
-use sheet::Split;
-use sheet::Written;
-use split::Answer;
-use ternary::Partial;
 
 // The version, 1.1.0: 10000, 100 and 1 times its three figures.
 const VERSION: u32 = 10100;
-
-// Rating, spread and rounds.
-const FIGURES: usize = 3;
-
-// 0 for done, or the refusal's number with its place.
-#[repr(C)]
-pub struct Reply {
-    pub number: u32,
-    pub place: u32,
-}
 
 // The library's version.
 #[no_mangle]
@@ -48,125 +31,6 @@ pub extern "C" fn saugrinte_version() -> u32
     ensures { λ r. ⌜ r ≡ VERSION ⌝ }
 {
     VERSION
-}
-
-// A refusal's reply.
-fn refused(number: u32, place: u32) -> Reply
-    ensures { λ r. ⌜ r ≡ reply number place ⌝ }
-{
-    Reply { number, place }
-}
-
-// The rating of a sheet, with figures that fit.
-fn rated(sheet: &[u8]) -> Outcome
-    ensures { λ r. ⌜ (r ≡ sheetOutcome (now (sheet .entry)) (codeOf (r .answer)))
-        × (numberOf (r .answer) ≡ 5 → FaultIn (getD (now (sheet .entry)) 0 0) (now (sheet .entry)) (codeOf (r .answer)))
-        × SmallFigures (r .answer) ⌝ }
-{
-    rating::rate_sheet(sheet)
-}
-
-// The rating by the search, with figures that fit.
-fn searched(amounts: [u32; CODES], allowance: u32) -> Outcome
-    ensures { λ r. ⌜ (r ≡ searchOutcome amounts allowance (codeOf (r .answer)))
-        × (numberOf (r .answer) ≡ 5 → AtFault amounts (codeOf (r .answer))) × SmallFigures (r .answer) ⌝ }
-{
-    rating::rate_by_search(Analysis { amounts }, allowance)
-}
-
-// The rating of a proposed split, with figures that fit.
-fn proposed(amounts: [u32; CODES], split: Split) -> Answer
-    ensures { λ r. ⌜ (r ≡ splitAnswer amounts split (codeOf r))
-        × (numberOf r ≡ 5 → AtFault amounts (codeOf r)) × SmallFigures r ⌝ }
-{
-    rating::rate_split(Analysis { amounts }, split)
-}
-
-// The reply of a rating, or of its refusal.
-fn reply_of(answer: Answer) -> Reply
-    ensures { λ r. ⌜ r ≡ replyOf answer ⌝ }
-{
-    match answer {
-        Answer::Rated {
-            rating: _,
-            spread: _,
-            rounds: _,
-        } => Reply {
-            number: 0,
-            place: 0,
-        },
-        Answer::Refused { number, place } => Reply { number, place },
-    }
-}
-
-// The figures of a rating; a refusal leaves them.
-fn put_figures(answer: Answer, figures: &mut [i64; FIGURES])
-    requires { ⌜ SmallFigures answer ⌝ }
-    ensures { λ _. ⌜ now (figures .exit) ≡ figuresOf answer (now (figures .entry)) ⌝ }
-{
-    if let Answer::Rated {
-        rating,
-        spread,
-        rounds,
-    } = answer {
-        let signed_spread = spread as i64;
-        let signed_rounds = rounds as i64;
-        *figures = [rating, signed_spread, signed_rounds];
-    }
-}
-
-// The split beside a rating; a refusal leaves count and columns.
-fn put_split(
-    answer: Answer,
-    split: Split,
-    count: &mut usize,
-    systems: &mut [u8; RECORDS],
-    codes: &mut [u8; RECORDS],
-    parts: &mut [u32; RECORDS],
-)
-    ensures { λ _. ⌜ (now (count .exit) ≡ heldOf answer (split .count) (now (count .entry)))
-        × (now (systems .exit) ≡ heldOf answer (split .systems) (now (systems .entry)))
-        × (now (codes .exit) ≡ heldOf answer (split .codes) (now (codes .entry)))
-        × (now (parts .exit) ≡ heldOf answer (split .amounts) (now (parts .entry))) ⌝ }
-{
-    let found_count = split.count;
-    let found_systems = split.systems;
-    let found_codes = split.codes;
-    let found_parts = split.amounts;
-    if let Answer::Rated {
-        rating: _,
-        spread: _,
-        rounds: _,
-    } = answer {
-        *count = found_count;
-        *systems = found_systems;
-        *codes = found_codes;
-        *parts = found_parts;
-    }
-}
-
-// A rating's figures and the split found; a refusal leaves every buffer.
-fn put_outcome(
-    x: Outcome,
-    figures: &mut [i64; FIGURES],
-    count: &mut usize,
-    systems: &mut [u8; RECORDS],
-    codes: &mut [u8; RECORDS],
-    parts: &mut [u32; RECORDS],
-) -> Reply
-    requires { ⌜ SmallFigures (x .answer) ⌝ }
-    ensures { λ r. ⌜ (r ≡ replyOf (x .answer))
-        × (now (figures .exit) ≡ figuresOf (x .answer) (now (figures .entry)))
-        × (now (count .exit) ≡ heldOf (x .answer) (x .split .count) (now (count .entry)))
-        × (now (systems .exit) ≡ heldOf (x .answer) (x .split .systems) (now (systems .entry)))
-        × (now (codes .exit) ≡ heldOf (x .answer) (x .split .codes) (now (codes .entry)))
-        × (now (parts .exit) ≡ heldOf (x .answer) (x .split .amounts) (now (parts .entry))) ⌝ }
-{
-    let answer = x.answer;
-    let split = x.split;
-    put_split(answer, split, count, systems, codes, parts);
-    put_figures(answer, figures);
-    reply_of(answer)
 }
 
 // Rates a sheet.
@@ -187,8 +51,7 @@ pub extern "C" fn saugrinte_rate(
         × (now (parts .exit) ≡ heldOf (x .answer) (x .split .amounts) (now (parts .entry))) ⌝ }
     ensures { λ r. ⌜ (r .number ≡ 5 → FaultIn (getD (now (sheet .entry)) 0 0) (now (sheet .entry)) (codeIn r)) ⌝ }
 {
-    let outcome = rated(sheet);
-    put_outcome(outcome, figures, count, systems, codes, parts)
+    c_ratings::rate_sheet(sheet, figures, count, systems, codes, parts)
 }
 
 // Rates an analysis by the search.
@@ -210,26 +73,7 @@ pub extern "C" fn saugrinte_search(
         × (now (parts .exit) ≡ heldOf (x .answer) (x .split .amounts) (now (parts .entry))) ⌝ }
     ensures { λ r. ⌜ (r .number ≡ 5 → AtFault (now (amounts .entry)) (codeIn r)) ⌝ }
 {
-    let gas = *amounts;
-    let found = searched(gas, allowance);
-    put_outcome(found, figures, count, systems, codes, parts)
-}
-
-// The split that a count and three columns are.
-fn split_from(
-    count: usize,
-    systems: &[u8; RECORDS],
-    codes: &[u8; RECORDS],
-    parts: &[u32; RECORDS],
-) -> Split
-    ensures { λ r. ⌜ r ≡ splitFrom count (now (systems .entry)) (now (codes .entry)) (now (parts .entry)) ⌝ }
-{
-    Split {
-        count,
-        systems: *systems,
-        codes: *codes,
-        amounts: *parts,
-    }
+    c_ratings::rate_by_search(amounts, allowance, figures, count, systems, codes, parts)
 }
 
 // Rates an analysis with a proposed split.
@@ -247,11 +91,7 @@ pub extern "C" fn saugrinte_rate_split(
         × (now (figures .exit) ≡ figuresOf x (now (figures .entry))) ⌝ }
     ensures { λ r. ⌜ (r .number ≡ 5 → AtFault (now (amounts .entry)) (codeIn r)) ⌝ }
 {
-    let split = split_from(count, systems, codes, parts);
-    let gas = *amounts;
-    let rated = proposed(gas, split);
-    put_figures(rated, figures);
-    reply_of(rated)
+    c_ratings::rate_split(amounts, count, systems, codes, parts, figures)
 }
 
 // The partial number of a system.
@@ -266,17 +106,7 @@ pub extern "C" fn saugrinte_partial_number(
     ensures { λ r. let x = partialOf system n1 n2 n3 in ⌜ (r ≡ partialReply x)
         × (now (number .exit) ≡ partialIn x (now (number .entry))) ⌝ }
 {
-    let partial = ternary::partial_number(system, n1, n2, n3);
-    match partial {
-        Partial::Number(n) => {
-            *number = n;
-            Reply {
-                number: 0,
-                place: 0,
-            }
-        }
-        Partial::Refused(refusal) => refused(refusal, 0),
-    }
+    c_numbers::partial_number(system, n1, n2, n3, number)
 }
 
 // Reads a sheet.
@@ -297,38 +127,7 @@ pub extern "C" fn saugrinte_read(
         × (now (parts .exit) ≡ readOr (x .answer) (x .split .amounts) (now (parts .entry))) ⌝ }
     ensures { λ r. ⌜ (r .number ≡ 5 → FaultIn (getD (now (sheet .entry)) 0 0) (now (sheet .entry)) (codeIn r)) ⌝ }
 {
-    let read = reader::read(sheet);
-    let answer = read.answer;
-    if let Reading::Refused {
-        number,
-        place,
-        code,
-    } = answer {
-        return read_refused(number, place, code);
-    }
-    let read_amounts = read.analysis.amounts;
-    *amounts = read_amounts;
-    *count = read.split.count;
-    let read_systems = read.split.systems;
-    *systems = read_systems;
-    let read_codes = read.split.codes;
-    *codes = read_codes;
-    let read_parts = read.split.amounts;
-    *parts = read_parts;
-    Reply {
-        number: 0,
-        place: 0,
-    }
-}
-
-// The reply to a sheet that is turned away: the code at fault with 5, else the record's place.
-fn read_refused(number: u32, place: u32, code: u32) -> Reply
-    ensures { λ r. ⌜ r ≡ readReply (Refused number place code) ⌝ }
-{
-    Reply {
-        number,
-        place: if number == OUT_OF_RANGE { code } else { place },
-    }
+    c_sheets::read_sheet(sheet, amounts, count, systems, codes, parts)
 }
 
 // Writes a sheet.
@@ -348,18 +147,7 @@ pub extern "C" fn saugrinte_write(
         × (now (length .exit) ≡ writtenLength x (now (length .entry))) ⌝ }
     ensures { λ r. ⌜ (r .number ≡ 5 → AtFault (now (amounts .entry)) (codeIn r)) ⌝ }
 {
-    let given = split_from(count, systems, codes, parts);
-    let written = writer::write(Analysis { amounts: *amounts }, given, buffer);
-    match written {
-        Written::Length(n) => {
-            *length = n;
-            Reply {
-                number: 0,
-                place: 0,
-            }
-        }
-        Written::Refused { number, code } => refused(number, code),
-    }
+    c_sheets::write_sheet(amounts, count, systems, codes, parts, buffer, length)
 }
 
 // The controller's record of a rating and a spread in units.
@@ -367,7 +155,7 @@ pub extern "C" fn saugrinte_write(
 pub extern "C" fn saugrinte_controller(rating: i64, spread: u64) -> ControllerRecord
     ensures { λ r. ⌜ r ≡ recordOf rating spread ⌝ }
 {
-    controller::record(rating, spread)
+    c_numbers::controller_record(rating, spread)
 }
 
 // The whole methane number of a rating in units.
@@ -375,5 +163,5 @@ pub extern "C" fn saugrinte_controller(rating: i64, spread: u64) -> ControllerRe
 pub extern "C" fn saugrinte_whole_number(rating: i64) -> i64
     ensures { λ r. ⌜ r ≡ wholeNumber rating ⌝ }
 {
-    whole::whole_number(rating)
+    c_numbers::whole_number(rating)
 }

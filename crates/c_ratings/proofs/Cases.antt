@@ -1,0 +1,81 @@
+-- What the ratings for C meet: an answer as number and place, and what stands in each buffer. Assumes nothing.
+use mathlib.Core.Path.{_≡_, refl, sym, ap, _∙_, subst}
+use mathlib.Core.List.{List, [], _∷_}
+use Prim.Native.Nat.{ℕ, _<_}
+use native.Mathlib.Omega.{arith}
+use lib.IntN.{ℤ, pos, natAbs}
+use mir.Syntax.{w64}
+use mir.Val.{SFits, toZ, ofZ}
+use mir.ValLaws.{toZ-ofZ}
+use Rattle.integer.specs.Ring.{mag-le}
+use Rattle.split.specs.declared.Answer.{Answer}
+use Rattle.split.specs.declared.Answer.the-variants.{Rated, Refused}
+use Rattle.split.specs.AnswerCases.{numberOf, codeOf, figuresOf, heldOf}
+use Rattle.rating.specs.declared.Outcome.{Outcome}
+use Rattle.demand.specs.Small.{SmallFigures}
+use Rattle.c_reply.specs.Interface.{codeIn, replyOf}
+use Rattle.c_reply.specs.declared.Reply.{Reply}
+
+-- ---- the figures of a rating
+
+module _ (x : Answer) (w : ℤ) (s r : ℕ) (e : x ≡ Rated w s r) where
+  small : SmallFigures x → (natAbs w < 9007199254740992) × (s < 9007199254740992)
+  small h = subst SmallFigures e h
+
+  pub spread-fits : SmallFigures x → SFits w64 (pos s)
+  spread-fits h = let z = small h in record { sfits = omega (arith, z .1) }
+
+  rating-back : SmallFigures x → toZ w64 (ofZ w64 w) ≡ w
+  rating-back h = let z = small h in toZ-ofZ w64 w (record { sfits = omega (arith, z .0, mag-le w) })
+
+  pub figures-put : SmallFigures x → SFits w64 (pos r) → (l : List ℤ)
+      → toZ w64 (ofZ w64 w) ∷ toZ w64 s ∷ toZ w64 r ∷ [] ≡ figuresOf x l
+  figures-put h few l =
+      ap (λ (z : ℤ). z ∷ toZ w64 s ∷ toZ w64 r ∷ []) (rating-back h)
+      ∙ ap (λ (z : ℤ). w ∷ z ∷ toZ w64 r ∷ []) (toZ-ofZ w64 (pos s) (spread-fits h))
+      ∙ ap (λ (z : ℤ). w ∷ pos s ∷ z ∷ []) (toZ-ofZ w64 (pos r) few)
+      ∙ sym (ap (λ (y : Answer). figuresOf y l) e)
+
+module _ (x : Answer) (number place : ℕ) (e : x ≡ Refused number place) where
+  pub figures-left : (l : List ℤ) → l ≡ figuresOf x l
+  figures-left l = sym (ap (λ (y : Answer). figuresOf y l) e)
+
+-- ---- number and place tell the code that 5 carries
+
+code-kept : (x : Answer) → codeIn (replyOf x) ≡ codeOf x
+code-kept (Rated w s r) = refl
+code-kept (Refused number place) = refl
+
+same-code : (x : Answer) (r : Reply) → r ≡ replyOf x → codeIn r ≡ codeOf x
+same-code x r e = ap codeIn e ∙ code-kept x
+
+pub fault-at : (x : Answer) (r : Reply) → r ≡ replyOf x → (P : ℕ → Type 0) → (numberOf x ≡ 5 → P (codeOf x)) → r .number ≡ 5 → P (codeIn r)
+fault-at x r e P p z = subst P (sym (same-code x r e)) (p (sym (ap (λ (y : Reply). y .number) e) ∙ z))
+
+-- `f` gives the answer for a code with 5
+module _ (f : ℕ → Answer) (x : Answer) (h : x ≡ f (codeOf x)) (r : Reply) (e : r ≡ replyOf x) where
+  answered : x ≡ f (codeIn r)
+  answered = h ∙ ap f (sym (same-code x r e))
+
+  pub reply-is : r ≡ replyOf (f (codeIn r))
+  reply-is = e ∙ ap replyOf answered
+
+  pub figures-are : (after before : List ℤ) → after ≡ figuresOf x before → after ≡ figuresOf (f (codeIn r)) before
+  figures-are after before g = g ∙ ap (λ (y : Answer). figuresOf y before) answered
+
+-- the same with a split: the reply and each buffer after a call, beside what it held
+abbrev Put : Outcome → Reply → (figures₀ figures : List ℤ) (count₀ count : ℕ) (systems₀ systems codes₀ codes parts₀ parts : List ℕ)
+    → Type 0
+Put x r figures₀ figures count₀ count systems₀ systems codes₀ codes parts₀ parts =
+    (r ≡ replyOf (x .answer))
+    × (figures ≡ figuresOf (x .answer) figures₀)
+    × (count ≡ heldOf (x .answer) (x .split .count) count₀)
+    × (systems ≡ heldOf (x .answer) (x .split .systems) systems₀)
+    × (codes ≡ heldOf (x .answer) (x .split .codes) codes₀)
+    × (parts ≡ heldOf (x .answer) (x .split .amounts) parts₀)
+
+module _ (f : ℕ → Outcome) (x : Outcome) (h : x ≡ f (codeOf (x .answer))) (r : Reply) (figures₀ figures : List ℤ) (count₀ count : ℕ) (systems₀ systems codes₀ codes parts₀ parts : List ℕ) (p : Put x r figures₀ figures count₀ count systems₀ systems codes₀ codes parts₀ parts) where
+  pub put-is : Put (f (codeIn r)) r figures₀ figures count₀ count systems₀ systems codes₀ codes parts₀ parts
+  put-is =
+      subst (λ (y : Outcome). Put y r figures₀ figures count₀ count systems₀ systems codes₀ codes parts₀ parts)
+      (h ∙ ap f (sym (same-code (x .answer) r (p .0)))) p

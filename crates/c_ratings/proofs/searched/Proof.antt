@@ -1,0 +1,20 @@
+-- `c_ratings::searched` meets its contract. Assumes nothing.
+use mathlib.Core.Path.{_≡_, sym, ap, subst}
+use lib.ListN.{length}
+use Rattle.analysis.specs.Register.{CODES}
+use Rattle.rating.specs.declared.Outcome.{Outcome}
+use Rattle.demand.specs.Small.{SmallFigures, search-small}
+use borrow.Author.Needs.{needs}
+use Rattle.c_ratings.proofs.searched.Statement.{statement}
+use Rattle.c_ratings.proofs.searched.Tie as tie
+
+rate-by-search-requires : tie.Need-rate-by-search-requires
+rate-by-search-requires c κs = search needs
+
+returns : tie.Need-returns
+returns c = let l : length (c .before .args .amounts) ≡ CODES = search needs in
+    let e = c .rate-by-search .ensures in
+    (e .0, e .1, subst SmallFigures (sym (ap (λ (x : Outcome). x .answer) (e .0))) (search-small _ l _ _))
+
+pub searched-spec : {M : Type 1} → statement M
+searched-spec = tie.close (tie.spec rate-by-search-requires returns)

@@ -1,0 +1,101 @@
+// The calls of the C interface that read and write a sheet. What each leaves in each buffer is in
+// c_reply/specs/Interface.antt.
+//
+// No public function has a `requires`.
+ghost use mathlib.Core.Path.{_≡_};
+ghost use lib.ListN.{getD};
+ghost use Rattle.analysis.specs.Check.{AtFault};
+ghost use Rattle.sheet.specs.Read.{readOf, FaultIn};
+ghost use Rattle.sheet.specs.Write.{writtenOf, leftOf};
+ghost use Rattle.sheet.specs.declared.Reading.the-variants.{Refused};
+ghost use Rattle.c_reply.specs.Interface.{codeIn, splitFrom, size, readReply, readOr, writtenReply, writtenLength};
+use analysis::Analysis;
+use analysis::CODES;
+use c_reply::Reply;
+use c_reply::refused;
+use c_reply::split_from;
+use refusal::OUT_OF_RANGE;
+use sheet::RECORDS;
+use sheet::Reading;
+use sheet::Written;
+
+// Reads a sheet.
+pub fn read_sheet(
+    sheet: &[u8],
+    amounts: &mut [u32; CODES],
+    count: &mut usize,
+    systems: &mut [u8; RECORDS],
+    codes: &mut [u8; RECORDS],
+    parts: &mut [u32; RECORDS],
+) -> Reply
+    ensures { λ r. let x = readOf (now (sheet .entry)) (codeIn r) in ⌜ (r ≡ readReply (x .answer))
+        × (now (amounts .exit) ≡ readOr (x .answer) (x .analysis .amounts) (now (amounts .entry)))
+        × (now (count .exit) ≡ readOr (x .answer) (x .split .count) (now (count .entry)))
+        × (now (systems .exit) ≡ readOr (x .answer) (x .split .systems) (now (systems .entry)))
+        × (now (codes .exit) ≡ readOr (x .answer) (x .split .codes) (now (codes .entry)))
+        × (now (parts .exit) ≡ readOr (x .answer) (x .split .amounts) (now (parts .entry))) ⌝ }
+    ensures { λ r. ⌜ (r .number ≡ 5 → FaultIn (getD (now (sheet .entry)) 0 0) (now (sheet .entry)) (codeIn r)) ⌝ }
+{
+    let read = reader::read(sheet);
+    let answer = read.answer;
+    if let Reading::Refused {
+        number,
+        place,
+        code,
+    } = answer {
+        return read_refused(number, place, code);
+    }
+    let read_amounts = read.analysis.amounts;
+    *amounts = read_amounts;
+    *count = read.split.count;
+    let read_systems = read.split.systems;
+    *systems = read_systems;
+    let read_codes = read.split.codes;
+    *codes = read_codes;
+    let read_parts = read.split.amounts;
+    *parts = read_parts;
+    Reply {
+        number: 0,
+        place: 0,
+    }
+}
+
+// The reply to a sheet that is turned away: the code at fault with 5, else the record's place.
+fn read_refused(number: u32, place: u32, code: u32) -> Reply
+    ensures { λ r. ⌜ r ≡ readReply (Refused number place code) ⌝ }
+{
+    Reply {
+        number,
+        place: if number == OUT_OF_RANGE { code } else { place },
+    }
+}
+
+// Writes a sheet.
+pub fn write_sheet(
+    amounts: &[u32; CODES],
+    count: usize,
+    systems: &[u8; RECORDS],
+    codes: &[u8; RECORDS],
+    parts: &[u32; RECORDS],
+    buffer: &mut [u8],
+    length: &mut usize,
+) -> Reply
+    ensures { λ r. let p = splitFrom count (now (systems .entry)) (now (codes .entry)) (now (parts .entry)) in
+        let x = writtenOf (now (amounts .entry)) p (size (now (buffer .entry))) (codeIn r) in ⌜ (r ≡ writtenReply x)
+        × (now (buffer .exit) ≡ leftOf (now (amounts .entry)) p (now (buffer .entry)))
+        × (now (length .exit) ≡ writtenLength x (now (length .entry))) ⌝ }
+    ensures { λ r. ⌜ (r .number ≡ 5 → AtFault (now (amounts .entry)) (codeIn r)) ⌝ }
+{
+    let given = split_from(count, systems, codes, parts);
+    let written = writer::write(Analysis { amounts: *amounts }, given, buffer);
+    match written {
+        Written::Length(n) => {
+            *length = n;
+            Reply {
+                number: 0,
+                place: 0,
+            }
+        }
+        Written::Refused { number, code } => refused(number, code),
+    }
+}
