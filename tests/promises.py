@@ -1,6 +1,6 @@
 #!/usr/bin/env python3
 """Checks that docs/PROMISES.md names what is there: each definition, theorem, function, must-fail edit and file; and that
-it names every must-fail edit and every public function.
+it names every must-fail edit and every public function. README.md's table of crates has every crate.
 
   python3 tests/promises.py [--show]       --show: each name with its line and what it was taken for
 
@@ -26,6 +26,7 @@ import sys
 
 ROOT = os.path.dirname(os.path.dirname(os.path.abspath(__file__)))
 DOCUMENT = os.path.join(ROOT, 'docs', 'PROMISES.md')
+README = os.path.join(ROOT, 'README.md')
 LANGUAGE = {'requires', 'ensures', 'simp', 'struct', 'i64'}
 WORD = r"[^\s(){},;:|\[\]`]+"
 
@@ -423,6 +424,9 @@ def main():
     functions = {(c, f) for c, crate in all_crates.items() if crate.library() for f in crate.public}
     errors += ['docs/PROMISES.md does not name the edit %s/%s' % e for e in sorted(edits - document.edits)]
     errors += ['docs/PROMISES.md does not name the function %s::%s' % f for f in sorted(functions - document.functions)]
+    named = re.findall(r'^\| (`[^|]*`) \|', text_of(README).partition('\n| crate | what it has |\n')[2], re.M)
+    listed = {c for cell in named for c in re.findall(r'`(\w+)`', cell)}
+    errors += ["README.md's table of crates: %s is there or in the tree alone" % c for c in sorted(listed ^ set(all_crates))]
     if not edits or not functions or not document.found:
         errors.append('no edits, no functions or no names: the tree was not read')
     if sys.argv[1:] == ['--show']:
