@@ -28,6 +28,7 @@ few = 0 ∷ 0 ∷ 1 ∷ 0 ∷ 1 ∷ 1 ∷ 0 ∷ 0 ∷ replicate 24 0
 
 -- at stride 2 no cell can give; the stride is halved, and the allowance's one round is still there for methane's move
 pub halved : runOf (4 ∷ 8 ∷ []) 2 0 1 3 few 1 0 .cells ≡ 1 ∷ 0 ∷ 1 ∷ 0 ∷ 0 ∷ 1 ∷ 0 ∷ 0 ∷ replicate 24 0
-unfolding worked rowsOf horner coefs sumAbs placeIn keepsRule isSystem tableOf partialNumber memberOf hasOf sumTo greatestTo leastTo first partsOf
+unfolding worked rowsOf horner coefs sumAbs placeIn keepsRule isSystem tableOf partialNumber memberOf hasOf
+    sumTo greatestTo leastTo first partsOf
     numberAt spreadOf squareOf imbalanceOf shift movedOf betweenOf affordsOf lowersOf canOf firstOf goOn turnOf runOf
 halved = refl

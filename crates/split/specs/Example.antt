@@ -26,5 +26,7 @@ unfolding squareOf
 cut = (refl, refl, refl)
 
 pub example : proposedOf 500000 chosen 3 (979229 ∷ 16803 ∷ 2438 ∷ 1530 ∷ []) (cellsOf chosen 3 amounts) 999468 ≡ Rated (pos 910787384) 369794 0
-unfolding worked rowsOf horner coefs sumAbs placeIn keepsRule isSystem tableOf partialNumber memberOf hasOf sumTo sumToZ greatestTo leastTo allTo someTo table partsOf columnOf numberAt heldOf rankOf cellsOf spreadOf weightedOf meanOf inertNumber ratingOf resums someEmpty proposedOf
+unfolding worked rowsOf horner coefs sumAbs placeIn keepsRule isSystem tableOf partialNumber memberOf hasOf
+    sumTo sumToZ greatestTo leastTo allTo someTo table partsOf columnOf numberAt heldOf rankOf cellsOf spreadOf
+    weightedOf meanOf inertNumber ratingOf resums someEmpty proposedOf
 example = refl

@@ -127,9 +127,10 @@ module _ (system n1 n2 n3 : ℕ) where
   )
 
   -- 12: such a system, and the amounts add up to 0 or to more than 1000000
-  pub refused-12 :
-      ((isSystem system ≡ true) × ((parts ≡ 0) ⊎ (1000000 < parts)) → is (Refused 12))
-      × (is (Refused 12) → (isSystem system ≡ true) × ((parts ≡ 0) ⊎ (1000000 < parts)))
+  abbrev pub NoMixture : Type 0
+  NoMixture = (isSystem system ≡ true) × ((parts ≡ 0) ⊎ (1000000 < parts))
+
+  pub refused-12 : (NoMixture → is (Refused 12)) × (is (Refused 12) → NoMixture)
   unfolding partialOf
   refused-12 = (
     λ h. at {r = inRange system n1 n2 n3} (h .0) (⊎-elim (mixture-zero parts) (mixture-above parts) (h .1)) refl,
@@ -139,9 +140,10 @@ module _ (system n1 n2 n3 : ℕ) where
   )
 
   -- 17: such a system and a mixture, and a share outside its range
-  pub refused-17 :
-      ((isSystem system ≡ true) × (0 < parts) × (parts ≤ 1000000) × ¬ Shares (rangesOf system) n1 n2 n3 → is (Refused 17))
-      × (is (Refused 17) → (isSystem system ≡ true) × (0 < parts) × (parts ≤ 1000000) × ¬ Shares (rangesOf system) n1 n2 n3)
+  abbrev pub ShareOutside : Type 0
+  ShareOutside = (isSystem system ≡ true) × (0 < parts) × (parts ≤ 1000000) × ¬ Shares (rangesOf system) n1 n2 n3
+
+  pub refused-17 : (ShareOutside → is (Refused 17)) × (is (Refused 17) → ShareOutside)
   unfolding partialOf
   refused-17 = (
     λ h. at (h .0) (mixture-yes parts (h .1) (h .2)) (out (h .3)),
