@@ -4,7 +4,7 @@ use mathlib.Core.Bool.{Bool, true, false, not, _&&_, _||_}
 use mathlib.Core.List.{List, [], _∷_}
 use Prim.Native.Nat.{ℕ, _+_, _*_, _/_, _%_, _<_, _≤_}
 use native.Mathlib.Omega.{arith}
-use lib.Dec.{eqb, leb, ltb, eqb→eq, leb→le}
+use lib.Dec.{eqb, leb, eqb→eq, leb→le}
 use lib.ListN.{getD}
 use borrow.Author.Tests.{eqb-true, leb-true}
 use Rattle.analysis.specs.Register.{CODES, ifElse, statusOf}
@@ -42,12 +42,12 @@ module _ (k x range : ℕ) (h : k < CODES) (e : range ≡ rangeOf k) where
   unfolding statusOf
   least-some = leb→le 1 (leastOf k) (at (λ i y. leb 1 (leastOf i)) ranges tt k h)
 
-  required-is : (eqb k 0 || ltb 5 k) ≡ not (requiredOf k)
+  required-is : not (eqb k 1) ≡ not (requiredOf k)
   unfolding statusOf
   required-is =
-      same-eq (eqb k 0 || ltb 5 k) (not (requiredOf k)) (at (λ i y. same (eqb i 0 || ltb 5 i) (not (requiredOf i))) ranges tt k h)
+      same-eq (not (eqb k 1)) (not (requiredOf k)) (at (λ i y. same (not (eqb i 1)) (not (requiredOf i))) ranges tt k h)
 
-  tested : ((eqb x 0 && (eqb k 0 || ltb 5 k)) || (leb (range % 4294967296) x && leb x (range / 4294967296))) ≡ inRange k x
+  tested : ((eqb x 0 && not (eqb k 1)) || (leb (range % 4294967296) x && leb x (range / 4294967296))) ≡ inRange k x
   unfolding inRange
   tested = rw (least-is, greatest-is, required-is) (go (not (requiredOf k)) (leb x (greatestOf k)) (eqb x 0) (leb (leastOf k) x) refl refl)
     where
@@ -58,8 +58,8 @@ module _ (k x range : ℕ) (h : k < CODES) (e : range ≡ rangeOf k) where
       go a c false false p q = refl
 
   -- the code at fault, by the test
-  pub fault-before : (fault : ℕ) → ((eqb x 0 && (eqb k 0 || ltb 5 k)) || (leb (range % 4294967296) x && leb x (range / 4294967296))) ≡ true → fault ≡ ifElse (inRange k x) fault k
+  pub fault-before : (fault : ℕ) → ((eqb x 0 && not (eqb k 1)) || (leb (range % 4294967296) x && leb x (range / 4294967296))) ≡ true → fault ≡ ifElse (inRange k x) fault k
   fault-before fault t = rw (sym tested ∙ t)
 
-  pub fault-here : (fault : ℕ) → ((eqb x 0 && (eqb k 0 || ltb 5 k)) || (leb (range % 4294967296) x && leb x (range / 4294967296))) ≡ false → k ≡ ifElse (inRange k x) fault k
+  pub fault-here : (fault : ℕ) → ((eqb x 0 && not (eqb k 1)) || (leb (range % 4294967296) x && leb x (range / 4294967296))) ≡ false → k ≡ ifElse (inRange k x) fault k
   fault-here fault t = rw (sym tested ∙ t)

@@ -41,10 +41,15 @@ greatestOf code = greatestBy (statusOf code)
 abbrev pub requiredOf : ℕ → Bool
 requiredOf code = requiredBy (statusOf code)
 
--- is the amount in the code's range? 0 counts as absent, and is where the code may be absent
+-- is the amount in the range of a code of this status? 0 counts as absent, and is where the code may be absent
+abbrev pub inRangeBy : Status → ℕ → Bool
+inRangeBy status amount =
+    ifElse (eqb amount 0)
+    (not (requiredBy status))
+    (ifElse (leb (leastBy status) amount) (leb amount (greatestBy status)) false)
+
 unfoldable pub inRange : ℕ → ℕ → Bool
-inRange code amount =
-    ifElse (eqb amount 0) (not (requiredOf code)) (ifElse (leb (leastOf code) amount) (leb amount (greatestOf code)) false)
+inRange code amount = inRangeBy (statusOf code) amount
 
 -- is each amount in its range, the first being that of `code`?
 abbrev pub allInRange : ℕ → List ℕ → Bool

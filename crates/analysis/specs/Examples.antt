@@ -1,6 +1,6 @@
 -- Worked examples (document 01, "Gases and their figures": run and compared). Assumes nothing.
 use mathlib.Core.Path.{_≡_, refl}
-use mathlib.Core.List.{List, _∷_}
+use mathlib.Core.List.{List, _∷_, _++_}
 use Prim.Native.Nat.{ℕ, _-_}
 use lib.ListN.{replicate}
 use Rattle.analysis.specs.Register.{CODES, statusOf}
@@ -35,3 +35,12 @@ ethane-99 = refl
 ethane-100 : refusalOf (gas 987900 100) ≡ 0
 unfolding refusalOf inRange totalFits statusOf
 ethane-100 = refl
+
+-- methane may be alone beside nitrogen, and may not be absent
+methane-alone : refusalOf (0 ∷ 999700 ∷ replicate 10 0 ++ (200 ∷ replicate (CODES - 13) 0)) ≡ 0
+unfolding refusalOf inRange totalFits statusOf
+methane-alone = refl
+
+methane-absent : refusalOf (gas 0 20000) ≡ 5
+unfolding refusalOf inRange statusOf
+methane-absent = refl

@@ -4,4 +4,5 @@ pub mod CheckedCases
 pub mod Check
 pub mod Packed
 pub mod Ranges
+pub mod Required
 pub mod Examples

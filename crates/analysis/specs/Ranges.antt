@@ -3,6 +3,7 @@
 use mathlib.Core.Path.{_≡_, refl, sym, ap, _∙_}
 use mathlib.Core.List.{List, [], _∷_}
 use mathlib.Core.Bool.{Bool, true, false, not}
+use mathlib.Core.Logic.{_⊎_, inl, inr}
 use Prim.Native.Nat.{ℕ, zero, suc, _+_, _≤_, _<_}
 use native.Mathlib.Omega.{arith}
 use native.Mathlib.Numerals.{add-one}
@@ -34,6 +35,10 @@ total-go k a h = rw (drop-cons a k 0 h, add-one)
 
 pub total-end : (k : ℕ) (a : List ℕ) → length a ≤ k → totalOf (drop k a) ≡ 0
 total-end k a h = rw drop-of-length-le
+
+-- an amount that is absent, or at least the least
+abbrev pub NoneOr : ℕ → ℕ → Type 0
+NoneOr least x = (x ≡ 0) ⊎ (least ≤ x)
 
 -- an amount that is in range, by cases on the two tests
 module _ (least greatest x : ℕ) where
@@ -70,6 +75,14 @@ module _ (code x : ℕ) (h : inRange code x ≡ true) where
 
   pub range-required : requiredOf code ≡ true → leastOf code ≤ x
   range-required r = range-least (range-present r)
+
+  -- absent, or at least the least
+  pub range-or-absent : NoneOr (leastOf code) x
+  range-or-absent = go (eqb x 0) refl
+    where
+      go : (b : Bool) → eqb x 0 ≡ b → NoneOr (leastOf code) x
+      go true e = inl (eqb-true x 0 e)
+      go false e = inr (range-least (eqb-false x 0 e))
 
 -- each amount of an analysis whose amounts are all in range
 all-head : (t u : Bool) → ifElse t u false ≡ true → (t ≡ true) × (u ≡ true)
@@ -111,23 +124,27 @@ module _ (a : List ℕ) (h : refusalOf a ≡ 0) where
   unfolding totalFits
   passed-greatest = leb-true (totalOf a) 1000100 (all-head (leb 999900 (totalOf a)) (leb (totalOf a) 1000100) passed-total .1)
 
--- the ranges as inequalities, code by code, and the total
+-- the ranges as inequalities, code by code, and the total; what carbon dioxide and nitrogen have at least is not needed
 pub record WithinRanges (a : List ℕ) : Type 0 where
   pub no-code : getD a 0 0 ≡ 0
   pub methane-least : 400000 ≤ getD a 1 0
   pub methane-greatest : getD a 1 0 ≤ 999700
-  pub ethane-least : 100 ≤ getD a 2 0
+  pub ethane-least : NoneOr 100 (getD a 2 0)
   pub ethane-greatest : getD a 2 0 ≤ 150000
-  pub propane-least : 100 ≤ getD a 3 0
+  pub propane-least : NoneOr 100 (getD a 3 0)
   pub propane-greatest : getD a 3 0 ≤ 60000
-  pub i-butane-least : 10 ≤ getD a 4 0
+  pub i-butane-least : NoneOr 10 (getD a 4 0)
   pub i-butane-greatest : getD a 4 0 ≤ 40000
-  pub n-butane-least : 10 ≤ getD a 5 0
+  pub n-butane-least : NoneOr 10 (getD a 5 0)
   pub n-butane-greatest : getD a 5 0 ≤ 40000
+  pub neo-pentane-least : NoneOr 10 (getD a 6 0)
   pub neo-pentane-greatest : getD a 6 0 ≤ 500
+  pub i-pentane-least : NoneOr 10 (getD a 7 0)
   pub i-pentane-greatest : getD a 7 0 ≤ 20000
+  pub n-pentane-least : NoneOr 10 (getD a 8 0)
   pub n-pentane-greatest : getD a 8 0 ≤ 20000
   pub retired-nine : getD a 9 0 ≡ 0
+  pub hexanes-least : NoneOr 10 (getD a 10 0)
   pub hexanes-greatest : getD a 10 0 ≤ 15000
   pub carbon-dioxide-greatest : getD a 11 0 ≤ 100000
   pub nitrogen-greatest : getD a 12 0 ≤ 150000
@@ -171,6 +188,9 @@ module _ (a : List ℕ) (l : length a ≡ CODES) where
     at-least : (k : ℕ) → k < CODES → requiredOf k ≡ true → leastOf k ≤ getD a k 0
     at-least k s r = range-required k (getD a k 0) (all-at a k (passed-ranges a h) (omega arith)) r
 
+    or-absent : (k : ℕ) → k < CODES → NoneOr (leastOf k) (getD a k 0)
+    or-absent k s = range-or-absent k (getD a k 0) (all-at a k (passed-ranges a h) (omega arith))
+
     -- not refused: every range holds
     pub within-ranges : WithinRanges a
     unfolding statusOf
@@ -179,18 +199,22 @@ module _ (a : List ℕ) (l : length a ≡ CODES) where
           no-code = let z = at-most 0 (omega arith) in omega arith;
           methane-least = at-least 1 (omega arith) refl;
           methane-greatest = at-most 1 (omega arith);
-          ethane-least = at-least 2 (omega arith) refl;
+          ethane-least = or-absent 2 (omega arith);
           ethane-greatest = at-most 2 (omega arith);
-          propane-least = at-least 3 (omega arith) refl;
+          propane-least = or-absent 3 (omega arith);
           propane-greatest = at-most 3 (omega arith);
-          i-butane-least = at-least 4 (omega arith) refl;
+          i-butane-least = or-absent 4 (omega arith);
           i-butane-greatest = at-most 4 (omega arith);
-          n-butane-least = at-least 5 (omega arith) refl;
+          n-butane-least = or-absent 5 (omega arith);
           n-butane-greatest = at-most 5 (omega arith);
+          neo-pentane-least = or-absent 6 (omega arith);
           neo-pentane-greatest = at-most 6 (omega arith);
+          i-pentane-least = or-absent 7 (omega arith);
           i-pentane-greatest = at-most 7 (omega arith);
+          n-pentane-least = or-absent 8 (omega arith);
           n-pentane-greatest = at-most 8 (omega arith);
           retired-nine = let z = at-most 9 (omega arith) in omega arith;
+          hexanes-least = or-absent 10 (omega arith);
           hexanes-greatest = at-most 10 (omega arith);
           carbon-dioxide-greatest = at-most 11 (omega arith);
           nitrogen-greatest = at-most 12 (omega arith);

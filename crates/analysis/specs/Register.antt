@@ -29,13 +29,13 @@ register =
     -- methane
     entry 1 (live 400000 999700 true) ∷
     -- ethane
-    entry 2 (live 100 150000 true) ∷
+    entry 2 (live 100 150000 false) ∷
     -- propane
-    entry 3 (live 100 60000 true) ∷
+    entry 3 (live 100 60000 false) ∷
     -- i-butane
-    entry 4 (live 10 40000 true) ∷
+    entry 4 (live 10 40000 false) ∷
     -- n-butane
-    entry 5 (live 10 40000 true) ∷
+    entry 5 (live 10 40000 false) ∷
     -- neo-pentane
     entry 6 (live 10 500 false) ∷
     -- i-pentane

@@ -48,13 +48,13 @@ const RANGES: [u64; CODES] = [
 ];
 
 // The code where its amount is out of its range, else the code at fault so far. 0 is in range where the code may be absent:
-// all but 1 to 5.
+// all but 1.
 fn fault_at(code: usize, amount: u32, range: u64, fault: usize) -> usize
     requires { ⌜ (code < CODES) × (range ≡ rangeOf code) ⌝ }
     ensures { λ r. ⌜ r ≡ ifElse (inRange code amount) fault code ⌝ }
 {
     let x = amount as u64;
-    let absent = (x == 0) & ((code == 0) | (5 < code));
+    let absent = (x == 0) & (code != 1);
     let fits = absent | ((range % ABOVE <= x) & (x <= range / ABOVE));
     if fits { fault } else { code }
 }

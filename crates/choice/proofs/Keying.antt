@@ -1,18 +1,22 @@
 -- What the keys of the candidates tell: which are chosen, which scores most, and what a component takes. Assumes nothing.
-use Prim.Native.Nat.{ℕ, zero, suc, _+_, _/_, _%_, _≤_, _<_}
+use Prim.Native.Nat.{ℕ, zero, suc, _+_, _*_, _-_, _/_, _%_, _^_, _≤_, _<_}
 use mathlib.Core.Path.{_≡_, refl, sym, ap, _∙_}
 use mathlib.Core.Bool.{Bool, true, false, cond, _&&_}
 use mathlib.Core.List.{List, [], _∷_}
 use native.Mathlib.Omega.{arith}
-use native.Mathlib.Nat.{add-zero}
+use native.Mathlib.Nat.{add-zero, add-assoc, mul-le-mul}
 use native.Mathlib.Numerals.{add-one}
-use lib.Dec.{eqb}
+use lib.Bits.{bitAnd, and-le-l}
+use lib.Count.{ones, ones-le}
+use lib.Dec.{eqb, ltb}
+use lib.Pow.{pow-mono}
 use lib.ListN.{getD, set, length, drop, replicate, length-set, getD-replicate}
 use lib.Seq.{getD-set-same, getD-set-other}
-use borrow.Author.Tests.{lt-ltb, le-ltb, eqb-true, eqb-false}
-use Rattle.systems.specs.Systems.{COMPONENTS, memberOf, hasOf, candidates}
-use Rattle.systems.specs.Choice.{NUMBERS, order, fold, weightedOf, fitnessOf, isChosen, oneIf, countOf, containingOf, scoreOf, betterOf, fittestOf, takeOf, passOf, marksOf}
-use Rattle.systems.specs.Table.{none-has}
+use borrow.Author.Tests.{lt-ltb, le-ltb, eqb-true, eqb-false, eq-eqb, ne-eqb}
+use Rattle.systems.specs.Systems.{COMPONENTS, memberOf, hasOf, elem, candidates}
+use Rattle.systems.specs.Choice.{NUMBERS, order, fold, weightedOf, fitnessOf, allTo, maskFrom, maskOf, inMask, presentOf, presentIn, standingOf, keep, isChosen, oneIf, countOf, containingOf, scoreOf, betterOf, fittestOf, takeOf, passOf, marksOf}
+use Rattle.systems.specs.Table.{none-has, to-true, eachTo}
+use Rattle.systems.specs.Presence.{Every, every-elem, mask-lt}
 use Rattle.systems.specs.Scores.{better-next, better-before}
 use Rattle.choice.specs.Keys.{KEYS, weighedTo, keyOf, Keyed}
 use Rattle.choice.proofs.Loops.{next, done}
@@ -24,21 +28,62 @@ pub weighed-next : (mix : List ℕ) (system c k x : ℕ) → k ≡ weighedTo mix
 unfolding weighedTo
 weighed-next mix system c k x e w = rw (add-one c) (omega (arith, e, w))
 
--- what holds at each of a list's numbers
-unfoldable Every : (ℕ → Type 0) → List ℕ → Type 0
-Every P [] = 0 ≤ 0
-Every P (x ∷ xs) = P x × Every P xs
-
-every-at : (P : ℕ → Type 0) (xs : List ℕ) → Every P xs → (i : ℕ) → i < length xs → P (getD xs i 0)
-unfolding Every
-every-at P [] e i h = absurd (omega arith)
-every-at P (x ∷ xs) e zero h = e .0
-every-at P (x ∷ xs) e (suc i) h = every-at P xs (e .1) i (omega arith)
-
 -- the components that a candidate contains are its members
-pub fitness-is : (mix : List ℕ) (i : ℕ) → i < length candidates → weighedTo mix (getD candidates i 0) COMPONENTS ≡ fitnessOf mix (getD candidates i 0)
+fitness-at : (mix : List ℕ) (s : ℕ) → elem s candidates ≡ true → weighedTo mix s COMPONENTS ≡ fitnessOf mix s
 unfolding Every weighedTo fitnessOf hasOf memberOf
-fitness-is mix = every-at (λ s. weighedTo mix s COMPONENTS ≡ fitnessOf mix s) candidates (omega arith, (omega arith, (omega arith, (omega arith, omega arith))))
+fitness-at mix = every-elem (λ s. weighedTo mix s COMPONENTS ≡ fitnessOf mix s) candidates (omega arith, (omega arith, (omega arith, (omega arith, omega arith))))
+
+listedAt : ℕ → Bool
+listedAt i = elem (getD candidates i 0) candidates
+
+pub fitness-is : (mix : List ℕ) (i : ℕ) → i < length candidates → weighedTo mix (getD candidates i 0) COMPONENTS ≡ fitnessOf mix (getD candidates i 0)
+unfolding listedAt elem
+fitness-is mix i h = fitness-at mix (getD candidates i 0) (to-true (listedAt i) (eachTo listedAt (length candidates) tt i h))
+
+-- ---- the number present, and the standing
+
+pub all-next : (mix : List ℕ) (c k x : ℕ) → k ≡ allTo mix c + 1 → x ≡ weightedOf mix c → k + x ≡ allTo mix (c + 1) + 1
+unfolding allTo
+all-next mix c k x e w = rw (add-one c) (omega (arith, e, w))
+
+-- a component more in front of a mask
+pub mask-next : (f : ℕ → Bool) (c d p b : ℕ) → d + 1 ≡ c → c ≤ COMPONENTS → p ≡ maskFrom f (COMPONENTS - c) c → b ≡ cond (f d) 1 0
+    → p * 2 + b ≡ maskFrom f (COMPONENTS - d) d
+unfolding maskFrom
+mask-next f c d p b e h q r =
+    let n : COMPONENTS - d ≡ suc (COMPONENTS - c) = omega arith in
+    rw (n, e, q, r)
+
+pub mask-small : (f : ℕ → Bool) (c p : ℕ) → p ≡ maskFrom f (COMPONENTS - c) c → p < 2 ^ COMPONENTS
+mask-small f c p e = omega (arith, e, mask-lt f (COMPONENTS - c) c, pow-mono {i = COMPONENTS - c} {j = COMPONENTS} (omega arith))
+
+pub bit-one : (x : ℕ) → 0 < x → (_≡_ {A = ℕ} 1 (cond (ltb 0 x) 1 0)) × (1 ≤ 1)
+bit-one x h = (rw (lt-ltb 0 x h), omega arith)
+
+pub bit-zero : (x : ℕ) → x ≤ 0 → (_≡_ {A = ℕ} 0 (cond (ltb 0 x) 1 0)) × (0 ≤ 1)
+bit-zero x h = (rw (le-ltb 0 x h), omega arith)
+
+present-le : (p system : ℕ) → presentIn p system ≤ COMPONENTS
+unfolding presentIn maskOf
+present-le p system =
+    let h = and-le-l (maskOf system) p in
+    let l : maskOf system < 2 ^ COMPONENTS = mask-lt (hasOf system) COMPONENTS 0 in
+    ones-le COMPONENTS (bitAnd (maskOf system) p) (omega arith)
+
+pub count-is-present : (p system m n : ℕ) → m ≡ maskOf n → n ≡ system → (ones (bitAnd m p) ≡ presentIn p system) × (ones (bitAnd m p) ≤ COMPONENTS)
+unfolding presentIn
+count-is-present p system m n e f = rw (e, f) (refl, present-le p system)
+
+pub standing-is : (mix : List ℕ) (i p top n f : ℕ) → i < length candidates → p ≡ presentOf mix → top ≡ allTo mix COMPONENTS + 1 → n ≡ presentIn p (getD candidates i 0)
+    → f ≡ weighedTo mix (getD candidates i 0) COMPONENTS + 1 → n * top + f ≡ standingOf mix (getD candidates i 0) + 1
+unfolding standingOf
+standing-is mix i p top n f h e t q w =
+    let g : f ≡ fitnessOf mix (getD candidates i 0) + 1 = w ∙ ap (λ (x : ℕ). x + 1) (fitness-is mix i h) in
+    rw (q, e, t, g) (sym (add-assoc (presentIn (presentOf mix) (getD candidates i 0) * (allTo mix COMPONENTS + 1)) (fitnessOf mix (getD candidates i 0)) 1))
+
+-- the product fits
+pub standing-fits : (n top : ℕ) → n ≤ COMPONENTS → top ≤ 429496729500 * COMPONENTS + 1 → n * top ≤ COMPONENTS * (429496729500 * COMPONENTS + 1)
+standing-fits n top h l = mul-le-mul h l
 
 -- ---- a key and the marks
 
@@ -80,28 +125,28 @@ module _ (fit : ℕ → ℕ) (marks : List Bool) (s : ℕ) where
 pub record Fresh (mix : List ℕ) (keys : List ℕ) (i : ℕ) : Type 0 where
   pub most : i ≤ length candidates
   pub long : length keys ≡ KEYS
-  pub at : (j : ℕ) → j < i → getD keys j 0 ≡ fitnessOf mix (getD candidates j 0) + 1
+  pub at : (j : ℕ) → j < i → getD keys j 0 ≡ standingOf mix (getD candidates j 0) + 1
 
 pub fresh-none : (mix : List ℕ) → Fresh mix (replicate KEYS 0) 0
 fresh-none mix = record { most = omega arith; long = refl; at = λ j h. absurd (omega arith) }
 
-pub fresh-next : (mix keys : List ℕ) (i k : ℕ) → Fresh mix keys i → i < length candidates → k ≡ weighedTo mix (getD candidates i 0) COMPONENTS + 1 → Fresh mix (set keys i k) (i + 1)
+pub fresh-next : (mix keys : List ℕ) (i k : ℕ) → Fresh mix keys i → i < length candidates → k ≡ standingOf mix (getD candidates i 0) + 1 → Fresh mix (set keys i k) (i + 1)
 fresh-next mix keys i k f h e = record { most = omega arith; long = length-set keys i k ∙ f .long; at = λ j l. go j l (eqb j i) refl }
   where
-    go : (j : ℕ) → j < i + 1 → (b : Bool) → eqb j i ≡ b → getD (set keys i k) j 0 ≡ fitnessOf mix (getD candidates j 0) + 1
+    go : (j : ℕ) → j < i + 1 → (b : Bool) → eqb j i ≡ b → getD (set keys i k) j 0 ≡ standingOf mix (getD candidates j 0) + 1
     go j l true q =
-        rw (eqb-true j i q) (getD-set-same keys i k 0 (omega (arith, f .long)) ∙ e ∙ ap (λ (n : ℕ). n + 1) (fitness-is mix i h))
+        rw (eqb-true j i q) (getD-set-same keys i k 0 (omega (arith, f .long)) ∙ e)
     go j l false q =
         let d : j ≡ i → ⊥ = eqb-false j i q in
         rw (getD-set-other keys i j k 0 d) (f .at j (omega arith))
 
-pub fresh-all : (mix keys : List ℕ) (i : ℕ) → Fresh mix keys i → length candidates ≤ i → Keyed (fitnessOf mix) (replicate NUMBERS false) keys
+pub fresh-all : (mix keys : List ℕ) (i : ℕ) → Fresh mix keys i → length candidates ≤ i → Keyed (standingOf mix) (replicate NUMBERS false) keys
 fresh-all mix keys i k h =
     record {
       marked = refl;
       long = k .long;
       at = λ j l. k .at j (omega arith)
-          ∙ sym (key-open (fitnessOf mix) (replicate NUMBERS false) (getD candidates j 0) (getD-replicate NUMBERS (getD candidates j 0) false false (candidate-lt j (omega arith))));
+          ∙ sym (key-open (standingOf mix) (replicate NUMBERS false) (getD candidates j 0) (getD-replicate NUMBERS (getD candidates j 0) false false (candidate-lt j (omega arith))));
     }
 
 -- ---- how many chosen systems contain c, and the fittest that is not chosen
@@ -235,11 +280,40 @@ module _ (keys : List ℕ) (c i count best at : ℕ) (k : Tally keys c i count b
 
 -- ---- each component in turn, and again
 
--- the marks after i turns
-unfoldable pub marksAfter : (ℕ → ℕ) → ℕ → List Bool
-marksAfter fit zero = replicate NUMBERS false
-marksAfter fit (suc i) = takeOf fit candidates (1 + i / COMPONENTS) (marksAfter fit i) (getD order (i % COMPONENTS) 0)
+-- a component takes its turn where it is present
+unfoldable pub turnOf : (ℕ → ℕ) → ℕ → ℕ → List Bool → ℕ → List Bool
+turnOf fit p wanted marks c = elim (inMask p c) [ true ↦ takeOf fit candidates wanted marks c | false ↦ marks ]
 
-pub after-all : (fit : ℕ → ℕ) → marksAfter fit 8 ≡ marksOf fit candidates order
-unfolding marksAfter marksOf passOf fold
-after-all fit = refl
+pub turn-takes : (fit : ℕ → ℕ) (p wanted : ℕ) (marks : List Bool) (c : ℕ) → p / 2 ^ c % 2 ≡ 1 → turnOf fit p wanted marks c ≡ takeOf fit candidates wanted marks c
+unfolding turnOf inMask
+turn-takes fit p wanted marks c e = rw (eq-eqb (p / 2 ^ c % 2) 1 e, turnOf)
+
+pub turn-over : (fit : ℕ → ℕ) (p wanted : ℕ) (marks : List Bool) (c : ℕ) → (p / 2 ^ c % 2 ≡ 1 → ⊥) → turnOf fit p wanted marks c ≡ marks
+unfolding turnOf inMask
+turn-over fit p wanted marks c e = rw (ne-eqb (p / 2 ^ c % 2) 1 e, turnOf)
+
+pub turn-is : (fit : ℕ → ℕ) (p wanted : ℕ) (components : List ℕ) (marks : List Bool)
+    → fold (turnOf fit p wanted) components marks ≡ passOf fit candidates (keep p components) wanted marks
+unfolding turnOf passOf keep fold
+turn-is fit p wanted [] marks = refl
+turn-is fit p wanted (c ∷ components) marks = go (inMask p c) refl (turn-is fit p wanted components)
+  where
+    go : (b : Bool) → inMask p c ≡ b → ((marks : List Bool) → fold (turnOf fit p wanted) components marks ≡ passOf fit candidates (keep p components) wanted marks)
+        → fold (turnOf fit p wanted) (c ∷ components) marks ≡ passOf fit candidates (keep p (c ∷ components)) wanted marks
+    go true e f = rw (e, turnOf, keep) (f (takeOf fit candidates wanted marks c))
+    go false e f = rw (e, turnOf, keep) (f marks)
+
+-- the marks after i turns
+unfoldable pub marksAfter : (ℕ → ℕ) → ℕ → ℕ → List Bool
+marksAfter fit p zero = replicate NUMBERS false
+marksAfter fit p (suc i) = turnOf fit p (1 + i / COMPONENTS) (marksAfter fit p i) (getD order (i % COMPONENTS) 0)
+
+after-folds : (fit : ℕ → ℕ) (p : ℕ) → marksAfter fit p 8 ≡ fold (turnOf fit p 2) order (fold (turnOf fit p 1) order (replicate NUMBERS false))
+unfolding marksAfter fold
+after-folds fit p = refl
+
+pub after-all : (fit : ℕ → ℕ) (p : ℕ) → marksAfter fit p 8 ≡ marksOf fit candidates (keep p order)
+unfolding marksOf
+after-all fit p =
+    after-folds fit p ∙ turn-is fit p 2 order (fold (turnOf fit p 1) order (replicate NUMBERS false))
+    ∙ ap (passOf fit candidates (keep p order) 2) (turn-is fit p 1 order (replicate NUMBERS false))

@@ -1,5 +1,5 @@
 -- The list of chosen systems as it grows in an array of 8 places. Assumes nothing.
-use Prim.Native.Nat.{ℕ, suc, _+_, _-_, _/_, _%_, _≤_, _<_}
+use Prim.Native.Nat.{ℕ, suc, _+_, _-_, _/_, _%_, _^_, _≤_, _<_}
 use mathlib.Core.Path.{_≡_, refl, sym, ap, _∙_}
 use mathlib.Core.Bool.{Bool, true, false}
 use mathlib.Core.List.{List, [], _∷_, _++_}
@@ -8,11 +8,11 @@ use native.Mathlib.Omega.{arith}
 use lib.ListN.{getD, set, length, drop, replicate, length-append}
 use lib.Seq.{set-at, append-snoc}
 use Rattle.systems.specs.Systems.{COMPONENTS, candidates}
-use Rattle.systems.specs.Choice.{NUMBERS, SYSTEMS, order, takeOf, marksOf, fold, isChosen, fitnessOf, listOf, chosenOf, chooseOf, paddedOf, answerOf, choiceOf}
+use Rattle.systems.specs.Choice.{NUMBERS, SYSTEMS, order, takeOf, marksOf, fold, isChosen, keep, presentOf, standingOf, listOf, chosenOf, chooseOf, paddedOf, answerOf, choiceOf}
 use Rattle.choice.specs.Keys.{Keyed}
 use Rattle.systems.specs.declared.Choice.{Choice}
 use Rattle.choice.proofs.Loops.{next, done}
-use Rattle.choice.proofs.Keying.{chosen-of-key, open-of-key, marksAfter, after-all}
+use Rattle.choice.proofs.Keying.{chosen-of-key, open-of-key, turn-takes, turn-over, marksAfter, after-all}
 
 -- one more system at the end
 padded-set : (l : List ℕ) (s : ℕ) → length l < SYSTEMS → set (paddedOf l) (length l) s ≡ paddedOf (l ++ (s ∷ []))
@@ -90,27 +90,33 @@ lists-all keys count systems i k h fit marks d = listed-all marks count systems 
 
 -- ---- the turns of the components
 
-abbrev pub Turns : List ℕ → List ℕ → ℕ → Type 0
-Turns fresh keys i = (fit : ℕ → ℕ) → Keyed fit (replicate NUMBERS false) fresh → Keyed fit (marksAfter fit i) keys
+abbrev pub Turns : ℕ → List ℕ → List ℕ → ℕ → Type 0
+Turns p fresh keys i = (fit : ℕ → ℕ) → Keyed fit (replicate NUMBERS false) fresh → Keyed fit (marksAfter fit p i) keys
 
-pub turns-none : (fit : ℕ → ℕ) (keys : List ℕ) → Keyed fit (replicate NUMBERS false) keys → Keyed fit (marksAfter fit 0) keys
+pub turns-none : (p : ℕ) (fit : ℕ → ℕ) (keys : List ℕ) → Keyed fit (replicate NUMBERS false) keys → Keyed fit (marksAfter fit p 0) keys
 unfolding marksAfter
-turns-none fit keys k = k
+turns-none p fit keys k = k
 
-pub turns-next : (fresh keys later : List ℕ) (i c : ℕ) → Turns fresh keys i → c ≡ getD order (i % COMPONENTS) 0
+-- a component that is present takes its turn
+pub turns-next : (p : ℕ) (fresh keys later : List ℕ) (i c : ℕ) → Turns p fresh keys i → c ≡ getD order (i % COMPONENTS) 0 → p / 2 ^ c % 2 ≡ 1
     → ((fit : ℕ → ℕ) → (marks : List Bool) → Keyed fit marks keys → Keyed fit (takeOf fit candidates (1 + i / COMPONENTS) marks c) later)
-    → Turns fresh later (i + 1)
+    → Turns p fresh later (i + 1)
 unfolding marksAfter
-turns-next fresh keys later i c k e t fit f = rw (add-one, ← e) (t fit (marksAfter fit i) (k fit f))
+turns-next p fresh keys later i c k e q t fit f = rw (add-one, ← e, turn-takes fit p (1 + i / COMPONENTS) (marksAfter fit p i) c q) (t fit (marksAfter fit p i) (k fit f))
 
-pub turns-all : (fresh keys : List ℕ) (i : ℕ) → Turns fresh keys i → i ≤ 8 → 8 ≤ i
-    → (fit : ℕ → ℕ) → Keyed fit (replicate NUMBERS false) fresh → Keyed fit (marksOf fit candidates order) keys
-turns-all fresh keys i k h l fit f =
+-- one that is absent is passed over
+pub turns-over : (p : ℕ) (fresh keys : List ℕ) (i c : ℕ) → Turns p fresh keys i → c ≡ getD order (i % COMPONENTS) 0 → (p / 2 ^ c % 2 ≡ 1 → ⊥) → Turns p fresh keys (i + 1)
+unfolding marksAfter
+turns-over p fresh keys i c k e q fit f = rw (add-one, ← e, turn-over fit p (1 + i / COMPONENTS) (marksAfter fit p i) c q) (k fit f)
+
+pub turns-all : (p : ℕ) (fresh keys : List ℕ) (i : ℕ) → Turns p fresh keys i → i ≤ 8 → 8 ≤ i
+    → (fit : ℕ → ℕ) → Keyed fit (replicate NUMBERS false) fresh → Keyed fit (marksOf fit candidates (keep p order)) keys
+turns-all p fresh keys i k h l fit f =
     let e : i ≡ 8 = omega arith in
-    rw (ap (marksAfter fit) e ∙ after-all fit) at (k fit f)
+    rw (ap (marksAfter fit p) e ∙ after-all fit p) at (k fit f)
 
 -- the turns and the list make the choice
-pub choice-is : (mix keys : List ℕ) (r : Choice) → Keyed (fitnessOf mix) (marksOf (fitnessOf mix) candidates order) keys
+pub choice-is : (mix keys : List ℕ) (p : ℕ) (r : Choice) → p ≡ presentOf mix → Keyed (standingOf mix) (marksOf (standingOf mix) candidates (keep p order)) keys
     → ((fit : ℕ → ℕ) → (marks : List Bool) → Keyed fit marks keys → r ≡ answerOf (chosenOf candidates marks)) → r ≡ choiceOf mix
 unfolding chooseOf
-choice-is mix keys r k p = p (fitnessOf mix) (marksOf (fitnessOf mix) candidates order) k
+choice-is mix keys p r e k t = t (standingOf mix) (marksOf (standingOf mix) candidates (keep (presentOf mix) order)) (rw e at k)

@@ -63,10 +63,13 @@ weighted-le c x h l = mul-le-mul (leb→le (getD weights c 0) 100 (eachTo light 
 pub weighted-fits : (table : ℕ) → T (agree (weightAt table) (λ c. getD weights c 0) COMPONENTS) → (c x : ℕ) → c < COMPONENTS → x ≤ 4294967295 → weightAt table c * x < 2 ^ 64
 weighted-fits table t c x h l = rw (weight-is table t c h) (omega (arith, weighted-le c x h l))
 
+pub weigh-is : (table : ℕ) → T (agree (weightAt table) (λ c. getD weights c 0) COMPONENTS) → (c x : ℕ) → c < COMPONENTS → x ≤ 4294967295
+    → (weightAt table c * x ≡ getD weights c 0 * x) × (weightAt table c * x ≤ 429496729500)
+weigh-is table t c x h l = rw (weight-is table t c h) (refl, weighted-le c x h l)
+
 -- a component's weighted parts where a system has it, and 0 where it has not
-pub weighted-in : (table : ℕ) → T (agree (weightAt table) (λ c. getD weights c 0) COMPONENTS) → (b : Bool) (c x : ℕ) → c < COMPONENTS → x ≤ 4294967295 → b ≡ true
-    → (weightAt table c * x ≡ cond b (getD weights c 0 * x) 0) × (weightAt table c * x ≤ 429496729500)
-weighted-in table t b c x h l e = rw (e, weight-is table t c h) (refl, weighted-le c x h l)
+pub weighted-in : (b : Bool) (r w : ℕ) → b ≡ true → (r ≡ w) × (r ≤ 429496729500) → (r ≡ cond b w 0) × (r ≤ 429496729500)
+weighted-in b r w e h = rw e h
 
 pub weighted-out : (b : Bool) (w : ℕ) → b ≡ false → (0 ≡ cond b w 0) × (0 ≤ 429496729500)
 weighted-out b w e = rw e (refl, omega arith)

@@ -1,11 +1,12 @@
 // The choice of systems. No public function has a `requires`.
 ghost use mathlib.Core.Path.{_≡_};
 ghost use mathlib.Core.Bool.{Bool, false, cond};
+ghost use lib.Dec.{ltb};
 ghost use Prim.Native.Nat.{ℕ, _+_, _*_, _<_, _≤_};
 ghost use mathlib.Core.List.{List};
 ghost use lib.ListN.{getD, length, replicate};
 ghost use Rattle.systems.specs.Systems.{COMPONENTS, hasOf, candidates};
-ghost use Rattle.systems.specs.Choice.{NUMBERS, weights, order, fitnessOf, takeOf, marksOf, answerOf, chosenOf, choiceOf};
+ghost use Rattle.systems.specs.Choice.{NUMBERS, weights, order, allTo, presentOf, presentCount, presentIn, standingOf, keep, takeOf, marksOf, answerOf, chosenOf, choiceOf};
 ghost use Rattle.choice.specs.Keys.{Keyed, weighedTo};
 use systems::COMPONENTS;
 use systems::Choice;
@@ -49,21 +50,29 @@ fn contains(i: usize, c: usize) -> bool
     systems::has(number(i), c)
 }
 
-// The weight of component c times its parts x, where the candidate in place i contains it.
+// The weight of component c times its parts x.
+fn weigh(c: usize, x: u32) -> u64
+    requires { ⌜ c < COMPONENTS ⌝ }
+    ensures { λ r. ⌜ (r ≡ getD weights c 0 * x) × (r ≤ 429496729500) ⌝ }
+{
+    (WEIGHTS >> (c * 8)) % 256 * x as u64
+}
+
+// The same where the candidate in place i contains it.
 fn weighted(i: usize, c: usize, x: u32) -> u64
     requires { ⌜ (i < length candidates) × (c < COMPONENTS) ⌝ }
     ensures { λ r. ⌜ (r ≡ cond (hasOf (getD candidates i 0) c) (getD weights c 0 * x) 0) × (r ≤ 429496729500) ⌝ }
 {
     if contains(i, c) {
-        return (WEIGHTS >> (c * 8)) % 256 * x as u64;
+        return weigh(c, x);
     }
     0
 }
 
-// The key of the candidate in place i before it is chosen: its fitness times 480, and 1.
-fn key(m: [u32; COMPONENTS], i: usize) -> u64
+// The fitness of the candidate in place i times 480, and 1.
+fn fitness(m: [u32; COMPONENTS], i: usize) -> u64
     requires { ⌜ i < length candidates ⌝ }
-    ensures { λ r. ⌜ r ≡ weighedTo m (getD candidates i 0) COMPONENTS + 1 ⌝ }
+    ensures { λ r. ⌜ (r ≡ weighedTo m (getD candidates i 0) COMPONENTS + 1) × (r ≤ 429496729500 * COMPONENTS + 1) ⌝ }
 {
     let mut k: u64 = 1;
     let mut c: usize = 0;
@@ -74,14 +83,75 @@ fn key(m: [u32; COMPONENTS], i: usize) -> u64
     k
 }
 
-// The keys of the candidates before one is chosen.
-fn keys_of(m: [u32; COMPONENTS]) -> [u64; KEYS]
-    ensures { λ r. ⌜ Keyed (fitnessOf m) (replicate NUMBERS false) r ⌝ }
+// The weighted parts of all components, and 1: above every fitness times 480.
+fn above(m: [u32; COMPONENTS]) -> u64
+    ensures { λ r. ⌜ (r ≡ allTo m COMPONENTS + 1) × (r ≤ 429496729500 * COMPONENTS + 1) ⌝ }
 {
+    let mut k: u64 = 1;
+    let mut c: usize = 0;
+    while c < COMPONENTS {
+        k += weigh(c, m[c]);
+        c += 1;
+    }
+    k
+}
+
+// 1 where there are parts.
+fn one_if(x: u32) -> u32
+    ensures { λ r. ⌜ (r ≡ cond (ltb 0 x) 1 0) × (r ≤ 1) ⌝ }
+{
+    if x > 0 {
+        return 1;
+    }
+    0
+}
+
+// The components present, a bit for each.
+fn present(m: [u32; COMPONENTS]) -> u32
+    ensures { λ r. ⌜ r ≡ presentOf m ⌝ }
+{
+    let mut p: u32 = 0;
+    let mut c = COMPONENTS;
+    while 0 < c {
+        c -= 1;
+        p = p * 2 + one_if(m[c]);
+    }
+    p
+}
+
+// How many components of a mixture are present.
+pub fn present_count(m: [u32; COMPONENTS]) -> u32
+    ensures { λ r. ⌜ r ≡ presentCount m ⌝ }
+{
+    u32::count_ones(present(m))
+}
+
+// How many components of the candidate in place i are present.
+fn count(p: u32, i: usize) -> u32
+    requires { ⌜ i < length candidates ⌝ }
+    ensures { λ r. ⌜ (r ≡ presentIn p (getD candidates i 0)) × (r ≤ COMPONENTS) ⌝ }
+{
+    u32::count_ones(systems::mask(number(i)) & p)
+}
+
+// The key of the candidate in place i before it is chosen: the number present goes before the fitness.
+fn key(m: [u32; COMPONENTS], p: u32, top: u64, i: usize) -> u64
+    requires { ⌜ (i < length candidates) × (p ≡ presentOf m) × (top ≡ allTo m COMPONENTS + 1) × (top ≤ 429496729500 * COMPONENTS + 1) ⌝ }
+    ensures { λ r. ⌜ r ≡ standingOf m (getD candidates i 0) + 1 ⌝ }
+{
+    count(p, i) as u64 * top + fitness(m, i)
+}
+
+// The keys of the candidates before one is chosen.
+fn keys_of(m: [u32; COMPONENTS], p: u32) -> [u64; KEYS]
+    requires { ⌜ p ≡ presentOf m ⌝ }
+    ensures { λ r. ⌜ Keyed (standingOf m) (replicate NUMBERS false) r ⌝ }
+{
+    let top = above(m);
     let mut keys = [0u64; KEYS];
     let mut i: usize = 0;
     while i < CANDIDATES {
-        keys[i] = key(m, i);
+        keys[i] = key(m, p, top, i);
         i += 1;
     }
     keys
@@ -114,13 +184,16 @@ fn take(keys: &mut [u64; KEYS], wanted: usize, c: usize)
     }
 }
 
-// The components do so, one after the other, for one system each and then for two.
-fn turns(keys: &mut [u64; KEYS])
-    ensures { λ _. ⌜ ((fit : ℕ → ℕ) → Keyed fit (replicate NUMBERS false) (now (keys .entry)) → Keyed fit (marksOf fit candidates order) (now (keys .exit))) ⌝ }
+// The components present do so, one after the other, for one system each and then for two.
+fn turns(keys: &mut [u64; KEYS], p: u32)
+    ensures { λ _. ⌜ ((fit : ℕ → ℕ) → Keyed fit (replicate NUMBERS false) (now (keys .entry)) → Keyed fit (marksOf fit candidates (keep p order)) (now (keys .exit))) ⌝ }
 {
     let mut i: usize = 0;
     while i < 2 * COMPONENTS {
-        take(keys, 1 + i / COMPONENTS, ordered(i % COMPONENTS));
+        let c = ordered(i % COMPONENTS);
+        if (p >> c) % 2 == 1 {
+            take(keys, 1 + i / COMPONENTS, c);
+        }
         i += 1;
     }
 }
@@ -146,7 +219,8 @@ fn listed(keys: [u64; KEYS]) -> Choice
 pub fn choose(m: [u32; COMPONENTS]) -> Choice
     ensures { λ r. ⌜ r ≡ choiceOf m ⌝ }
 {
-    let mut keys = keys_of(m);
-    turns(&mut keys);
+    let p = present(m);
+    let mut keys = keys_of(m, p);
+    turns(&mut keys, p);
     listed(keys)
 }

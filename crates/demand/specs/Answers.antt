@@ -9,7 +9,6 @@ use lib.IntN.{ℤ}
 use lib.ListN.{getD, length}
 use borrow.Author.Tests.{eq-eqb, eqb-true}
 use Rattle.analysis.specs.Register.{CODES, ifElse}
-use Rattle.analysis.specs.Check.{refusalOf}
 use Rattle.sheet.specs.Split.{noSplit}
 use Rattle.sheet.specs.declared.Split.{Split}
 use Rattle.mixture.specs.Inert.{inertFirst}
@@ -29,8 +28,9 @@ use Rattle.split.specs.declared.Search.{Search}
 use Rattle.split.specs.declared.Search.the-variants.{Balanced, Unbalanced, Unfit}
 use Rattle.split.specs.declared.Found.{Found}
 use Rattle.rating.specs.Records.{systemAt, codeAt, systemsOf, codesOf, matchesAt, fitsOf}
-use Rattle.rating.specs.Rate.{LIMIT, ROUNDS, mixOf, systemsFor, countFor, checkedBy, splitBy, splitAnswer, recordsOf}
+use Rattle.rating.specs.Rate.{LIMIT, ROUNDS, mixOf, systemsFor, countFor, ratingRefusal, checkedBy, splitBy, splitAnswer, recordsOf}
 use Rattle.rating.specs.Rate.{outcome, foundBy, foundOutcome, searched, searchOutcome}
+use Rattle.rating.specs.RatedOn.{RatedOn}
 use Rattle.rating.specs.Ready.{room, shared, input}
 use Rattle.rating.specs.declared.Outcome.{Outcome}
 
@@ -80,8 +80,8 @@ module _ (ch : List ℕ) (k count : ℕ) (systems codes : List ℕ) where
 
 -- ---- a proposed split
 
--- of an analysis in range: 7 where its records do not fit, else the answer to its cells
-pub split-by-records : (a : List ℕ) (p : Split) (code : ℕ) (fits : Bool) → refusalOf a ≡ 0
+-- of an analysis that is rated on: 7 where its records do not fit, else the answer to its cells
+pub split-by-records : (a : List ℕ) (p : Split) (code : ℕ) (fits : Bool) → RatedOn a
     → fitsOf (systemsFor a) (countFor a) (p .count) (p .systems) (p .codes) ≡ fits
     → let cells = cellsOf (systemsFor a) (countFor a) (p .amounts) in
     let rated = proposedOf LIMIT (systemsFor a) (countFor a) (mixOf a) cells (inertFirst a) in
@@ -89,28 +89,28 @@ pub split-by-records : (a : List ℕ) (p : Split) (code : ℕ) (fits : Bool) →
 unfolding splitAnswer splitBy
 split-by-records a p code fits passed e = rw (passed, e)
 
--- with the expected records, of an analysis in range, the answer is that to its cells
-pub split-fits : (a : List ℕ) (p : Split) (code : ℕ) → refusalOf a ≡ 0 → p .count ≡ 3 * countFor a
+-- with the expected records, of an analysis that is rated on, the answer is that to its cells
+pub split-fits : (a : List ℕ) (p : Split) (code : ℕ) → RatedOn a → p .count ≡ 3 * countFor a
     → p .systems ≡ systemsOf (systemsFor a) (countFor a) → p .codes ≡ codesOf (systemsFor a) (countFor a)
     → splitAnswer a p code ≡ proposedOf LIMIT (systemsFor a) (countFor a) (mixOf a) (cellsOf (systemsFor a) (countFor a) (p .amounts)) (inertFirst a)
 unfolding splitAnswer splitBy
 split-fits a p code passed c s d =
     ap (λ (n : ℕ). checkedBy n code (splitBy (systemsFor a) (countFor a) (mixOf a) (inertFirst a) p)) passed
-    ∙ rw (c, s, d, expected-fit (systemsFor a) (countFor a) (room a))
+    ∙ rw (c, s, d, expected-fit (systemsFor a) (countFor a) (room a passed))
 
--- a rating says that the analysis is in range, and is that of the cells
+-- a rating says that 5, 6 and 16 let the analysis pass, and is that of the cells
 pub split-rated : (a : List ℕ) (p : Split) (code : ℕ) (w : ℤ) (s r : ℕ) → splitAnswer a p code ≡ Rated w s r
-    → (refusalOf a ≡ 0) × (proposedOf LIMIT (systemsFor a) (countFor a) (mixOf a) (cellsOf (systemsFor a) (countFor a) (p .amounts)) (inertFirst a) ≡ Rated w s r)
+    → (RatedOn a) × (proposedOf LIMIT (systemsFor a) (countFor a) (mixOf a) (cellsOf (systemsFor a) (countFor a) (p .amounts)) (inertFirst a) ≡ Rated w s r)
 unfolding splitAnswer splitBy
 split-rated a p code w s r is =
-    go (eqb (refusalOf a) 0) (fitsOf (systemsFor a) (countFor a) (p .count) (p .systems) (p .codes)) refl is
+    go (eqb (ratingRefusal a) 0) (fitsOf (systemsFor a) (countFor a) (p .count) (p .systems) (p .codes)) refl is
   where
     rated : Answer
     rated = proposedOf LIMIT (systemsFor a) (countFor a) (mixOf a) (cellsOf (systemsFor a) (countFor a) (p .amounts)) (inertFirst a)
 
-    go : (b f : Bool) → eqb (refusalOf a) 0 ≡ b → ifElse b (ifElse f rated (Refused 7 0)) (Refused (refusalOf a) (ifElse (eqb (refusalOf a) 5) code 0)) ≡ Rated w s r
-        → (refusalOf a ≡ 0) × (rated ≡ Rated w s r)
-    go true true e h = (eqb-true (refusalOf a) 0 e, h)
+    go : (b f : Bool) → eqb (ratingRefusal a) 0 ≡ b → ifElse b (ifElse f rated (Refused 7 0)) (Refused (ratingRefusal a) (ifElse (eqb (ratingRefusal a) 5) code 0)) ≡ Rated w s r
+        → (RatedOn a) × (rated ≡ Rated w s r)
+    go true true e h = (eqb-true (ratingRefusal a) 0 e, h)
     go true false e h = absurd (subst IsRated (sym h) tt)
     go false f e h = absurd (subst IsRated (sym h) tt)
 
@@ -124,31 +124,31 @@ rated-zero a p code w s r is =
 
 -- ---- the search
 
--- a rating by the search: the analysis is in range, and the search came to a balance
+-- a rating by the search: the analysis is rated on, and the search came to a balance
 pub search-rated : (a : List ℕ) (allowance code : ℕ) (w : ℤ) (s r : ℕ)
     → searchOutcome a allowance code .answer ≡ Rated w s r
-    → (refusalOf a ≡ 0) × (searched a allowance .search ≡ Balanced s r)
+    → (RatedOn a) × (searched a allowance .search ≡ Balanced s r)
     × (w ≡ ratingOf (systemsFor a) (countFor a) (searched a allowance .cells) (inertFirst a))
     × (searchOutcome a allowance code .split ≡ recordsOf (systemsFor a) (countFor a) (searched a allowance .cells))
 unfolding searchOutcome foundOutcome
-search-rated a allowance code w s r is = go (eqb (refusalOf a) 0) (searched a allowance .search) refl refl is
+search-rated a allowance code w s r is = go (eqb (ratingRefusal a) 0) (searched a allowance .search) refl refl is
   where
     by : Bool → Search → Outcome
     by b x = ifElse b (foundBy (systemsFor a) (countFor a) (inertFirst a) (searched a allowance .cells) x)
-        (outcome (Refused (refusalOf a) (ifElse (eqb (refusalOf a) 5) code 0)) noSplit)
+        (outcome (Refused (ratingRefusal a) (ifElse (eqb (ratingRefusal a) 5) code 0)) noSplit)
 
-    go : (b : Bool) (x : Search) → eqb (refusalOf a) 0 ≡ b → searched a allowance .search ≡ x
+    go : (b : Bool) (x : Search) → eqb (ratingRefusal a) 0 ≡ b → searched a allowance .search ≡ x
         → by b x .answer ≡ Rated w s r
-        → (refusalOf a ≡ 0) × (x ≡ Balanced s r)
+        → (RatedOn a) × (x ≡ Balanced s r)
         × (w ≡ ratingOf (systemsFor a) (countFor a) (searched a allowance .cells) (inertFirst a))
         × (by b x .split ≡ recordsOf (systemsFor a) (countFor a) (searched a allowance .cells))
-    go true (Balanced s′ r′) e f h = (eqb-true (refusalOf a) 0 e, cc, cc, refl)
+    go true (Balanced s′ r′) e f h = (eqb-true (ratingRefusal a) 0 e, cc, cc, refl)
     go true Unbalanced e f h = absurd (subst IsRated (sym h) tt)
     go true Unfit e f h = absurd (subst IsRated (sym h) tt)
     go false x e f h = absurd (subst IsRated (sym h) tt)
 
 -- what a balance is: a split that re-sums, with no system empty, and its spread within the limit
-pub balance : (a : List ℕ) → length a ≡ CODES → refusalOf a ≡ 0 → (allowance s r : ℕ)
+pub balance : (a : List ℕ) → length a ≡ CODES → RatedOn a → (allowance s r : ℕ)
     → searched a allowance .search ≡ Balanced s r
     → Balance (mixOf a) (systemsFor a) (countFor a) LIMIT (min allowance ROUNDS) (searched a allowance .cells) s r
 balance a long passed allowance s r is =
@@ -167,5 +167,5 @@ found-back a long allowance code code′ w s r is =
     let cells = searched a allowance .cells in
     ap (λ (p : Split). splitAnswer a p code′) f
     ∙ split-fits a (recordsOf ch k cells) code′ passed refl refl refl
-    ∙ put-back-records (mixOf a) ch k LIMIT (min allowance ROUNDS) cells s r b (shared a) (inertFirst a) (room a)
+    ∙ put-back-records (mixOf a) ch k LIMIT (min allowance ROUNDS) cells s r b (shared a passed) (inertFirst a) (room a passed)
     ∙ ap (λ (x : ℤ). Rated x s 0) (sym e)

@@ -1,36 +1,42 @@
 -- THE THIRD DEMAND, in the customer's words and order. Assumes nothing.
 --
--- For any analysis with amounts and total in range: whatever amounts are proposed as a split of its chosen systems,
--- they are rated exactly when they re-sum to the simplified mixture, no chosen system is empty and every two partial
--- numbers, as worked out, lie at most 0.05 apart (1). A split that the search found, whatever its allowance, put back
--- as a proposal for the same analysis, gets the same rating and spread (2). Every rating is less than 0.000004 (40
--- units) from the exact fraction of the formulas at those amounts (3). And from the first demand: each accepted sheet
--- ends in a rating or in refusal 11 where it has no split; where it has its own it ends in a rating or in one of 7 to
--- 10, and is rated exactly when; every sheet ends in a rating or in one of 1 to 11 (4).
+-- For any analysis with amounts and total in range that refusal 16 lets pass, with two systems as with three: whatever
+-- amounts are proposed as a split of its chosen systems, they are rated exactly when they re-sum to the simplified
+-- mixture, no chosen system is empty and every two partial numbers, as worked out, lie at most 0.05 apart (1). A split
+-- that the search found, whatever its allowance, put back as a proposal for the same analysis, gets the same rating and
+-- spread (2). Every rating is less than 0.000004 (40 units) from the exact fraction of the formulas at those amounts
+-- (3). And from the first demand: each accepted sheet ends in a rating or in refusal 11 where it has no split; where it
+-- has its own it ends in a rating or in one of 7 to 10, and is rated exactly when; one that is read and has fewer than
+-- two components is refused 16; every sheet ends in a rating, in one of 1 to 11 or in 16 (4).
 --
 -- The public functions `rate_split`, `rate_by_search` and `rate_sheet` promise `splitAnswer`, `searchOutcome` and
--- `sheetOutcome`, of which these theorems speak. An analysis is its 16 amounts, that of code k at index k; it is in
--- range when neither 5 nor 6 turns it away, `refusalOf a ≡ 0`. A split is rated when the answer to it is a rating, with
--- its spread, and no refusal: `IsRated`. `code` is the code that refusal 5 carries: any code at fault.
-use mathlib.Core.Path.{_≡_, refl, sym, _∙_, subst}
-use mathlib.Core.Bool.{Bool, true, false}
+-- `sheetOutcome`, of which these theorems speak. An analysis is its 16 amounts, that of code k at index k. It is in range
+-- when neither 5 nor 6 turns it away: `InRange`; it is rated on when 16 lets it pass as well: `RatedOn`. A split is rated
+-- when the answer to it is a rating, with its spread, and no refusal: `IsRated`. `code` is the code that refusal 5
+-- carries: any code at fault.
+use mathlib.Core.Path.{_≡_, refl, sym, ap, _∙_, subst}
+use mathlib.Core.Bool.{Bool, true, false, _&&_}
 use mathlib.Core.Logic.{_↔_, _⊎_}
 use mathlib.Core.List.{List}
 use Prim.Native.Nat.{ℕ, _+_, _*_, _≤_, _<_}
 use native.Mathlib.Omega.{arith}
+use borrow.Author.Tests.{lt-ltb}
 use lib.IntN.{ℤ, natAbs, _-ℤ_}
 use lib.ListN.{getD, length}
 use Rattle.integer.specs.Fraction.{Fraction, Within}
 use Rattle.formula.specs.Partial.{partialNumber}
 use Rattle.analysis.specs.Register.{CODES}
-use Rattle.analysis.specs.Check.{refusalOf}
+use Rattle.sheet.specs.Split.{noSplit}
 use Rattle.sheet.specs.Read.{readOf}
 use Rattle.sheet.specs.declared.Split.{Split}
 use Rattle.sheet.specs.declared.Reading.the-variants.{Read}
 use Rattle.mixture.specs.Simplification.{simplifiedOf}
 use Rattle.mixture.specs.Inert.{inertFirst}
-use Rattle.systems.specs.Systems.{COMPONENTS, memberOf}
-use Rattle.systems.specs.Chosen.{choice-choosable}
+use Rattle.systems.specs.Systems.{COMPONENTS, memberOf, hasOf}
+use Rattle.systems.specs.Members.{countTo}
+use Rattle.systems.specs.Choice.{presentAt, presentCount}
+use Rattle.systems.specs.Presence.{present-is, present-in-is}
+use Rattle.systems.specs.Chosen.{two-chosen, three-chosen}
 use Rattle.split.specs.Fold.{sumTo}
 use Rattle.split.specs.Split.{cellOf, systemOf, componentAt, cellsOf, partsOf, columnOf, numberAt}
 use Rattle.split.specs.Rating.{spreadOf, ratingOf}
@@ -45,18 +51,38 @@ use Rattle.split.specs.declared.Answer.{Answer}
 use Rattle.split.specs.declared.Answer.the-variants.{Rated, Refused}
 use Rattle.rating.specs.Records.{systemAt, codeAt, systemsOf, codesOf, fitsOf}
 use Rattle.rating.specs.Rate.{LIMIT, mixOf, systemsFor, countFor}
-use Rattle.rating.specs.Rate.{splitAnswer, searchOutcome, sheetOutcome}
-use Rattle.rating.specs.Ready.{chosen, room, million, inert-million}
+use Rattle.rating.specs.Rate.{outcome, splitAnswer, searchOutcome, sheetOutcome}
+use Rattle.rating.specs.RatedOn.{InRange, RatedOn, on-exactly-when, too-few}
+use Rattle.rating.specs.Ready.{choosable, chosen, room, million, inert-million}
 use Rattle.rating.specs.Ends.{read-passed, split-ends}
+use Rattle.rating.specs.declared.Outcome.{Outcome}
 use Rattle.demand.specs.Answers.{expected-fit, fits-expected, expected-fits, split-by-records, split-fits}
 use Rattle.demand.specs.Answers.{split-rated, found-back}
-use Rattle.demand.specs.Sheets.{accepted-ends, accepted-own, sheet-ends}
+use Rattle.demand.specs.Sheets.{accepted-ends, read-own, read-few, sheet-ends}
 use Rattle.demand.specs.RatedSheets.{analysisIn, splitRated, sheet-split}
 
--- ---- the words: of an analysis a, whose chosen systems are three
+-- ---- the words: of an analysis a
 
-pub three-systems : (a : List ℕ) → countFor a ≡ 3
-three-systems a = choice-choosable (simplifiedOf a) .three
+-- rated on: in range, and two components at least are present after simplification
+pub rated-on-exactly-when : (a : List ℕ) → RatedOn a ↔ (InRange a × (2 ≤ presentCount (simplifiedOf a)))
+rated-on-exactly-when a = on-exactly-when a
+
+-- then two components present have two chosen systems, three or four have three
+pub two-or-three : (a : List ℕ) → RatedOn a
+    → (presentCount (simplifiedOf a) ≡ 2 → countFor a ≡ 2) × (3 ≤ presentCount (simplifiedOf a) → countFor a ≡ 3)
+two-or-three a on =
+    let n = choosable a on .number in
+    (λ e. n ∙ two-chosen (presentCount (simplifiedOf a)) e, λ l. n ∙ three-chosen (presentCount (simplifiedOf a)) l)
+
+-- each component that is present is in two of them, and each of them contains two that are present
+pub present-twice : (a : List ℕ) → RatedOn a → (c : ℕ) → c < COMPONENTS → 0 < getD (simplifiedOf a) c 0
+    → 2 ≤ countTo (λ i. hasOf (systemOf (systemsFor a) i) c) (countFor a)
+present-twice a on c l h = choosable a on .twice c l (present-is (simplifiedOf a) c l ∙ lt-ltb 0 _ h)
+
+pub two-present-in : (a : List ℕ) → RatedOn a → (s : ℕ) → s < countFor a
+    → 2 ≤ countTo (λ c. hasOf (systemOf (systemsFor a) s) c && presentAt (simplifiedOf a) c) COMPONENTS
+two-present-in a on s l =
+    rw (present-in-is (simplifiedOf a) (systemOf (systemsFor a) s)) at (choosable a on .filled s l)
 
 -- any amounts xs at all, in the records of the chosen systems: systems rising, in each methane, ethane, propane, butane
 -- as contained, so that record r is of the system in place r / 3 and has its component in place r % 3
@@ -69,13 +95,13 @@ proposal a xs = record {
 }
 
 -- the chosen systems rise, and so do the components of each one's three records
-pub records-rise : (a : List ℕ)
+pub records-rise : (a : List ℕ) → RatedOn a
     → ((i j : ℕ) → i < j → j < countFor a → systemOf (systemsFor a) i < systemOf (systemsFor a) j)
     × ((s : ℕ) → s < countFor a
     → (componentAt (systemOf (systemsFor a) s) 0 < componentAt (systemOf (systemsFor a) s) 1)
     × (componentAt (systemOf (systemsFor a) s) 1 < componentAt (systemOf (systemsFor a) s) 2))
-records-rise a =
-    let x = choice-choosable (simplifiedOf a) in
+records-rise a on =
+    let x = choosable a on in
     (x .rising, λ s l. components-rise (systemOf (systemsFor a) s) (x .known s l))
 
 -- a split has these records: as many, each of the system and of the code expected of it
@@ -84,9 +110,9 @@ pub record Expected (a : List ℕ) (p : Split) : Type 0 where
   pub systems : (r : ℕ) → r < 3 * countFor a → getD (p .systems) r 0 ≡ systemAt (systemsFor a) (countFor a) r
   pub codes : (r : ℕ) → r < 3 * countFor a → getD (p .codes) r 0 ≡ codeAt (systemsFor a) (countFor a) r
 
-pub proposal-expected : (a xs : List ℕ) → Expected a (proposal a xs)
-proposal-expected a xs =
-    let x = fits-expected _ _ _ _ _ (expected-fit (systemsFor a) (countFor a) (room a)) in
+pub proposal-expected : (a : List ℕ) → RatedOn a → (xs : List ℕ) → Expected a (proposal a xs)
+proposal-expected a on xs =
+    let x = fits-expected _ _ _ _ _ (expected-fit (systemsFor a) (countFor a) (room a on)) in
     record { many = x .0; systems = x .1; codes = x .2 }
 
 -- the amounts by chosen system and component: what the system in place s is given of component c, which are 0 methane,
@@ -138,44 +164,44 @@ fit-is : (a xs : List ℕ) → Fit LIMIT (systemsFor a) (countFor a) (mixOf a) (
 unfolding columnOf partsOf numberAt
 fit-is a xs f = (f .sums, f .some, f .near)
 
--- ---- (1) any amounts at all, proposed for an analysis in range, are rated exactly when: the three
+-- ---- (1) any amounts at all, proposed for an analysis that is rated on, are rated exactly when: the three
 
-pub rated-exactly-when : (a : List ℕ) → refusalOf a ≡ 0 → (xs : List ℕ) (code : ℕ)
+pub rated-exactly-when : (a : List ℕ) → RatedOn a → (xs : List ℕ) (code : ℕ)
     → IsRated (splitAnswer a (proposal a xs) code) ↔ (ReSums a xs × NoneEmpty a xs × AllNear a xs)
-rated-exactly-when a passed xs code =
-    let e = split-fits a (proposal a xs) code passed refl refl refl in
+rated-exactly-when a on xs code =
+    let e = split-fits a (proposal a xs) code on refl refl refl in
     let fitted = fit-rated LIMIT (systemsFor a) (countFor a) (mixOf a) (cellsIn a xs) (inertFirst a) in
     let only = rated-fit LIMIT (systemsFor a) (countFor a) (mixOf a) (cellsIn a xs) (inertFirst a) in
     (λ r. fit-is a xs (only (subst IsRated e r)), λ h. subst IsRated (sym (e ∙ fitted (is-fit a xs h))) tt)
 
 --     and then with the formulas' rating and spread, which is within the limit
-pub rated-with : (a : List ℕ) → refusalOf a ≡ 0 → (xs : List ℕ) (code : ℕ)
+pub rated-with : (a : List ℕ) → RatedOn a → (xs : List ℕ) (code : ℕ)
     → ReSums a xs × NoneEmpty a xs × AllNear a xs
     → (splitAnswer a (proposal a xs) code ≡ Rated (ratingAt a xs) (spreadAt a xs) 0) × (spreadAt a xs ≤ LIMIT)
 unfolding numberAt
-rated-with a passed xs code h =
-    let e = split-fits a (proposal a xs) code passed refl refl refl in
+rated-with a on xs code h =
+    let e = split-fits a (proposal a xs) code on refl refl refl in
     let fitted = fit-rated LIMIT (systemsFor a) (countFor a) (mixOf a) (cellsIn a xs) (inertFirst a) (is-fit a xs h) in
     (e ∙ fitted, near-spread LIMIT (number a xs) (countFor a) (h .2))
 
---     a split in any records at all is answered as those amounts are where the records are the nine expected,
-pub expected-same : (a : List ℕ) → refusalOf a ≡ 0 → (p : Split) (code : ℕ) → Expected a p
+--     a split in any records at all is answered as those amounts are where the records are those expected,
+pub expected-same : (a : List ℕ) → RatedOn a → (p : Split) (code : ℕ) → Expected a p
     → splitAnswer a p code ≡ splitAnswer a (proposal a (p .amounts)) code
-expected-same a passed p code x =
+expected-same a on p code x =
     let fits = expected-fits _ _ _ (p .systems) (p .codes) (x .many) (x .systems) (x .codes) in
-    split-by-records a p code true passed fits ∙ sym (split-fits a (proposal a (p .amounts)) code passed refl refl refl)
+    split-by-records a p code true on fits ∙ sym (split-fits a (proposal a (p .amounts)) code on refl refl refl)
 
 --     and is rated exactly when they are, and the amounts keep the three
-pub records-rated-exactly-when : (a : List ℕ) → refusalOf a ≡ 0 → (p : Split) (code : ℕ)
+pub records-rated-exactly-when : (a : List ℕ) → RatedOn a → (p : Split) (code : ℕ)
     → IsRated (splitAnswer a p code)
     ↔ (Expected a p × ReSums a (p .amounts) × NoneEmpty a (p .amounts) × AllNear a (p .amounts))
-records-rated-exactly-when a passed p code =
-    let (only, when) = rated-exactly-when a passed (p .amounts) code in (
+records-rated-exactly-when a on p code =
+    let (only, when) = rated-exactly-when a on (p .amounts) code in (
       λ r.
           let x = expected r in
-          let h = only (subst IsRated (expected-same a passed p code x) r) in
+          let h = only (subst IsRated (expected-same a on p code x) r) in
           (x, h .0, h .1, h .2),
-      λ h. subst IsRated (sym (expected-same a passed p code (h .0))) (when (h .1, h .2, h .3)),
+      λ h. subst IsRated (sym (expected-same a on p code (h .0))) (when (h .1, h .2, h .3)),
     )
   where
     fits : Bool
@@ -191,7 +217,7 @@ records-rated-exactly-when a passed p code =
       where
         go : (b : Bool) → fits ≡ b → Expected a p
         go true e = known e
-        go false e = absurd (subst IsRated (split-by-records a p code false passed e) r)
+        go false e = absurd (subst IsRated (split-by-records a p code false on e) r)
 
 -- ---- (2) a found split, put back as a proposal for the same analysis, gets the same rating and the same spread
 
@@ -205,9 +231,9 @@ put-back a long allowance code code′ w s r is = found-back a long allowance co
 pub proposed-within : (a : List ℕ) → length a ≡ CODES → (p : Split) (code : ℕ) (w : ℤ) (s r : ℕ)
     → splitAnswer a p code ≡ Rated w s r → Within w (exactAt a (p .amounts)) 40
 proposed-within a long p code w s r is =
-    let (passed, e) = split-rated a p code w s r is in
-    rated-within (systemsFor a) (countFor a) (mixOf a) (cellsIn a (p .amounts)) (chosen a) LIMIT (inertFirst a) w s r e
-    (omega (arith, million a long passed)) (inert-million a long passed)
+    let (on, e) = split-rated a p code w s r is in
+    rated-within (systemsFor a) (countFor a) (mixOf a) (cellsIn a (p .amounts)) (chosen a on) LIMIT (inertFirst a) w s r e
+    (omega (arith, million a long on)) (inert-million a long on)
 
 pub found-within : (a : List ℕ) → length a ≡ CODES → (allowance code : ℕ) (w : ℤ) (s r : ℕ)
     → searchOutcome a allowance code .answer ≡ Rated w s r
@@ -230,39 +256,49 @@ sheet-put-back s code w d r is = sheet-split s code w d r is .1
 
 -- ---- (4) how a sheet ends
 
--- every sheet that 1 to 6 accept and that has no split ends in a rating or in 11
-pub accepted-sheet-ends : (s : List ℕ) (code : ℕ) → readOf s code .answer ≡ Read → readOf s code .split .count ≡ 0
+-- every sheet that is read, is rated on and has no split ends in a rating or in 11
+pub accepted-sheet-ends : (s : List ℕ) (code : ℕ) → readOf s code .answer ≡ Read → RatedOn (analysisIn s code)
+    → readOf s code .split .count ≡ 0
     → IsRated (sheetOutcome s code .answer) ⊎ (sheetOutcome s code .answer ≡ Refused 11 0)
-accepted-sheet-ends s code h e = accepted-ends s code h e
+accepted-sheet-ends s code h on e = accepted-ends s code h on e
 
 -- one that has its own is answered as that split is, proposed for the sheet's analysis: with the same rating and spread
 pub own-split-answered : (s : List ℕ) (code : ℕ) → readOf s code .answer ≡ Read → (readOf s code .split .count ≡ 0 → ⊥)
     → sheetOutcome s code .answer ≡ splitAnswer (analysisIn s code) (readOf s code .split) code
-own-split-answered s code h n = accepted-own s code h n
+own-split-answered s code h n = ap (λ (x : Outcome). x .answer) (read-own s code h n)
 
--- so it ends in a rating or in one of 7 to 10, and never in 11,
-pub own-split-ends : (s : List ℕ) (code : ℕ) → readOf s code .answer ≡ Read → (readOf s code .split .count ≡ 0 → ⊥)
+-- so, rated on, it ends in a rating or in one of 7 to 10, and never in 11,
+pub own-split-ends : (s : List ℕ) (code : ℕ) → readOf s code .answer ≡ Read → RatedOn (analysisIn s code)
+    → (readOf s code .split .count ≡ 0 → ⊥)
     → IsRated (sheetOutcome s code .answer)
     ⊎ ((7 ≤ numberOf (sheetOutcome s code .answer)) × (numberOf (sheetOutcome s code .answer) ≤ 10))
-own-split-ends s code h n =
+own-split-ends s code h on n =
     subst (λ (x : Answer). IsRated x ⊎ ((7 ≤ numberOf x) × (numberOf x ≤ 10))) (sym (own-split-answered s code h n))
-    (split-ends (analysisIn s code) (readOf s code .split) code (read-passed s code h))
+    (split-ends (analysisIn s code) (readOf s code .split) code on)
 
--- and is rated exactly when its records are the nine expected and the amounts in them keep the three
+-- and is rated exactly when its records are those expected and the amounts in them keep the three
 pub own-split-rated-exactly-when : (s : List ℕ) (code : ℕ)
-    → readOf s code .answer ≡ Read → (readOf s code .split .count ≡ 0 → ⊥)
+    → readOf s code .answer ≡ Read → RatedOn (analysisIn s code) → (readOf s code .split .count ≡ 0 → ⊥)
     → let a = analysisIn s code in
     let p = readOf s code .split in
     IsRated (sheetOutcome s code .answer)
     ↔ (Expected a p × ReSums a (p .amounts) × NoneEmpty a (p .amounts) × AllNear a (p .amounts))
-own-split-rated-exactly-when s code h n =
-    let passed = read-passed s code h in
-    let (only, when) = records-rated-exactly-when (analysisIn s code) passed (readOf s code .split) code in
+own-split-rated-exactly-when s code h on n =
+    let (only, when) = records-rated-exactly-when (analysisIn s code) on (readOf s code .split) code in
     let same = own-split-answered s code h n in
     (λ r. only (subst IsRated same r), λ x. subst IsRated (sym same) (when x))
 
--- and every sheet at all in a rating or in one of 1 to 11
+-- what is read is in range; with fewer than two components present it is refused 16, whatever split it has
+pub read-in-range : (s : List ℕ) (code : ℕ) → readOf s code .answer ≡ Read → InRange (analysisIn s code)
+read-in-range s code h = read-passed s code h
+
+pub few-refused : (s : List ℕ) (code : ℕ) → readOf s code .answer ≡ Read
+    → presentCount (simplifiedOf (analysisIn s code)) < 2 → sheetOutcome s code ≡ outcome (Refused 16 0) noSplit
+few-refused s code h l = read-few s code h (too-few (analysisIn s code) (read-passed s code h) l)
+
+-- and every sheet at all ends in a rating, in one of 1 to 11 or in 16
 pub every-sheet-ends : (s : List ℕ) (code : ℕ)
-    → IsRated (sheetOutcome s code .answer)
-    ⊎ ((1 ≤ numberOf (sheetOutcome s code .answer)) × (numberOf (sheetOutcome s code .answer) ≤ 11))
+    → (IsRated (sheetOutcome s code .answer)
+    ⊎ ((1 ≤ numberOf (sheetOutcome s code .answer)) × (numberOf (sheetOutcome s code .answer) ≤ 11)))
+    ⊎ (sheetOutcome s code .answer ≡ Refused 16 0)
 every-sheet-ends s code = sheet-ends s code

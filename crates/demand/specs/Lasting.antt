@@ -7,7 +7,6 @@ use native.Mathlib.Omega.{arith}
 use lib.IntN.{ℤ, natAbs}
 use lib.ListN.{length}
 use Rattle.analysis.specs.Register.{CODES}
-use Rattle.analysis.specs.Check.{refusalOf}
 use Rattle.sheet.specs.declared.Split.{Split}
 use Rattle.mixture.specs.Inert.{inertFirst}
 use Rattle.split.specs.Split.{cellsOf}
@@ -18,11 +17,12 @@ use Rattle.split.specs.declared.Answer.the-variants.{Rated}
 use Rattle.split.specs.declared.Search.the-variants.{Balanced}
 use Rattle.split.specs.declared.Found.{Found}
 use Rattle.rating.specs.Rate.{LIMIT, ROUNDS, mixOf, systemsFor, countFor, searched, splitAnswer, searchOutcome}
+use Rattle.rating.specs.RatedOn.{RatedOn}
 use Rattle.rating.specs.Ready.{chosen, million, input}
 use Rattle.demand.specs.Answers.{split-rated, search-rated, found-back}
 
 -- a larger allowance finds the same
-same-found : (a : List ℕ) → length a ≡ CODES → refusalOf a ≡ 0 → (few many : ℕ) → few ≤ many → (s r : ℕ)
+same-found : (a : List ℕ) → length a ≡ CODES → RatedOn a → (few many : ℕ) → few ≤ many → (s r : ℕ)
     → searched a few .search ≡ Balanced s r → searched a many ≡ searched a few
 same-found a long passed few many le s r is =
     let fits = input-fits (mixOf a) (systemsFor a) (countFor a) LEVEL (input a long passed) in
@@ -45,8 +45,8 @@ pub proposed-small : (a : List ℕ) → length a ≡ CODES → (p : Split) (code
 proposed-small a long p code w s r is =
     let (passed, e) = split-rated a p code w s r is in
     let cells = cellsOf (systemsFor a) (countFor a) (p .amounts) in (
-      rated-small (systemsFor a) (countFor a) (mixOf a) cells (chosen a) LIMIT (inertFirst a) w s r e (omega (arith, million a long passed)),
-      rated-spread-small (systemsFor a) (countFor a) (mixOf a) cells (chosen a) LIMIT (inertFirst a) w s r e,
+      rated-small (systemsFor a) (countFor a) (mixOf a) cells (chosen a passed) LIMIT (inertFirst a) w s r e (omega (arith, million a long passed)),
+      rated-spread-small (systemsFor a) (countFor a) (mixOf a) cells (chosen a passed) LIMIT (inertFirst a) w s r e,
     )
 
 pub found-small : (a : List ℕ) → length a ≡ CODES → (allowance code : ℕ) (w : ℤ) (s r : ℕ)

@@ -2,6 +2,8 @@ pub mod Answers
 pub mod Sheets
 pub mod RatedSheets
 pub mod Demand
+pub mod Absent
+pub mod Kept
 pub mod Lasting
 pub mod Small
 pub mod Recorded

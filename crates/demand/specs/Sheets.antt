@@ -7,7 +7,8 @@ use Prim.Native.Nat.{ℕ, zero, suc, _+_, _≤_}
 use native.Mathlib.Omega.{arith}
 use lib.Dec.{eqb, leb}
 use lib.ListN.{getD}
-use borrow.Author.Tests.{eqb-false, ne-eqb}
+use borrow.Author.Tests.{eqb-false, eq-eqb, ne-eqb}
+use Rattle.refusal.specs.Register.{TOO_FEW}
 use Rattle.analysis.specs.Register.{Status, live, retired, splitsOnly, unknown, statusOf, ifElse}
 use Rattle.analysis.specs.Check.{refusalBy, refusalOf, allInRange, totalFits, totalOf}
 use Rattle.sheet.specs.Components as components
@@ -25,8 +26,11 @@ use Rattle.sheet.specs.declared.Sheet.{Sheet}
 use Rattle.split.specs.Rated.{IsRated}
 use Rattle.split.specs.declared.Answer.{Answer}
 use Rattle.split.specs.declared.Answer.the-variants.{Refused}
-use Rattle.rating.specs.Rate.{ROUNDS, splitAnswer, searchOutcome, outcome, readBy, sheetOutcome}
-use Rattle.rating.specs.Ends.{RatedOr, search-ends, split-ends, read-passed}
+use Rattle.rating.specs.Rate.{ROUNDS, ratingRefusal, splitAnswer, searchOutcome, outcome, readBy, sheetOutcome}
+use Rattle.rating.specs.RatedOn.{InRange, RatedOn}
+use Rattle.rating.specs.Ends.{RatedOr, RatedOrFew, search-ends, search-few, split-few, search-in-range, split-in-range}
+use Rattle.rating.specs.Ends.{read-passed}
+use Rattle.rating.specs.declared.Outcome.{Outcome}
 
 -- ---- reading: 1 to 6
 
@@ -103,37 +107,58 @@ read-number s code = go (sectionsOf s)
 
 -- ---- a sheet
 
--- accepted, with no split: a rating or 11
-pub accepted-ends : (s : List ℕ) (code : ℕ) → readOf s code .answer ≡ reading.Read → readOf s code .split .count ≡ 0
+-- one that is read, by whether it has a split: as the search of its analysis ends, or as its split is answered
+module _ (s : List ℕ) (code : ℕ) (h : readOf s code .answer ≡ reading.Read) where
+  a : List ℕ
+  a = readOf s code .analysis .amounts
+
+  p : Split
+  p = readOf s code .split
+
+  by-count : (t : Bool) → eqb (p .count) 0 ≡ t
+      → sheetOutcome s code ≡ ifElse t (searchOutcome a ROUNDS code) (outcome (splitAnswer a p code) noSplit)
+  unfolding sheetOutcome a p
+  by-count t e =
+      ap (λ (x : Reading). readBy x (readOf s code .analysis .amounts) (readOf s code .split) code) h
+      ∙ ap (λ (t : Bool). ifElse t (searchOutcome (readOf s code .analysis .amounts) ROUNDS code) _) e
+
+  pub read-searched : readOf s code .split .count ≡ 0
+      → sheetOutcome s code ≡ searchOutcome (readOf s code .analysis .amounts) ROUNDS code
+  unfolding a p
+  read-searched e = by-count true (eq-eqb (readOf s code .split .count) 0 e)
+
+  pub read-own : (readOf s code .split .count ≡ 0 → ⊥)
+      → sheetOutcome s code ≡ outcome (splitAnswer (readOf s code .analysis .amounts) (readOf s code .split) code) noSplit
+  unfolding a p
+  read-own n = by-count false (ne-eqb (readOf s code .split .count) 0 n)
+
+  -- 16, with a split or without
+  pub read-few : ratingRefusal (readOf s code .analysis .amounts) ≡ TOO_FEW
+      → sheetOutcome s code ≡ outcome (Refused TOO_FEW 0) noSplit
+  unfolding a p
+  read-few e = by-count (eqb (p .count) 0) refl ∙ go (eqb (p .count) 0)
+    where
+      go : (t : Bool) → ifElse t (searchOutcome a ROUNDS code) (outcome (splitAnswer a p code) noSplit)
+          ≡ outcome (Refused TOO_FEW 0) noSplit
+      go true = search-few a ROUNDS code e
+      go false = ap (λ (x : Answer). outcome x noSplit) (split-few a p code e)
+
+-- accepted and rated on, with no split: a rating or 11
+pub accepted-ends : (s : List ℕ) (code : ℕ) → readOf s code .answer ≡ reading.Read
+    → RatedOn (readOf s code .analysis .amounts) → readOf s code .split .count ≡ 0
     → IsRated (sheetOutcome s code .answer) ⊎ (sheetOutcome s code .answer ≡ Refused 11 0)
-unfolding sheetOutcome
-accepted-ends s code h e =
-    let f = ap (λ (x : Reading). readBy x (readOf s code .analysis .amounts) (readOf s code .split) code .answer) h
-    ∙ ap (λ (n : ℕ). ifElse (eqb n 0) (searchOutcome (readOf s code .analysis .amounts) ROUNDS code) (outcome (splitAnswer (readOf s code .analysis .amounts) (readOf s code .split) code) noSplit) .answer) e in
-    subst (λ (x : Answer). IsRated x ⊎ (x ≡ Refused 11 0)) (sym f) (search-ends (readOf s code .analysis .amounts) ROUNDS code (read-passed s code h))
+accepted-ends s code h on e =
+    subst (λ (x : Outcome). IsRated (x .answer) ⊎ (x .answer ≡ Refused 11 0)) (sym (read-searched s code h e))
+    (search-ends (readOf s code .analysis .amounts) ROUNDS code on)
 
--- accepted, with a split of its own: as that split is answered
-pub accepted-own : (s : List ℕ) (code : ℕ)
-    → readOf s code .answer ≡ reading.Read → (readOf s code .split .count ≡ 0 → ⊥)
-    → sheetOutcome s code .answer ≡ splitAnswer (readOf s code .analysis .amounts) (readOf s code .split) code
-unfolding sheetOutcome
-accepted-own s code h n =
-    let a = readOf s code .analysis .amounts in
-    let p = readOf s code .split in
-    let own = outcome (splitAnswer a p code) noSplit in
-    ap (λ (x : Reading). readBy x a p code .answer) h
-    ∙ ap (λ (t : Bool). ifElse t (searchOutcome a ROUNDS code) own .answer) (ne-eqb (p .count) 0 n)
+-- any sheet at all: a rating, one of 1 to 11, or 16
+wider : (x : Answer) → RatedOrFew x → RatedOr 1 11 x ⊎ (x ≡ Refused TOO_FEW 0)
+wider x (inl (inl r)) = inl (inl r)
+wider x (inl (inr e)) = inl (inr (omega (arith, e .0), e .1))
+wider x (inr e) = inr e
 
-either : (x : Answer) → IsRated x ⊎ (x ≡ Refused 11 0) → RatedOr 1 11 x
-either x (inl r) = inl r
-either x (inr e) = inr (rw e (omega arith), rw e (omega arith))
-
-wider : (x : Answer) → RatedOr 7 10 x → RatedOr 1 11 x
-wider x (inl r) = inl r
-wider x (inr e) = inr (omega (arith, e .0), omega (arith, e .1))
-
--- any sheet at all: a rating or one of 1 to 11
-pub sheet-ends : (s : List ℕ) (code : ℕ) → RatedOr 1 11 (sheetOutcome s code .answer)
+pub sheet-ends : (s : List ℕ) (code : ℕ)
+    → RatedOr 1 11 (sheetOutcome s code .answer) ⊎ (sheetOutcome s code .answer ≡ Refused TOO_FEW 0)
 unfolding sheetOutcome
 sheet-ends s code = go (readOf s code .answer) refl (read-number s code)
   where
@@ -143,11 +168,13 @@ sheet-ends s code = go (readOf s code .answer) refl (read-number s code)
     p : Split
     p = readOf s code .split
 
-    by-split : refusalOf a ≡ 0 → (t : Bool)
-        → RatedOr 1 11 (ifElse t (searchOutcome a ROUNDS code) (outcome (splitAnswer a p code) noSplit) .answer)
-    by-split h true = either (searchOutcome a ROUNDS code .answer) (search-ends a ROUNDS code h)
-    by-split h false = wider (splitAnswer a p code) (split-ends a p code h)
+    by-split : InRange a → (t : Bool)
+        → let x = ifElse t (searchOutcome a ROUNDS code) (outcome (splitAnswer a p code) noSplit) .answer in
+        RatedOr 1 11 x ⊎ (x ≡ Refused TOO_FEW 0)
+    by-split h true = wider (searchOutcome a ROUNDS code .answer) (search-in-range a code h ROUNDS)
+    by-split h false = wider (splitAnswer a p code) (split-in-range a code h p)
 
-    go : (x : Reading) → readOf s code .answer ≡ x → Numbered 1 6 x → RatedOr 1 11 (readBy x a p code .answer)
+    go : (x : Reading) → readOf s code .answer ≡ x → Numbered 1 6 x
+        → RatedOr 1 11 (readBy x a p code .answer) ⊎ (readBy x a p code .answer ≡ Refused TOO_FEW 0)
     go reading.Read e n = by-split (read-passed s code e) (eqb (p .count) 0)
-    go (reading.Refused number place code′) e n = inr (n .0, omega (arith, n .1))
+    go (reading.Refused number place code′) e n = inl (inr (n .0, omega (arith, n .1)))

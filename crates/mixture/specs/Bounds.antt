@@ -3,18 +3,19 @@
 use Prim.Native.Nat.{ℕ, zero, suc, _+_, _*_, _/_, _≤_, _<_}
 use mathlib.Core.Path.{_≡_, sym, _∙_}
 use mathlib.Core.List.{List}
+use mathlib.Core.Logic.{inl, inr}
 use native.Mathlib.Nat.{le-div-iff-mul-le, div-lt-iff-lt-mul}
 use native.Mathlib.Omega.{arith}
 use lib.ListN.{getD, length}
 use Rattle.analysis.specs.Register.{CODES, statusOf}
 use Rattle.analysis.specs.Check.{totalOf, greatestOf, refusalOf}
-use Rattle.analysis.specs.Ranges.{WithinRanges, within-ranges, total-sum, total-go, total-end}
+use Rattle.analysis.specs.Ranges.{NoneOr, WithinRanges, within-ranges, total-sum, total-go, total-end}
 use Rattle.mixture.specs.Scaling.{WHOLE, quotientOf, remaindersOf}
 use Rattle.mixture.specs.Simplification.{COMPONENTS, amountOf, tenthsOf, tenthsTotal, simplifiedOf}
 use Rattle.mixture.specs.Inert.{methaneShare, inertFirst, inertSecond, inertOf}
 use Rattle.mixture.specs.Total.{scaled-length, scaled-sum}
 use Rattle.mixture.specs.Largest.{Before, largest-first}
-use Rattle.mixture.specs.Share.{NearShare, scaled-near, scaled-positive}
+use Rattle.mixture.specs.Share.{NearShare, scaled-near, scaled-absent, scaled-least}
 
 -- ---- n1 of the inert mixture
 
@@ -78,8 +79,27 @@ module _ (a : List ℕ) (p : 0 < tenthsTotal a) where
 abbrev pub GREATEST_TENTHS : ℕ
 GREATEST_TENTHS = 10 * 1000100 + 13 * (greatestOf 6 + greatestOf 7 + greatestOf 8) + 43 * greatestOf 10
 
+-- the least that a component has that is present after simplification: 100 tenths of a part in the greatest T
+abbrev pub LEAST_PARTS : ℕ
+LEAST_PARTS = 8
+
+times-ten : (least x : ℕ) → 10 ≤ least → NoneOr least x → NoneOr 100 (10 * x)
+times-ten least x h (inl e) = inl (omega arith)
+times-ten least x h (inr k) = inr (omega arith)
+
+-- butane, of what is absent or 10 parts at least
+butane-or-absent : (p q r s t u : ℕ) → NoneOr 10 p → NoneOr 10 q → NoneOr 10 r → NoneOr 10 s → NoneOr 10 t → NoneOr 10 u
+    → NoneOr 100 (10 * (p + q) + 23 * (r + s + t) + 53 * u)
+butane-or-absent p q r s t u (inr h) b c d e f = inr (omega arith)
+butane-or-absent p q r s t u (inl a) (inr h) c d e f = inr (omega arith)
+butane-or-absent p q r s t u (inl a) (inl b) (inr h) d e f = inr (omega arith)
+butane-or-absent p q r s t u (inl a) (inl b) (inl c) (inr h) e f = inr (omega arith)
+butane-or-absent p q r s t u (inl a) (inl b) (inl c) (inl d) (inr h) f = inr (omega arith)
+butane-or-absent p q r s t u (inl a) (inl b) (inl c) (inl d) (inl e) (inr h) = inr (omega arith)
+butane-or-absent p q r s t u (inl a) (inl b) (inl c) (inl d) (inl e) (inl f) = inl (omega arith)
+
 module _ (a : List ℕ) (l : length a ≡ CODES) (h : refusalOf a ≡ 0) where
-  pub tenths-least : 4000000 < tenthsTotal a
+  pub tenths-least : 4000000 ≤ tenthsTotal a
   unfolding tenthsOf
   tenths-least = let w = within-ranges a l h in omega arith
 
@@ -90,19 +110,46 @@ module _ (a : List ℕ) (l : length a ≡ CODES) (h : refusalOf a ≡ 0) where
   pub tenths-positive : 0 < tenthsTotal a
   tenths-positive = let t = tenths-least in omega arith
 
-  -- all four are above 0
-  pub simplified-positive : (i : ℕ) → i < COMPONENTS → 0 < getD (simplifiedOf a) i 0
-  unfolding tenthsOf statusOf
-  simplified-positive i k =
-      scaled-positive (tenthsOf a) tenths-positive i k
-      (omega (arith, amounts-least (within-ranges a l h) i k, tenths-greatest))
+  -- a component is absent or has 100 tenths of a part at least
+  tenths-or-absent : (i : ℕ) → i < COMPONENTS → NoneOr 100 (getD (tenthsOf a) i 0)
+  unfolding tenthsOf
+  tenths-or-absent i k = go i k (within-ranges a l h)
     where
-      amounts-least : WithinRanges a → (i : ℕ) → i < COMPONENTS → 200 ≤ getD (tenthsOf a) i 0
-      amounts-least w zero k = omega arith
-      amounts-least w (suc zero) k = omega arith
-      amounts-least w (suc (suc zero)) k = omega arith
-      amounts-least w (suc (suc (suc zero))) k = omega arith
-      amounts-least w (suc (suc (suc (suc i)))) k = absurd (omega arith)
+      go : (i : ℕ) → i < COMPONENTS → WithinRanges a → NoneOr 100 (getD (tenthsOf a) i 0)
+      go zero k w = inr (omega arith)
+      go (suc zero) k w = times-ten 100 (amountOf a 2) (omega arith) (w .ethane-least)
+      go (suc (suc zero)) k w = times-ten 100 (amountOf a 3) (omega arith) (w .propane-least)
+      go (suc (suc (suc zero))) k w =
+          butane-or-absent (amountOf a 4) (amountOf a 5) (amountOf a 6) (amountOf a 7) (amountOf a 8) (amountOf a 10) (w .i-butane-least) (w .n-butane-least)
+          (w .neo-pentane-least) (w .i-pentane-least) (w .n-pentane-least) (w .hexanes-least)
+      go (suc (suc (suc (suc i)))) k w = absurd (omega arith)
+
+  -- one that is absent stays 0
+  pub simplified-absent : (i : ℕ) → i < COMPONENTS → getD (tenthsOf a) i 0 ≡ 0 → getD (simplifiedOf a) i 0 ≡ 0
+  unfolding tenthsOf
+  simplified-absent i k e = scaled-absent (tenthsOf a) tenths-positive i k e
+
+  -- one that is present gets 8 parts at least
+  pub simplified-least : (i : ℕ) → i < COMPONENTS → 0 < getD (tenthsOf a) i 0 → LEAST_PARTS ≤ getD (simplifiedOf a) i 0
+  unfolding tenthsOf statusOf
+  simplified-least i k p = go (tenths-or-absent i k)
+    where
+      go : NoneOr 100 (getD (tenthsOf a) i 0) → LEAST_PARTS ≤ getD (simplifiedOf a) i 0
+      go (inl e) = absurd (omega arith)
+      go (inr m) = scaled-least (tenthsOf a) tenths-positive LEAST_PARTS i k (omega (arith, tenths-greatest))
+
+  -- so a component is present after simplification exactly where it was, and then with so many parts
+  pub simplified-or-absent : (i : ℕ) → i < COMPONENTS → NoneOr LEAST_PARTS (getD (simplifiedOf a) i 0)
+  simplified-or-absent i k = go (tenths-or-absent i k)
+    where
+      go : NoneOr 100 (getD (tenthsOf a) i 0) → NoneOr LEAST_PARTS (getD (simplifiedOf a) i 0)
+      go (inl e) = inl (simplified-absent i k e)
+      go (inr m) = inr (simplified-least i k (omega arith))
+
+  -- methane is
+  pub simplified-methane : LEAST_PARTS ≤ getD (simplifiedOf a) 0 0
+  unfolding tenthsOf
+  simplified-methane = let w = within-ranges a l h in simplified-least 0 (omega arith) (omega (arith, w .methane-least))
 
   pub inert-least : 1 ≤ inertFirst a
   inert-least =

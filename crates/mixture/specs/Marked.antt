@@ -1,5 +1,5 @@
--- The marked figures of simplification and of the inert mixture: the gas of 001 Table A.1; and two analyses in range at
--- the rules for equal remainders and for halves. Assumes nothing.
+-- The marked figures of simplification and of the inert mixture: the gas of 001 Table A.1; two analyses in range at the
+-- rules for equal remainders and for halves; and one with absent components. Assumes nothing.
 use Prim.Native.Nat.{ℕ}
 use mathlib.Core.Path.{_≡_, refl}
 use mathlib.Core.List.{List, [], _∷_}
@@ -32,3 +32,11 @@ pub half-up :
     ≡ 914063 ∷ 85937 ∷ 0 ∷ []
 unfolding tenthsOf methaneShare
 half-up = refl
+
+-- a gas of methane and ethane alone, beside carbon dioxide: propane and butane stay absent
+abbrev pub methaneEthane : List ℕ
+methaneEthane = 0 ∷ 970000 ∷ 10000 ∷ 0 ∷ 0 ∷ 0 ∷ 0 ∷ 0 ∷ 0 ∷ 0 ∷ 0 ∷ 20000 ∷ 0 ∷ 0 ∷ 0 ∷ 0 ∷ []
+
+pub methane-ethane : simplifiedOf methaneEthane ≡ 989796 ∷ 10204 ∷ 0 ∷ 0 ∷ []
+unfolding greatestTo distributed scaledOf tenthsOf
+methane-ethane = refl

@@ -3,7 +3,7 @@ use Prim.Native.Nat.{ℕ, zero, suc, _+_, _*_, _≤_, _<_}
 use mathlib.Core.Path.{_≡_, refl, _∙_}
 use mathlib.Core.List.{List, [], _∷_, map}
 use mathlib.Core.Bool.{Bool, true, false}
-use native.Mathlib.Nat.{not-suc-le-zero, div-add-mod', mod-lt}
+use native.Mathlib.Nat.{not-suc-le-zero, div-add-mod', mod-lt, lt-of-mul-lt-mul-right}
 use native.Mathlib.Omega.{arith}
 use lib.Dec.{eqb, ltb}
 use lib.ListN.{getD, set, length, length-set, length-map}
@@ -96,10 +96,16 @@ module _ (xs : List ℕ) (h : 0 < totalOf xs) where
       (omega (arith, remainders-sum xs h))
       (λ i l. rw (getD-map (quotientOf (totalOf xs)) xs i l, getD-map (remainderOf (totalOf xs)) xs i l) (fair-first (totalOf xs) (getD xs i 0) h))
 
-  -- an amount that is at least a part of the whole does not vanish
-  pub scaled-positive : (i : ℕ) → i < length xs → totalOf xs ≤ WHOLE * getD xs i 0 → 0 < getD (scaledOf xs) i 0
-  scaled-positive i l k = go (getD (scaledOf xs) i 0) (scaled-near i l .below)
-    where
-      go : (s : ℕ) → WHOLE * getD xs i 0 < s * totalOf xs + totalOf xs → 0 < s
-      go zero b = absurd (omega arith)
-      go (suc s) b = omega arith
+  -- what is absent stays 0
+  pub scaled-absent : (i : ℕ) → i < length xs → getD xs i 0 ≡ 0 → getD (scaledOf xs) i 0 ≡ 0
+  scaled-absent i l e =
+      let b = scaled-near i l .above in
+      let k : getD (scaledOf xs) i 0 < 1 = lt-of-mul-lt-mul-right (totalOf xs) (omega arith) in
+      omega arith
+
+  -- and an amount that is at least n parts of the whole gets n at least
+  pub scaled-least : (n i : ℕ) → i < length xs → n * totalOf xs ≤ WHOLE * getD xs i 0 → n ≤ getD (scaledOf xs) i 0
+  scaled-least n i l h =
+      let b = scaled-near i l .below in
+      let k : n < getD (scaledOf xs) i 0 + 1 = lt-of-mul-lt-mul-right (totalOf xs) (omega arith) in
+      omega arith

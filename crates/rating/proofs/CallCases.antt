@@ -2,6 +2,7 @@
 use mathlib.Core.Path.{_≡_, refl, sym, ap, ap₂, _∙_, subst}
 use mathlib.Core.Bool.{Bool, true, false}
 use mathlib.Core.List.{List}
+use mathlib.Core.Logic.{_⊎_, inl, inr}
 use Prim.Native.Nat.{ℕ, _*_, _^_, _≤_, _<_, min}
 use native.Mathlib.Omega.{arith}
 use lib.Dec.{eqb, lit<}
@@ -13,6 +14,7 @@ use mir.Val.{toZ, ofZ}
 use lib.ListN.{length, replicate}
 use borrow.Author.Tests.{eq-eqb}
 use Rattle.integer.specs.Ring.{mag-le}
+use Rattle.refusal.specs.Register.{TOO_FEW}
 use Rattle.analysis.specs.Register.{CODES, ifElse}
 use Rattle.analysis.specs.CheckedCases as check
 use Rattle.analysis.specs.Ranges.{checked-number}
@@ -24,7 +26,7 @@ use Rattle.sheet.specs.declared.Split.{Split}
 use Rattle.mixture.specs.Simplification.{simplifiedOf}
 use Rattle.mixture.specs.Inert.{inertFirst}
 use Rattle.mixture.specs.Answers.{mixtureOf, inertN1}
-use Rattle.systems.specs.Choice.{choiceOf}
+use Rattle.systems.specs.Choice.{presentCount, choiceOf}
 use Rattle.systems.specs.declared.Choice.{Choice}
 use Rattle.split.specs.Refused.{differ, wider}
 use Rattle.split.specs.Split.{RECORDS, cellsOf, numberAt}
@@ -43,13 +45,14 @@ use Rattle.split.specs.declared.Proposed.{Proposed}
 use Rattle.split.specs.declared.Proposed.the-variants.{Answered, Unfit}
 use Rattle.split.specs.declared.Found.{Found}
 use Rattle.rating.specs.Records.{fitsOf}
-use Rattle.rating.specs.Rate.{LIMIT, ROUNDS, mixOf, systemsFor, countFor, splitBy, splitAnswer, outcome, recordsOf, foundBy, foundOutcome, searched, searchOutcome}
+use Rattle.rating.specs.Rate.{LIMIT, ROUNDS, FEWEST, mixOf, systemsFor, countFor, ratingRefusal, splitBy, splitAnswer, outcome, recordsOf, foundBy, foundOutcome, searched, searchOutcome}
 use Rattle.split.specs.Accuracy.{fit-few}
 use Rattle.split.specs.PutBack.{balance-fit}
 use Rattle.split.specs.Size.{rating-small}
 use Rattle.rating.specs.Given.{FoundFit}
+use Rattle.rating.specs.RatedOn.{InRange, RatedOn, range-first, enough-on, too-few, on-or-few}
 use Rattle.rating.specs.Ready.{chosen, room, million, inert-million, shared, input}
-use Rattle.rating.specs.Ends.{never-unfit, split-ends, search-ends, split-wider, search-wider, not-five}
+use Rattle.rating.specs.Ends.{never-unfit, split-in-range, search-in-range, not-five}
 use Rattle.rating.specs.declared.Outcome.{Outcome}
 use Rattle.integer.specs.Bits.{read-back}
 
@@ -61,8 +64,8 @@ isIn (checked.Refused number code) = false
 
 -- an analysis that is turned away: the refusal is its own, and 5 carries a code at fault
 pub record TurnedAway (a : List ℕ) (number code : ℕ) : Type 0 where
-  pub some : eqb (refusalOf a) 0 ≡ false
-  pub same : Refused number code ≡ Refused (refusalOf a) (ifElse (eqb (refusalOf a) 5) (codeOf (Refused number code)) 0)
+  pub some : eqb (ratingRefusal a) 0 ≡ false
+  pub same : Refused number code ≡ Refused (ratingRefusal a) (ifElse (eqb (ratingRefusal a) 5) (codeOf (Refused number code)) 0)
   pub fault : number ≡ 5 → AtFault a (codeOf (Refused number code))
 
 module _ (a : List ℕ) (x : Checked) (h : Checking a x) where
@@ -88,23 +91,30 @@ module _ (a : List ℕ) (x : Checked) (h : Checking a x) where
           let same : checked.Refused number code ≡ checked.Refused (refusalOf a) (ifElse (eqb (refusalOf a) 5) (check.codeOf x) 0) = sym e ∙ r in
           let n : number ≡ refusalOf a = cc in
           let c : code ≡ ifElse (eqb (refusalOf a) 5) (check.codeOf x) 0 = cc in
+          let f = range-first a q in
           record {
-            some = q;
-            same = by (eqb (refusalOf a) 5) refl n c;
+            some = rw f q;
+            same = rw f (by (eqb (refusalOf a) 5) refl n c);
             fault = λ z. rw (eq-eqb number 5 z) (subst (AtFault a) carried (h .code (ap check.numberOf e ∙ z)));
           }
+
+-- so is one with fewer than two components present
+pub few-away : (a : List ℕ) → InRange a → presentCount (mixOf a) < FEWEST → TurnedAway a TOO_FEW 0
+few-away a h l =
+    let f = too-few a h l in
+    record { some = rw f; same = rw f; fault = λ z. absurd (omega arith) }
 
 pub split-away : (a : List ℕ) (p : Split) (number code : ℕ) → TurnedAway a number code → Refused number code ≡ splitAnswer a p (codeOf (Refused number code))
 unfolding splitAnswer
 split-away a p number code t =
     t .same
-    ∙ sym (ap (λ (b : Bool). ifElse b (splitBy (systemsFor a) (countFor a) (mixOf a) (inertFirst a) p) (Refused (refusalOf a) (ifElse (eqb (refusalOf a) 5) (codeOf (Refused number code)) 0))) (t .some))
+    ∙ sym (ap (λ (b : Bool). ifElse b (splitBy (systemsFor a) (countFor a) (mixOf a) (inertFirst a) p) (Refused (ratingRefusal a) (ifElse (eqb (ratingRefusal a) 5) (codeOf (Refused number code)) 0))) (t .some))
 
 pub search-away : (a : List ℕ) (allowance number code : ℕ) → TurnedAway a number code → outcome (Refused number code) noSplit ≡ searchOutcome a allowance (codeOf (Refused number code))
 unfolding searchOutcome
 search-away a allowance number code t =
     ap (λ (x : Answer). outcome x noSplit) (t .same)
-    ∙ sym (ap (λ (b : Bool). ifElse b (foundOutcome (systemsFor a) (countFor a) (inertFirst a) (searched a allowance)) (outcome (Refused (refusalOf a) (ifElse (eqb (refusalOf a) 5) (codeOf (Refused number code)) 0)) noSplit)) (t .some))
+    ∙ sym (ap (λ (b : Bool). ifElse b (foundOutcome (systemsFor a) (countFor a) (inertFirst a) (searched a allowance)) (outcome (Refused (ratingRefusal a) (ifElse (eqb (ratingRefusal a) 5) (codeOf (Refused number code)) 0)) noSplit)) (t .some))
 
 -- ---- an analysis in range
 
@@ -112,7 +122,18 @@ module _ (a : List ℕ) (long : length a ≡ CODES) (passed : refusalOf a ≡ 0)
   mixture-in : mixtureOf a ≡ simplifiedOf a
   mixture-in = ap (λ (n : ℕ). ifElse (eqb n 0) (simplifiedOf a) (replicate 4 0)) passed
 
-  module _ (mix : List ℕ) (choice : Choice) (n1 : ℕ) (m : mix ≡ mixtureOf a) (c : choice ≡ choiceOf mix) (n : n1 ≡ inertN1 a) where
+  -- how many components are present, by what was simplified
+  module _ (mix : List ℕ) (count : ℕ) (m : mix ≡ mixtureOf a) (k : count ≡ presentCount mix) where
+    present-is : count ≡ presentCount (mixOf a)
+    present-is = k ∙ ap presentCount (m ∙ mixture-in)
+
+    pub count-few : count < FEWEST → TurnedAway a TOO_FEW 0
+    count-few l = few-away a passed (omega (arith, present-is))
+
+    pub count-enough : FEWEST ≤ count → RatedOn a
+    count-enough l = enough-on a passed (omega (arith, present-is))
+
+  module _ (on : RatedOn a) (mix : List ℕ) (choice : Choice) (n1 : ℕ) (m : mix ≡ mixtureOf a) (c : choice ≡ choiceOf mix) (n : n1 ≡ inertN1 a) where
     mix-is : mix ≡ mixOf a
     mix-is = m ∙ mixture-in
 
@@ -125,40 +146,40 @@ module _ (a : List ℕ) (long : length a ≡ CODES) (passed : refusalOf a ≡ 0)
     pub given-proposal : Proposal mix (choice .systems) (choice .count) n1
     given-proposal =
         rw (choice-is, mix-is, inert-is)
-        (record { chosen = chosen a; few = omega (arith, million a long passed); inert = inert-million a long passed })
+        (record { chosen = chosen a on; few = omega (arith, million a long on); inert = inert-million a long on })
 
     pub given-room : 3 * choice .count ≤ RECORDS
-    given-room = rw choice-is (room a)
+    given-room = rw choice-is (room a on)
 
     pub split-in : (p : Split) (r : Answer) → r ≡ splitBy (choice .systems) (choice .count) mix n1 p → r ≡ splitAnswer a p (codeOf r)
     unfolding splitAnswer
-    split-in p r e = e ∙ rw (choice-is, mix-is, inert-is, passed)
+    split-in p r e = e ∙ rw (choice-is, mix-is, inert-is, on)
 
     -- the search, of which the guarded one is the same
     module _ (allowance most : ℕ) (l : most ≡ min allowance 4000) (found : Found) (f : found ≡ findOf mix (choice .systems) (choice .count) 500000 16 most) where
       found-is : found ≡ searched a allowance
       found-is =
           f ∙ rw (choice-is, mix-is, l)
-          (sym (find-search (mixOf a) (systemsFor a) (countFor a) LEVEL LIMIT (min allowance ROUNDS) (input-fits (mixOf a) (systemsFor a) (countFor a) LEVEL (input a long passed))))
+          (sym (find-search (mixOf a) (systemsFor a) (countFor a) LEVEL LIMIT (min allowance ROUNDS) (input-fits (mixOf a) (systemsFor a) (countFor a) LEVEL (input a long on))))
 
       found-cells : (s r : ℕ) → found .search ≡ Balanced s r → Fit LIMIT (choice .systems) (choice .count) mix (found .cells)
       found-cells s r e =
           let b = find-balanced mix (choice .systems) (choice .count) 500000 16 most s r (ap (λ (x : Found). x .search) (sym f) ∙ e) in
-          rw f (balance-fit mix (choice .systems) (choice .count) 500000 most (findOf mix (choice .systems) (choice .count) 500000 16 most .cells) s r b (λ c l. rw (choice-is, mix-is) (shared a c l)))
+          rw f (balance-fit mix (choice .systems) (choice .count) 500000 most (findOf mix (choice .systems) (choice .count) 500000 16 most .cells) s r b (λ c l. rw (choice-is, mix-is) (shared a on c l)))
 
       pub found-fit : FoundFit mix (choice .systems) (choice .count) found
       found-fit = record { made = λ e. never-unfit a allowance (ap (λ (x : Found). x .search) (sym found-is) ∙ e); fit = found-cells }
 
       pub search-in : (r : Outcome) → r ≡ foundOutcome (choice .systems) (choice .count) n1 found → r ≡ searchOutcome a allowance (codeOf (r .answer))
       unfolding searchOutcome
-      search-in r e = e ∙ rw (choice-is, inert-is, found-is, passed)
+      search-in r e = e ∙ rw (choice-is, inert-is, found-is, on)
 
   -- neither is refused 5
   pub split-not-five : (p : Split) (code : ℕ) (x : Answer) → x ≡ splitAnswer a p code → numberOf x ≡ 5 → ⊥
-  split-not-five p code x e h = not-five x (rw e (split-wider (splitAnswer a p code) (split-ends a p code passed))) h
+  split-not-five p code x e h = not-five x (rw e (split-in-range a code passed p)) h
 
   pub search-not-five : (allowance code : ℕ) (x : Outcome) → x ≡ searchOutcome a allowance code → numberOf (x .answer) ≡ 5 → ⊥
-  search-not-five allowance code x e h = not-five (x .answer) (rw e (search-wider (searchOutcome a allowance code .answer) (search-ends a allowance code passed))) h
+  search-not-five allowance code x e h = not-five (x .answer) (rw e (search-in-range a code passed allowance)) h
 
 -- ---- inner functions
 
@@ -203,13 +224,21 @@ found-some ch k n1 f s r e = sym (ap (foundBy ch k n1 (f .cells)) e)
 
 -- ---- an analysis in range is answered whatever the code of 5
 
-pub split-any : (a : List ℕ) (p : Split) (c d : ℕ) → refusalOf a ≡ 0 → splitAnswer a p c ≡ splitAnswer a p d
+pub split-any : (a : List ℕ) (p : Split) (c d : ℕ) → InRange a → splitAnswer a p c ≡ splitAnswer a p d
 unfolding splitAnswer
-split-any a p c d h = rw h
+split-any a p c d h = go (on-or-few a h)
+  where
+    go : RatedOn a ⊎ (ratingRefusal a ≡ TOO_FEW) → splitAnswer a p c ≡ splitAnswer a p d
+    go (inl e) = rw e
+    go (inr e) = rw e
 
-pub search-any : (a : List ℕ) (n c d : ℕ) → refusalOf a ≡ 0 → searchOutcome a n c ≡ searchOutcome a n d
+pub search-any : (a : List ℕ) (n c d : ℕ) → InRange a → searchOutcome a n c ≡ searchOutcome a n d
 unfolding searchOutcome
-search-any a n c d h = rw h
+search-any a n c d h = go (on-or-few a h)
+  where
+    go : RatedOn a ⊎ (ratingRefusal a ≡ TOO_FEW) → searchOutcome a n c ≡ searchOutcome a n d
+    go (inl e) = rw e
+    go (inr e) = rw e
 
 -- ---- the same of a call's result
 

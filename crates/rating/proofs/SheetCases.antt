@@ -21,7 +21,7 @@ use Rattle.split.specs.AnswerCases.{numberOf, codeOf}
 use Rattle.split.specs.declared.Answer.{Answer}
 use Rattle.split.specs.declared.Answer.the-variants.{Rated, Refused}
 use Rattle.rating.specs.Rate.{splitAnswer, outcome, searchOutcome, readBy, sheetOutcome}
-use Rattle.rating.specs.Ends.{RatedOr, split-ends, search-ends, read-passed, split-wider, search-wider, not-five}
+use Rattle.rating.specs.Ends.{RatedOrFew, split-in-range, search-in-range, read-passed, not-five}
 use Rattle.rating.specs.declared.Outcome.{Outcome}
 
 -- ---- a refused sheet
@@ -55,21 +55,22 @@ module _ (s : List ℕ) (r : Sheet) (h : ReadAs s r) (e : r .answer ≡ reading.
   pub passed : refusalOf (r .analysis .amounts) ≡ 0
   passed = ap (λ (x : Sheet). refusalOf (x .analysis .amounts)) whole ∙ read-passed s 0 good
 
-  free : (x : Answer) → RatedOr 7 11 x → codeOf x ≡ 0
+  free : (x : Answer) → RatedOrFew x → codeOf x ≡ 0
   free (Rated w s′ n) b = refl
-  free (Refused n p) (inl b) = absurd b
-  free (Refused n p) (inr b) = rw (ne-eqb n 5 (λ z. omega (arith, b .0)))
+  free (Refused n p) (inl (inl b)) = absurd b
+  free (Refused n p) (inl (inr b)) = rw (ne-eqb n 5 (λ z. omega (arith, b .0)))
+  free (Refused n p) (inr q) = ap codeOf q
 
-  ends : RatedOr 7 11 (ifElse (eqb (r .split .count) 0) (searchOutcome (r .analysis .amounts) 4000 0) (outcome (splitAnswer (r .analysis .amounts) (r .split) 0) noSplit) .answer)
+  ends : RatedOrFew (ifElse (eqb (r .split .count) 0) (searchOutcome (r .analysis .amounts) 4000 0) (outcome (splitAnswer (r .analysis .amounts) (r .split) 0) noSplit) .answer)
   ends = go (eqb (r .split .count) 0)
     where
-      go : (t : Bool) → RatedOr 7 11 (ifElse t (searchOutcome (r .analysis .amounts) 4000 0) (outcome (splitAnswer (r .analysis .amounts) (r .split) 0) noSplit) .answer)
-      go true = search-wider (searchOutcome (r .analysis .amounts) 4000 0 .answer) (search-ends (r .analysis .amounts) 4000 0 passed)
-      go false = split-wider (splitAnswer (r .analysis .amounts) (r .split) 0) (split-ends (r .analysis .amounts) (r .split) 0 passed)
+      go : (t : Bool) → RatedOrFew (ifElse t (searchOutcome (r .analysis .amounts) 4000 0) (outcome (splitAnswer (r .analysis .amounts) (r .split) 0) noSplit) .answer)
+      go true = search-in-range (r .analysis .amounts) 0 passed 4000
+      go false = split-in-range (r .analysis .amounts) 0 passed (r .split)
 
   module _ (o : Outcome) (q : o ≡ ifElse (eqb (r .split .count) 0) (searchOutcome (r .analysis .amounts) 4000 0) (outcome (splitAnswer (r .analysis .amounts) (r .split) 0) noSplit)) where
-    answer-ends : RatedOr 7 11 (o .answer)
-    answer-ends = subst (λ (x : Outcome). RatedOr 7 11 (x .answer)) (sym q) ends
+    answer-ends : RatedOrFew (o .answer)
+    answer-ends = subst (λ (x : Outcome). RatedOrFew (x .answer)) (sym q) ends
 
     pub sheet-read : o ≡ sheetOutcome s (codeOf (o .answer))
     unfolding sheetOutcome

@@ -1,4 +1,4 @@
--- How the answers to an analysis in range end, and that what was read is one. Assumes nothing.
+-- How the answers to an analysis that is rated on, or in range, end, and that what was read is in range. Assumes nothing.
 use mathlib.Core.Path.{_≡_, refl, ap, _∙_}
 use mathlib.Core.Bool.{Bool, true, false}
 use mathlib.Core.Logic.{_⊎_, inl, inr}
@@ -7,8 +7,10 @@ use Prim.Native.Nat.{ℕ, zero, suc, _+_, _≤_, min}
 use native.Mathlib.Omega.{arith}
 use lib.Dec.{ltb}
 use lib.ListN.{getD, length, length-set}
+use Rattle.refusal.specs.Register.{TOO_FEW}
 use Rattle.analysis.specs.Register.{CODES, ifElse}
 use Rattle.analysis.specs.Check.{refusalOf}
+use Rattle.sheet.specs.Split.{noSplit}
 use Rattle.sheet.specs.Bytes.{numberAt}
 use Rattle.sheet.specs.Components.{amountsFrom}
 use Rattle.sheet.specs.Read.{readOf, contentOf}
@@ -29,8 +31,10 @@ use Rattle.split.specs.declared.Answer.the-variants.{Rated, Refused}
 use Rattle.split.specs.declared.Search.{Search}
 use Rattle.split.specs.declared.Search.the-variants.{Balanced, Unbalanced, Unfit}
 use Rattle.rating.specs.Records.{fitsOf}
-use Rattle.rating.specs.Rate.{LIMIT, ROUNDS, mixOf, systemsFor, countFor, splitBy, splitAnswer, foundBy}
-use Rattle.rating.specs.Rate.{foundOutcome, searched, searchOutcome}
+use Rattle.rating.specs.Rate.{LIMIT, ROUNDS, mixOf, systemsFor, countFor, ratingRefusal, splitBy, splitAnswer}
+use Rattle.rating.specs.Rate.{outcome, foundBy, foundOutcome, searched, searchOutcome}
+use Rattle.rating.specs.RatedOn.{InRange, RatedOn, on-or-few}
+use Rattle.rating.specs.declared.Outcome.{Outcome}
 
 -- a rating, or a refusal with a number from `low` to `high`
 abbrev pub RatedOr : ℕ → ℕ → Answer → Type 0
@@ -45,12 +49,17 @@ pub search-wider : (x : Answer) → IsRated x ⊎ (x ≡ Refused 11 0) → Rated
 search-wider x (inl r) = inl r
 search-wider x (inr q) = inr (rw q (omega arith), rw q (omega arith))
 
-pub not-five : (x : Answer) → RatedOr 7 11 x → numberOf x ≡ 5 → ⊥
-not-five (Rated w s n) h e = omega arith
-not-five (Refused n p) (inl r) e = r
-not-five (Refused n p) (inr b) e = omega (arith, b .0)
+-- either of these, or 16
+abbrev pub RatedOrFew : Answer → Type 0
+RatedOrFew x = RatedOr 7 11 x ⊎ (x ≡ Refused TOO_FEW 0)
 
--- ---- by the search, of an analysis in range: a rating or 11
+pub not-five : (x : Answer) → RatedOrFew x → numberOf x ≡ 5 → ⊥
+not-five (Rated w s n) h e = omega arith
+not-five (Refused n p) (inl (inl r)) e = r
+not-five (Refused n p) (inl (inr b)) e = omega (arith, b .0)
+not-five (Refused n p) (inr q) e = let z : n ≡ TOO_FEW = ap numberOf q in omega arith
+
+-- ---- by the search, of an analysis that is rated on: a rating or 11
 
 -- it ends balanced or unbalanced
 pub never-unfit : (a : List ℕ) (allowance : ℕ) → searched a allowance .search ≡ Unfit → ⊥
@@ -65,12 +74,12 @@ found-ends ch k n1 a (Balanced s r) h = inl tt
 found-ends ch k n1 a Unbalanced h = inr refl
 found-ends ch k n1 a Unfit h = absurd (h refl)
 
-pub search-ends : (a : List ℕ) (allowance code : ℕ) → refusalOf a ≡ 0
+pub search-ends : (a : List ℕ) (allowance code : ℕ) → RatedOn a
     → IsRated (searchOutcome a allowance code .answer) ⊎ (searchOutcome a allowance code .answer ≡ Refused 11 0)
 unfolding searchOutcome foundOutcome
 search-ends a allowance code h = rw h (found-ends _ _ _ _ (searched a allowance .search) (never-unfit a allowance))
 
--- ---- a proposed split of an analysis in range: a rating or 7 to 10
+-- ---- a proposed split of an analysis that is rated on: a rating or 7 to 10
 
 verdict-ends : (b e w : Bool) (x : Answer) → IsRated x → RatedOr 7 10 (verdict b e w x)
 verdict-ends false e w x r = inr (omega arith, omega arith)
@@ -89,13 +98,40 @@ proposed-ends limit ch k mix a n1 =
     verdict-ends (resums mix k a) (someEmpty ch k a) (ltb limit (spreadOf (partialAt ch a) k))
     (Rated (ratingOf ch k a n1) (spreadOf (partialAt ch a) k) 0) tt
 
-pub split-ends : (a : List ℕ) (p : Split) (code : ℕ) → refusalOf a ≡ 0 → RatedOr 7 10 (splitAnswer a p code)
+pub split-ends : (a : List ℕ) (p : Split) (code : ℕ) → RatedOn a → RatedOr 7 10 (splitAnswer a p code)
 unfolding splitAnswer splitBy
 split-ends a p code h =
     rw h
     (fits-ends (fitsOf (systemsFor a) (countFor a) (p .count) (p .systems) (p .codes)) _
     (proposed-ends LIMIT (systemsFor a) (countFor a) (mixOf a) (cellsOf (systemsFor a) (countFor a) (p .amounts))
     (inertFirst a)))
+
+-- ---- an analysis in range: as above, or 16 and no split
+
+pub search-few : (a : List ℕ) (allowance code : ℕ) → ratingRefusal a ≡ TOO_FEW
+    → searchOutcome a allowance code ≡ outcome (Refused TOO_FEW 0) noSplit
+unfolding searchOutcome
+search-few a allowance code h = rw h
+
+pub split-few : (a : List ℕ) (p : Split) (code : ℕ) → ratingRefusal a ≡ TOO_FEW
+    → splitAnswer a p code ≡ Refused TOO_FEW 0
+unfolding splitAnswer
+split-few a p code h = rw h
+
+module _ (a : List ℕ) (code : ℕ) (h : InRange a) where
+  pub search-in-range : (allowance : ℕ) → RatedOrFew (searchOutcome a allowance code .answer)
+  search-in-range allowance = go (on-or-few a h)
+    where
+      go : RatedOn a ⊎ (ratingRefusal a ≡ TOO_FEW) → RatedOrFew (searchOutcome a allowance code .answer)
+      go (inl e) = inl (search-wider _ (search-ends a allowance code e))
+      go (inr e) = inr (ap (λ (x : Outcome). x .answer) (search-few a allowance code e))
+
+  pub split-in-range : (p : Split) → RatedOrFew (splitAnswer a p code)
+  split-in-range p = go (on-or-few a h)
+    where
+      go : RatedOn a ⊎ (ratingRefusal a ≡ TOO_FEW) → RatedOrFew (splitAnswer a p code)
+      go (inl e) = inl (split-wider _ (split-ends a p code e))
+      go (inr e) = inr (split-few a p code e)
 
 -- ---- what was read is an analysis in range
 
@@ -110,7 +146,7 @@ module _ (s : List ℕ) (code : ℕ) (h : readOf s code .answer ≡ reading.Read
   content : readOf s code ≡ contentOf (whole .n) (whole .m) (whole .first) s
   content = read-good s code (whole .n) (whole .m) (whole .first) (whole .sections) (whole .codes) (whole .amounts)
 
-  pub read-passed : refusalOf (readOf s code .analysis .amounts) ≡ 0
+  pub read-passed : InRange (readOf s code .analysis .amounts)
   read-passed =
       ap (λ (x : Sheet). refusalOf (x .analysis .amounts)) content ∙ amounts-back (whole .n) s (whole .amounts) .1
 

@@ -2,8 +2,8 @@
 -- (document 01, "The split and the rating", "The search", "What is turned away"). Assumes nothing.
 use mathlib.Core.List.{List}
 use Prim.Native.Nat.{ℕ, _*_, min}
-use lib.Dec.{eqb}
-use Rattle.refusal.specs.Register.{OUT_OF_RANGE, MISFIT}
+use lib.Dec.{eqb, ltb}
+use Rattle.refusal.specs.Register.{OUT_OF_RANGE, MISFIT, TOO_FEW}
 use Rattle.analysis.specs.Register.{ifElse}
 use Rattle.analysis.specs.Check.{refusalOf}
 use Rattle.sheet.specs.Split.{noSplit}
@@ -14,7 +14,8 @@ use Rattle.sheet.specs.declared.Reading.{Reading}
 use Rattle.sheet.specs.declared.Reading.the-variants as reading
 use Rattle.mixture.specs.Simplification.{simplifiedOf}
 use Rattle.mixture.specs.Inert.{inertFirst}
-use Rattle.systems.specs.Choice.{choiceOf}
+use Rattle.systems.specs.Choice.{presentCount, choiceOf}
+use Rattle.systems.specs.declared.Choice.{Choice}
 use Rattle.split.specs.Split.{cellsOf, amountsOf}
 use Rattle.split.specs.Rating.{ratingOf, proposedOf}
 use Rattle.split.specs.Start.{startOf}
@@ -35,7 +36,7 @@ LIMIT = 500000
 abbrev pub ROUNDS : ℕ
 ROUNDS = 4000
 
--- ---- what an analysis in range is rated by: simplified mixture, chosen systems and their number, inert mixture
+-- ---- what an analysis is rated by: simplified mixture, chosen systems and their number, inert mixture
 
 abbrev pub mixOf : List ℕ → List ℕ
 mixOf a = simplifiedOf a
@@ -46,7 +47,17 @@ systemsFor a = choiceOf (simplifiedOf a) .systems
 abbrev pub countFor : List ℕ → ℕ
 countFor a = choiceOf (simplifiedOf a) .count
 
--- ---- a refusal of the analysis comes first; 5 carries `code`, and 6 none
+-- ---- a refusal of the analysis comes first; 5 carries `code`, and the others none
+
+-- the fewest components present that a mixture is rated with
+abbrev pub FEWEST : ℕ
+FEWEST = 2
+
+-- the number with which rating turns an analysis away: 5 or 6, then 16 where fewer than two of the components are present
+-- after simplification (document 02, Five); 0 where it is rated on
+unfoldable pub ratingRefusal : List ℕ → ℕ
+ratingRefusal a =
+    ifElse (eqb (refusalOf a) 0) (ifElse (ltb (presentCount (mixOf a)) FEWEST) TOO_FEW 0) (refusalOf a)
 
 abbrev pub checkedBy : ℕ → ℕ → Answer → Answer
 checkedBy number code rated = ifElse (eqb number 0) rated (Refused number (ifElse (eqb number OUT_OF_RANGE) code 0))
@@ -60,9 +71,14 @@ splitBy ch k mix n1 p =
     (proposedOf LIMIT ch k mix (cellsOf ch k (p .amounts)) n1)
     (Refused MISFIT 0)
 
+-- of an analysis that is refused with a number (0: rated on) and has some choice of systems
+abbrev pub splitAnswerBy : ℕ → Choice → List ℕ → Split → ℕ → Answer
+splitAnswerBy number choice a p code =
+    checkedBy number code (splitBy (choice .systems) (choice .count) (mixOf a) (inertFirst a) p)
+
 -- of an analysis
 unfoldable pub splitAnswer : List ℕ → Split → ℕ → Answer
-splitAnswer a p code = checkedBy (refusalOf a) code (splitBy (systemsFor a) (countFor a) (mixOf a) (inertFirst a) p)
+splitAnswer a p code = splitAnswerBy (ratingRefusal a) (choiceOf (mixOf a)) a p code
 
 -- ---- the search
 
@@ -83,16 +99,25 @@ foundBy ch k n1 a Unfit = outcome (Refused (search.numberOf Unfit) 0) noSplit
 unfoldable pub foundOutcome : List ℕ → ℕ → ℕ → Found → Outcome
 foundOutcome ch k n1 f = foundBy ch k n1 (f .cells) (f .search)
 
--- of an analysis: from the written start, at first stride 65536; an allowance above the most rounds counts as those
-abbrev pub searched : List ℕ → ℕ → Found
-searched a allowance =
-    searchOf (systemsFor a) (countFor a) LIMIT LEVEL (min allowance ROUNDS) (startOf (mixOf a) (systemsFor a) (countFor a))
+-- of a choice: from the written start, at first stride 65536; an allowance above the most rounds counts as those
+abbrev pub searchedBy : Choice → List ℕ → ℕ → Found
+searchedBy choice a allowance =
+    searchOf (choice .systems) (choice .count) LIMIT LEVEL (min allowance ROUNDS)
+    (startOf (mixOf a) (choice .systems) (choice .count))
 
+abbrev pub searched : List ℕ → ℕ → Found
+searched a allowance = searchedBy (choiceOf (mixOf a)) a allowance
+
+-- of an analysis that is refused with a number (0: rated on) and has some choice of systems
+abbrev pub searchOutcomeBy : ℕ → Choice → List ℕ → ℕ → ℕ → Outcome
+searchOutcomeBy number choice a allowance code =
+    ifElse (eqb number 0)
+    (foundOutcome (choice .systems) (choice .count) (inertFirst a) (searchedBy choice a allowance))
+    (outcome (Refused number (ifElse (eqb number OUT_OF_RANGE) code 0)) noSplit)
+
+-- of an analysis
 unfoldable pub searchOutcome : List ℕ → ℕ → ℕ → Outcome
-searchOutcome a allowance code =
-    ifElse (eqb (refusalOf a) 0)
-    (foundOutcome (systemsFor a) (countFor a) (inertFirst a) (searched a allowance))
-    (outcome (Refused (refusalOf a) (ifElse (eqb (refusalOf a) OUT_OF_RANGE) code 0)) noSplit)
+searchOutcome a allowance code = searchOutcomeBy (ratingRefusal a) (choiceOf (mixOf a)) a allowance code
 
 -- ---- a sheet: its refusal, else its split, else the search with the most rounds
 

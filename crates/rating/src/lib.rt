@@ -25,6 +25,7 @@ use analysis::Analysis;
 use analysis::Checked;
 use refusal::MISFIT;
 use refusal::OUT_OF_RANGE;
+use refusal::TOO_FEW;
 use refusal::UNBALANCED;
 use sheet::RECORDS;
 use sheet::Reading;
@@ -46,13 +47,16 @@ const LEVEL: usize = 16;
 // The most rounds of a search.
 const ROUNDS: u32 = 4000;
 
+// The fewest components present that a mixture is rated with.
+const FEWEST: u32 = 2;
+
 // A rating or a refusal, and the split that the search found; no split beside anything else.
 pub struct Outcome {
     pub answer: Answer,
     pub split: Split,
 }
 
-// The rating of a proposed split of an analysis: 5, 6, then 7 to 10, else its rating and its spread.
+// The rating of a proposed split of an analysis: 5, 6, 16, then 7 to 10, else its rating and its spread.
 pub fn rate_split(a: Analysis, p: Split) -> Answer
     ensures { λ r. ⌜ r ≡ splitAnswer (a .amounts) p (codeOf r) ⌝ }
     ensures { λ r. ⌜ (numberOf r ≡ 5 → AtFault (a .amounts) (codeOf r)) ⌝ }
@@ -67,11 +71,19 @@ pub fn rate_split(a: Analysis, p: Split) -> Answer
             number,
             place: code,
         },
-        Checked::InRange => split_by(choice::choose(mix), mix, inert, p),
+        Checked::InRange => {
+            if choice::present_count(mix) < FEWEST {
+                return Answer::Refused {
+                    number: TOO_FEW,
+                    place: 0,
+                };
+            }
+            split_by(choice::choose(mix), mix, inert, p)
+        }
     }
 }
 
-// The rating of an analysis by the search, with its split: 5, 6 or 11, else rating, spread and rounds. An allowance
+// The rating of an analysis by the search, with its split: 5, 6, 16 or 11, else rating, spread and rounds. An allowance
 // above the most rounds counts as those.
 pub fn rate_by_search(a: Analysis, allowance: u32) -> Outcome
     ensures { λ r. ⌜ r ≡ searchOutcome (a .amounts) allowance (codeOf (r .answer)) ⌝ }
@@ -85,6 +97,9 @@ pub fn rate_by_search(a: Analysis, allowance: u32) -> Outcome
     match answer {
         Checked::Refused { number, code } => refused(number, code),
         Checked::InRange => {
+            if choice::present_count(mix) < FEWEST {
+                return refused(TOO_FEW, 0);
+            }
             let choice = choice::choose(mix);
             let found = search::find(mix, choice, LIMIT, LEVEL, at_most(allowance));
             found_outcome(choice, mix, inert, found)

@@ -50,16 +50,20 @@ NO_SYSTEM = 13
 abbrev pub SHORT_BLANK : ℕ
 SHORT_BLANK = 14
 
+abbrev pub TOO_FEW : ℕ
+TOO_FEW = 16
+
 abbrev pub SHARE : ℕ
 SHARE = 17
 
--- what a refusal is tested of: 1 of the whole sheet, first; 2 to 4 record by record; then 5 and 6 of an analysis; then
--- 7 to 10 of a proposed split, or 11 of the search. Of a partial number 13 comes first, then 12, then 17; the writer
--- tests its buffer after the analysis.
+-- what a refusal is tested of: 1 of the whole sheet, first; 2 to 4 record by record; then 5 and 6 of an analysis, and
+-- with rating 16 of its simplified mixture; then 7 to 10 of a proposed split, or 11 of the search. Of a partial number 13
+-- comes first, then 12, then 17; the writer tests its buffer after the analysis.
 pub data Tested : Type 0 where
   wholeSheet : Tested
   componentRecord : Tested
   analysis : Tested
+  simplifiedMixture : Tested
   proposedSplit : Tested
   search : Tested
   partialNumber : Tested
@@ -90,6 +94,7 @@ register =
     entry NO_MIXTURE "no mixture" partialNumber ∷
     entry NO_SYSTEM "no system" partialNumber ∷
     entry SHORT_BLANK "short blank" writersBuffer ∷
+    entry TOO_FEW "too few" simplifiedMixture ∷
     entry SHARE "share" partialNumber ∷
     []
 
@@ -110,5 +115,5 @@ pub numbers-kept : take 14 (numbersOf register) ≡ 1 ∷ 2 ∷ 3 ∷ 4 ∷ 5 �
 numbers-kept = refl
 
 -- and so are those that requests have added
-pub requests-kept : allIn (17 ∷ []) (numbersOf register) ≡ true
+pub requests-kept : allIn (16 ∷ 17 ∷ []) (numbersOf register) ≡ true
 requests-kept = refl

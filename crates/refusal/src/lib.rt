@@ -29,4 +29,6 @@ pub const NO_SYSTEM: u32 = 13;
 
 pub const SHORT_BLANK: u32 = 14;
 
+pub const TOO_FEW: u32 = 16;
+
 pub const SHARE: u32 = 17;

@@ -1,6 +1,7 @@
 -- Worked examples (document 01, "Writer, display, controller", "Gases and their figures"). Assumes nothing.
 use mathlib.Core.Path.{_≡_, refl}
 use mathlib.Core.List.{List, [], _∷_}
+use mathlib.Core.Bool.{true, false}
 use Prim.Native.Nat.{ℕ, _-_}
 use lib.ListN.{length, replicate}
 use Rattle.analysis.specs.Register.{CODES, statusOf}
@@ -28,6 +29,15 @@ empty-sheet = refl
 byte-over : readOf (0 ∷ 0 ∷ 0 ∷ []) 0 ≡ refusedSheet (Refused 1 0 0)
 unfolding readOf readBy sectionsOf sectionAt endAt tornOr allowedCount
 byte-over = refl
+
+-- a count of 6 is allowed, but its records are missing; one of 3 is not
+six-missing : readOf (0 ∷ 6 ∷ []) 0 ≡ refusedSheet (Refused 1 0 0)
+unfolding readOf readBy sectionsOf sectionAt endAt tornOr allowedCount
+six-missing = refl
+
+counts-allowed : (allowedCount 0 ≡ true) × (allowedCount 6 ≡ true) × (allowedCount 9 ≡ true) × (allowedCount 3 ≡ false)
+unfolding allowedCount
+counts-allowed = (refl, refl, refl, refl)
 
 -- the gas of 001 Table A.1, by code
 abbrev pub tableA1 : List ℕ

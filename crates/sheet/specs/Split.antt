@@ -4,8 +4,7 @@ use Prim.Native.Nat.{ℕ, zero, suc, _+_, _-_}
 use mathlib.Core.List.{List, [], _∷_, _++_}
 use mathlib.Core.Bool.{Bool, true}
 use lib.ListN.{length, getD, take, replicate}
-use lib.Dec.{eqb}
-use Rattle.analysis.specs.Register.{ifElse}
+use Rattle.refusal.specs.Keys.{isIn}
 use Rattle.sheet.specs.declared.Split.{Split}
 use Rattle.sheet.specs.Bytes.{numberAt, bytesOf}
 
@@ -13,7 +12,10 @@ use Rattle.sheet.specs.Bytes.{numberAt, bytesOf}
 abbrev pub RECORDS : ℕ
 RECORDS = 21
 
--- the most records of a sheet's split (document 01, "The register and the sheet")
+-- the least and the most records of a sheet's split, where it has one (document 02, Five)
+abbrev pub SHORTEST_SPLIT : ℕ
+SHORTEST_SPLIT = 6
+
 abbrev pub LONGEST_SPLIT : ℕ
 LONGEST_SPLIT = 9
 
@@ -21,9 +23,12 @@ LONGEST_SPLIT = 9
 abbrev pub RECORD_BYTES : ℕ
 RECORD_BYTES = 6
 
--- the counts of a split section: none or nine
+-- the counts of a split section: none, or three records for each of two or three systems
+abbrev pub splitCounts : List ℕ
+splitCounts = 0 ∷ SHORTEST_SPLIT ∷ LONGEST_SPLIT ∷ []
+
 unfoldable pub allowedCount : ℕ → Bool
-allowedCount m = ifElse (eqb m 0) true (eqb m LONGEST_SPLIT)
+allowedCount m = isIn m splitCounts
 
 -- the bytes of `m` records from the place `i` on, of the columns `xs`, `ys` and `zs`
 abbrev pub recordBytes : ℕ → ℕ → List ℕ → List ℕ → List ℕ → List ℕ

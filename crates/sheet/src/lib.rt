@@ -10,7 +10,9 @@ pub const LISTED: usize = 11;
 // Room for a split's records.
 pub const RECORDS: usize = 21;
 
-// The most records of a sheet's split.
+// The least and the most records of a sheet's split, where it has one.
+pub const SHORTEST_SPLIT: usize = 6;
+
 pub const LONGEST_SPLIT: usize = 9;
 
 // The bytes of a component's record: code and amount.
@@ -59,12 +61,18 @@ pub enum Written {
     Refused { number: u32, code: u32 },
 }
 
-// May a split have so many records? None, or nine.
+// May a split have so many records? None, or three for each of so many systems.
 pub fn allowed_count(count: usize) -> bool
     ensures { λ r. ⌜ r ≡ allowedCount count ⌝ }
 {
     if count == 0 {
         return true;
     }
-    count == LONGEST_SPLIT
+    if count < SHORTEST_SPLIT {
+        return false;
+    }
+    if count > LONGEST_SPLIT {
+        return false;
+    }
+    count % 3 == 0
 }

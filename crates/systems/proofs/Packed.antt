@@ -6,7 +6,7 @@ use native.Mathlib.Omega.{arith}
 use lib.Dec.{T, eqb, leb, leb→le}
 use borrow.Author.Tests.{ne-eqb}
 use Rattle.systems.specs.Systems.{COMPONENTS, memberOf, hasOf}
-use Rattle.systems.specs.Choice.{NUMBERS}
+use Rattle.systems.specs.Choice.{NUMBERS, maskFrom, maskOf}
 use Rattle.systems.specs.Members.{member-none}
 use Rattle.systems.specs.Table.{everyTo, eachTo, agree, agree-at}
 
@@ -63,3 +63,16 @@ has-past system c h l = rw (other 0 (omega arith), other 1 (omega arith), other 
     other j k =
         let m : memberOf system j ≤ COMPONENTS = leb→le (memberOf system j) COMPONENTS (eachTo (λ j. leb (memberOf system j) COMPONENTS) 3 (eachTo few NUMBERS tt system h) j k) in
         ne-eqb c (memberOf system j) (λ e. absurd (omega arith))
+
+-- ---- a system's components as a mask
+
+abbrev pub maskAt : ℕ → ℕ → ℕ
+maskAt table system = table / 2 ^ (system * 5) % 16
+
+pub mask-is : (table : ℕ) → T (agree (maskAt table) maskOf NUMBERS) → (system : ℕ) → system < NUMBERS → maskAt table system ≡ maskOf system
+mask-is table t system h = agree-at (maskAt table) maskOf NUMBERS t system h
+
+-- a number past the table has none
+pub mask-none : (system : ℕ) → NUMBERS ≤ system → 0 ≡ maskOf system
+unfolding maskOf maskFrom
+mask-none system h = rw (← has-none system 0 h, ← has-none system 1 h, ← has-none system 2 h, ← has-none system 3 h)

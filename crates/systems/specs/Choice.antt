@@ -1,11 +1,13 @@
 -- The choice of systems (document 01, "Choice of systems"; 000 A.3.2), for any list of candidates, any order of the
 -- components and any key that says which system goes before another. Assumes nothing.
-use Prim.Native.Nat.{ℕ, _+_, _*_, _-_}
+use Prim.Native.Nat.{ℕ, zero, suc, _+_, _*_, _-_, _/_, _%_, _^_}
 use mathlib.Core.List.{List, [], _∷_, _++_}
-use mathlib.Core.Bool.{Bool, true, false, not, _&&_}
-use lib.Dec.{ltb}
+use mathlib.Core.Bool.{Bool, true, false, not, cond, _&&_}
+use lib.Dec.{eqb, ltb}
+use lib.Bits.{bitAnd}
+use lib.Count.{ones}
 use lib.ListN.{getD, set, length, replicate}
-use Rattle.systems.specs.Systems.{memberOf, hasOf, candidates}
+use Rattle.systems.specs.Systems.{COMPONENTS, memberOf, hasOf, candidates}
 use Rattle.systems.specs.declared.Choice.{Choice}
 
 -- ---- fitness
@@ -22,11 +24,56 @@ weightedOf mix c = getD weights c 0 * getD mix c 0
 unfoldable pub fitnessOf : List ℕ → ℕ → ℕ
 fitnessOf mix system = weightedOf mix (memberOf system 0) + weightedOf mix (memberOf system 1) + weightedOf mix (memberOf system 2)
 
+-- the weighted parts of all components below n
+unfoldable pub allTo : List ℕ → ℕ → ℕ
+allTo mix zero = 0
+allTo mix (suc n) = allTo mix n + weightedOf mix n
+
+-- ---- the components present
+
+-- a set of components is a mask: the bit of component i is set where the test passes at i; so many components from i on
+unfoldable pub maskFrom : (ℕ → Bool) → ℕ → ℕ → ℕ
+maskFrom f zero i = 0
+maskFrom f (suc n) i = maskFrom f n (i + 1) * 2 + cond (f i) 1 0
+
+-- whether component c is in the set
+unfoldable pub inMask : ℕ → ℕ → Bool
+inMask mask c = eqb (mask / 2 ^ c % 2) 1
+
+-- a component is present where its amount is above 0
+abbrev pub presentAt : List ℕ → ℕ → Bool
+presentAt mix c = ltb 0 (getD mix c 0)
+
+unfoldable pub presentOf : List ℕ → ℕ
+presentOf mix = maskFrom (presentAt mix) COMPONENTS 0
+
+-- how many components are present
+abbrev pub presentCount : List ℕ → ℕ
+presentCount mix = ones (presentOf mix)
+
+-- the components that a system contains
+unfoldable pub maskOf : ℕ → ℕ
+maskOf system = maskFrom (hasOf system) COMPONENTS 0
+
+-- how many of a system's components are present
+unfoldable pub presentIn : ℕ → ℕ → ℕ
+presentIn present system = ones (bitAnd (maskOf system) present)
+
+-- a system's standing: a system with more of its components present goes before a fitter one, for the number present
+-- counts above every fitness
+unfoldable pub standingOf : List ℕ → ℕ → ℕ
+standingOf mix system = presentIn (presentOf mix) system * (allTo mix COMPONENTS + 1) + fitnessOf mix system
+
 -- ---- the choice
 
 -- the order in which components take systems: propane, ethane, butane, methane
 abbrev pub order : List ℕ
 order = 2 ∷ 1 ∷ 3 ∷ 0 ∷ []
+
+-- the numbers of a list that are in a set
+unfoldable pub keep : ℕ → List ℕ → List ℕ
+keep mask [] = []
+keep mask (c ∷ cs) = elim (inMask mask c) [ true ↦ c ∷ keep mask cs | false ↦ keep mask cs ]
 
 -- a fold over a list, from its first number on
 unfoldable pub fold : {A : Type 0} → (A → ℕ → A) → List ℕ → A → A
@@ -88,9 +135,13 @@ listOf marks l system = elim (isChosen marks system) [ true ↦ l ++ (system ∷
 unfoldable pub chosenOf : List ℕ → List Bool → List ℕ
 chosenOf systems marks = fold (listOf marks) systems []
 
--- the choice for a mixture
+-- the choice by a key, in an order of components
+abbrev pub chooseBy : (ℕ → ℕ) → List ℕ → List ℕ
+chooseBy key components = chosenOf candidates (marksOf key candidates components)
+
+-- the choice for a mixture; absent components are passed over
 unfoldable pub chooseOf : List ℕ → List ℕ
-chooseOf mix = chosenOf candidates (marksOf (fitnessOf mix) candidates order)
+chooseOf mix = chooseBy (standingOf mix) (keep (presentOf mix) order)
 
 -- ---- the choice as it is answered: the count, and room for 8 systems with 0 in the places left over
 

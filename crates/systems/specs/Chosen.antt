@@ -1,113 +1,140 @@
--- Theorems of the choice, for every key and so for every mixture: exactly three different candidates come out, rising,
--- and each component is in at least two of them.
+-- Theorems of the choice, for every mixture in which two components or more are present: two systems come out where two
+-- are present, else three; they are different candidates, rising; each present component is in at least two of them, and
+-- each of them contains two present components or more.
 --
--- Nothing of the key is used but that a component takes some system that contains it and is not chosen: one test is
--- computed over every way to take such systems. Assumes nothing.
-use Prim.Native.Nat.{ℕ, _≤_, _<_}
+-- Nothing of a system's standing is used but that a component takes, of the systems that contain it and are not chosen, one with the most
+-- components present: for each set of components one test is computed over every way to take such systems. Assumes nothing.
+use Prim.Native.Nat.{ℕ, _^_, _≤_, _<_}
 use mathlib.Core.Path.{_≡_, refl}
 use mathlib.Core.List.{List, [], _∷_}
 use mathlib.Core.Bool.{Bool, true, false, not, _&&_, _||_}
 use native.Mathlib.Omega.{arith}
-use lib.Ieee.Fits.{and-l, and-r}
-use lib.Dec.{T, eqb, ltb, leb, eqb→eq, ltb→lt, leb→le}
+use lib.Ieee.Fits.{and-i, and-l, and-r}
+use lib.Count.{ones}
+use lib.Dec.{T, eqb, ltb, leb, eqb→eq, ltb→lt, leb→le, le→leb}
 use lib.ListN.{getD, set, length, replicate}
-use borrow.Author.Tests.{lt-ltb}
+use borrow.Author.Tests.{eq-eqb, ne-eqb, ltb-true, ltb-false, lt-ltb, not-true}
 use Rattle.systems.specs.Systems.{COMPONENTS, memberOf, hasOf, elem, candidates, Candidate}
-use Rattle.systems.specs.Table.{of-true, to-true, every, everyTo, eachTo}
+use Rattle.systems.specs.Table.{of-true, to-true, every, each, everyTo, eachTo}
 use Rattle.systems.specs.Members.{countTo}
-use Rattle.systems.specs.Scores.{score-open, score-closed, open-of-score, better-next, better-before, better-cases}
-use Rattle.systems.specs.Choice.{NUMBERS, order, fold, containingOf, openOf, scoreOf, betterOf, fittestOf, takeOf, passOf, marksOf, listOf, chosenOf, chooseOf, paddedOf, choiceOf, fitnessOf}
+use Rattle.systems.specs.Presence.{present-lt, standing-more}
+use Rattle.systems.specs.Fittest.{elem-here, elem-there, rises, Fittest, fittest-is}
+use Rattle.systems.specs.Choice.{NUMBERS, order, fold, maskFrom, maskOf, inMask, presentOf, presentCount, presentIn, keep, containingOf, openOf, fittestOf, takeOf, passOf, marksOf, listOf, chosenOf, chooseOf, paddedOf, choiceOf, standingOf}
 
 -- the test passes at some number of the list
 abbrev pub some : (ℕ → Bool) → List ℕ → Bool
 some f [] = false
 some f (x ∷ xs) = f x || some f xs
 
--- `good` holds in the end, whichever open system each component takes
-abbrev pub always : (List Bool → Bool) → List ℕ → ℕ → List ℕ → List Bool → Bool
-always good systems wanted [] marks = good marks
-always good systems wanted (c ∷ cs) marks =
+some-elem : (P : Type 0) (f : ℕ → Bool) (xs : List ℕ) → T (some f xs) → ((s : ℕ) → elem s xs ≡ true → f s ≡ true → P) → P
+unfolding elem
+some-elem P f [] t k = absurd t
+some-elem P f (x ∷ xs) t k = go (f x) refl t (k x (elem-here x xs)) (λ u. some-elem P f xs u (λ s e. k s (elem-there s x xs e)))
+  where
+    go : (b : Bool) → f x ≡ b → T (b || some f xs) → (f x ≡ true → P) → (T (some f xs) → P) → P
+    go true e t p q = p e
+    go false e t p q = q t
+
+-- every number of the list at which one test passes passes another
+passed : (a b : Bool) → T (not a || b) → a ≡ true → T b
+passed true b t e = t
+passed false b t e = absurd (of-true false e)
+
+to-passed : (a b : Bool) → (a ≡ true → T b) → T (not a || b)
+to-passed true b f = f refl
+to-passed false b f = tt
+
+every-of : (f : ℕ → Bool) (xs : List ℕ) → ((s : ℕ) → elem s xs ≡ true → T (f s)) → T (every f xs)
+unfolding elem
+every-of f [] h = tt
+every-of f (x ∷ xs) h = and-i (f x) (every f xs) (h x (elem-here x xs)) (every-of f xs (λ s e. h s (elem-there s x xs e)))
+
+-- a system can be taken, and none that can be taken ranks higher
+abbrev pub topOf : (ℕ → ℕ) → List ℕ → List Bool → ℕ → ℕ → Bool
+topOf rank systems marks c s = openOf marks c s && every (λ t. not (openOf marks c t) || leb (rank t) (rank s)) systems
+
+-- `good` holds in the end, whichever of the highest ranking systems each component takes
+abbrev pub always : (List Bool → Bool) → (ℕ → ℕ) → List ℕ → ℕ → List ℕ → List Bool → Bool
+always good rank systems wanted [] marks = good marks
+always good rank systems wanted (c ∷ cs) marks =
     elim (ltb (containingOf systems marks c) wanted) [
-      | true ↦ not (openOf marks c 0) && (some (openOf marks c) systems && every (λ s. not (openOf marks c s) || always good systems wanted cs (set marks s true)) systems)
-      | false ↦ always good systems wanted cs marks
+      | true ↦ not (openOf marks c 0) && (some (openOf marks c) systems && every (λ s. not (topOf rank systems marks c s) || always good rank systems wanted cs (set marks s true)) systems)
+      | false ↦ always good rank systems wanted cs marks
     ]
 
--- what holds of every open system of the list holds of the best one
-module _ (key : ℕ → ℕ) (marks : List Bool) (c : ℕ) where
-  module _ (test : ℕ → Bool) where
-    -- the test passes at each open system
-    abbrev passes : List ℕ → Bool
-    passes systems = every (λ s. not (openOf marks c s) || test s) systems
-
-    passed : (a b : Bool) → T (not a || b) → a ≡ true → T b
-    passed true b t e = t
-    passed false b t e = absurd (of-true false e)
-
-    from-best : (systems : List ℕ) → T (passes systems) → (b : ℕ) → T (test b) → T (test (fold (betterOf key marks c) systems b))
-    unfolding fold
-    from-best [] t b q = q
-    from-best (s ∷ systems) t b q =
-        from-best systems (and-r (not (openOf marks c s) || test s) (passes systems) t) (betterOf key marks c b s)
-        (better-cases key marks c (λ x. T (test x)) b s
-        (λ h. passed (openOf marks c s) (test s) (and-l (not (openOf marks c s) || test s) (passes systems) t) (open-of-score key marks c s (omega arith)))
-        (λ h. q))
-
-    from-none : (systems : List ℕ) → T (passes systems) → T (some (openOf marks c) systems) → (b : ℕ) → scoreOf key marks c b ≡ 0
-        → T (test (fold (betterOf key marks c) systems b))
-    unfolding fold
-    from-none [] t u b z = absurd u
-    from-none (s ∷ systems) t u b z =
-        go (openOf marks c s) refl
-        (λ e. from-best systems (and-r (not (openOf marks c s) || test s) (passes systems) t) (betterOf key marks c b s)
-        (rw (better-next key marks c b s (omega (arith, score-open key marks c s e))) (passed (openOf marks c s) (test s) (and-l (not (openOf marks c s) || test s) (passes systems) t) e)))
-        (λ e v. from-none systems (and-r (not (openOf marks c s) || test s) (passes systems) t) v (betterOf key marks c b s) (rw (better-before key marks c b s (omega (arith, score-closed key marks c s e))) z)) u
+-- a key that puts higher ranks first takes a system of the highest rank
+module _ (key rank : ℕ → ℕ) (systems : List ℕ) (r : T (rises 0 systems))
+    (before : (s t : ℕ) → elem s systems ≡ true → rank s < rank t → key s < key t) where
+  module _ (marks : List Bool) (c : ℕ) where
+    fittest-top : Fittest key systems marks c (fittestOf key systems marks c) → topOf rank systems marks c (fittestOf key systems marks c) ≡ true
+    fittest-top f =
+        to-true (topOf rank systems marks c (fittestOf key systems marks c))
+        (and-i (openOf marks c (fittestOf key systems marks c)) (every (λ t. not (openOf marks c t) || leb (rank t) (rank (fittestOf key systems marks c))) systems)
+        (of-true (openOf marks c (fittestOf key systems marks c)) (f .free))
+        (every-of (λ t. not (openOf marks c t) || leb (rank t) (rank (fittestOf key systems marks c))) systems
+        (λ t e. to-passed (openOf marks c t) (leb (rank t) (rank (fittestOf key systems marks c)))
+        (λ o. le→leb (rank t) (rank (fittestOf key systems marks c)) (no-higher t (f .greatest t e o) (f .listed))))))
       where
-        go : (o : Bool) → openOf marks c s ≡ o → (openOf marks c s ≡ true → T (test (fold (betterOf key marks c) systems (betterOf key marks c b s))))
-            → (openOf marks c s ≡ false → T (some (openOf marks c) systems) → T (test (fold (betterOf key marks c) systems (betterOf key marks c b s))))
-            → T (o || some (openOf marks c) systems) → T (test (fold (betterOf key marks c) systems (betterOf key marks c b s)))
-        go true e f g v = f e
-        go false e f g v = g e v
+        no-higher : (t : ℕ) → key t ≤ key (fittestOf key systems marks c) → elem (fittestOf key systems marks c) systems ≡ true → rank t ≤ rank (fittestOf key systems marks c)
+        no-higher t l e = go (ltb (rank (fittestOf key systems marks c)) (rank t)) refl
+          where
+            go : (b : Bool) → ltb (rank (fittestOf key systems marks c)) (rank t) ≡ b → rank t ≤ rank (fittestOf key systems marks c)
+            go true q = let h = before (fittestOf key systems marks c) t e (ltb-true (rank (fittestOf key systems marks c)) (rank t) q) in absurd (omega arith)
+            go false q = ltb-false (rank (fittestOf key systems marks c)) (rank t) q
 
-    pub fittest-passes : (systems : List ℕ) → T (not (openOf marks c 0)) → T (some (openOf marks c) systems) → T (passes systems) → T (test (fittestOf key systems marks c))
-    unfolding fittestOf
-    fittest-passes systems n u t = from-none systems t u 0 (score-closed key marks c 0 (closed (openOf marks c 0) n))
+    -- so what holds of each such system holds of the fittest
+    fittest-passes : (test : ℕ → Bool) → T (not (openOf marks c 0)) → T (some (openOf marks c) systems)
+        → T (every (λ s. not (topOf rank systems marks c s) || test s) systems) → T (test (fittestOf key systems marks c))
+    fittest-passes test n u t =
+        some-elem (T (test (fittestOf key systems marks c))) (openOf marks c) systems u
+        (λ s e o.
+        let f = fittest-is key systems marks c r (not-true (openOf marks c 0) (to-true (not (openOf marks c 0)) n)) s e o in
+        passed (topOf rank systems marks c (fittestOf key systems marks c)) (test (fittestOf key systems marks c))
+        (each (λ s. not (topOf rank systems marks c s) || test s) systems t (fittestOf key systems marks c) (f .listed)) (fittest-top f))
+
+  -- what holds whichever system each component takes holds of the pass
+  module _ (good : List Bool → Bool) (wanted : ℕ) where
+    take-good : (c : ℕ) (components : List ℕ) (marks : List Bool) → T (always good rank systems wanted (c ∷ components) marks)
+        → T (always good rank systems wanted components (takeOf key systems wanted marks c))
+    unfolding takeOf
+    take-good c components marks t = go (ltb (containingOf systems marks c) wanted) refl
       where
-        closed : (o : Bool) → T (not o) → o ≡ false
-        closed true t = absurd t
-        closed false t = refl
+        go : (b : Bool) → ltb (containingOf systems marks c) wanted ≡ b → T (always good rank systems wanted components (takeOf key systems wanted marks c))
+        go true e =
+            let u : T (not (openOf marks c 0) && (some (openOf marks c) systems && every (λ s. not (topOf rank systems marks c s) || always good rank systems wanted components (set marks s true)) systems)) = rw (e, always) at t in
+            let v = and-r (not (openOf marks c 0)) (some (openOf marks c) systems && every (λ s. not (topOf rank systems marks c s) || always good rank systems wanted components (set marks s true)) systems) u in
+            rw (e, takeOf)
+            (fittest-passes marks c (λ s. always good rank systems wanted components (set marks s true))
+            (and-l (not (openOf marks c 0)) (some (openOf marks c) systems && every (λ s. not (topOf rank systems marks c s) || always good rank systems wanted components (set marks s true)) systems) u)
+            (and-l (some (openOf marks c) systems) (every (λ s. not (topOf rank systems marks c s) || always good rank systems wanted components (set marks s true)) systems) v)
+            (and-r (some (openOf marks c) systems) (every (λ s. not (topOf rank systems marks c s) || always good rank systems wanted components (set marks s true)) systems) v))
+        go false e = rw (e, takeOf) (rw (e, always) at t)
 
--- what holds whichever system each component takes holds of the pass
-module _ (key : ℕ → ℕ) (good : List Bool → Bool) (systems : List ℕ) (wanted : ℕ) where
-  take-good : (c : ℕ) (components : List ℕ) (marks : List Bool) → T (always good systems wanted (c ∷ components) marks)
-      → T (always good systems wanted components (takeOf key systems wanted marks c))
-  unfolding takeOf
-  take-good c components marks t = go (ltb (containingOf systems marks c) wanted) refl
-    where
-      go : (b : Bool) → ltb (containingOf systems marks c) wanted ≡ b → T (always good systems wanted components (takeOf key systems wanted marks c))
-      go true e =
-          let u : T (not (openOf marks c 0) && (some (openOf marks c) systems && passes key marks c (λ s. always good systems wanted components (set marks s true)) systems)) = rw (e, always) at t in
-          let v = and-r (not (openOf marks c 0)) (some (openOf marks c) systems && passes key marks c (λ s. always good systems wanted components (set marks s true)) systems) u in
-          rw (e, takeOf)
-          (fittest-passes key marks c (λ s. always good systems wanted components (set marks s true)) systems
-          (and-l (not (openOf marks c 0)) (some (openOf marks c) systems && passes key marks c (λ s. always good systems wanted components (set marks s true)) systems) u)
-          (and-l (some (openOf marks c) systems) (passes key marks c (λ s. always good systems wanted components (set marks s true)) systems) v)
-          (and-r (some (openOf marks c) systems) (passes key marks c (λ s. always good systems wanted components (set marks s true)) systems) v))
-      go false e = rw (e, takeOf) (rw (e, always) at t)
-
-  pub pass-good : (components : List ℕ) (marks : List Bool) → T (always good systems wanted components marks)
-      → T (good (passOf key systems components wanted marks))
-  unfolding passOf fold
-  pass-good [] marks t = t
-  pass-good (c ∷ components) marks t = pass-good components (takeOf key systems wanted marks c) (take-good c components marks t)
+    pub pass-good : (components : List ℕ) (marks : List Bool) → T (always good rank systems wanted components marks)
+        → T (good (passOf key systems components wanted marks))
+    unfolding passOf fold
+    pass-good [] marks t = t
+    pass-good (c ∷ components) marks t = pass-good components (takeOf key systems wanted marks c) (take-good c components marks t)
 
 -- ---- the theorems
 
--- what holds of k chosen systems `ch`
-pub record Choosable (ch : List ℕ) (k : ℕ) : Type 0 where
-  pub three : k ≡ 3
+-- how many systems are chosen where so many components are present: two for two, three for three and for four
+abbrev pub numberOf : ℕ → ℕ
+numberOf n = elim (eqb n 2) [ true ↦ 2 | false ↦ 3 ]
+
+pub two-chosen : (n : ℕ) → n ≡ 2 → numberOf n ≡ 2
+two-chosen n e = rw (eq-eqb n 2 e)
+
+pub three-chosen : (n : ℕ) → 3 ≤ n → numberOf n ≡ 3
+three-chosen n l = rw (ne-eqb n 2 (λ e. omega arith))
+
+-- what holds of k chosen systems `ch`, where the components of a mask are present
+pub record Choosable (present : ℕ) (ch : List ℕ) (k : ℕ) : Type 0 where
+  pub number : k ≡ numberOf (ones present)
   pub known : (i : ℕ) → i < k → Candidate (getD ch i 0)
   pub rising : (i j : ℕ) → i < j → j < k → getD ch i 0 < getD ch j 0
-  pub twice : (c : ℕ) → c < COMPONENTS → 2 ≤ countTo (λ i. hasOf (getD ch i 0) c) k
+  pub twice : (c : ℕ) → c < COMPONENTS → inMask present c ≡ true → 2 ≤ countTo (λ i. hasOf (getD ch i 0) c) k
+  pub filled : (i : ℕ) → i < k → 2 ≤ presentIn present (getD ch i 0)
 
 -- the same as a test
 knownAt : List ℕ → ℕ → Bool
@@ -116,67 +143,84 @@ knownAt ch i = elem (getD ch i 0) candidates
 risesAt : List ℕ → ℕ → ℕ → Bool
 risesAt ch i j = not (ltb i j) || ltb (getD ch i 0) (getD ch j 0)
 
-twiceAt : List ℕ → ℕ → ℕ → Bool
-twiceAt ch k c = leb 2 (countTo (λ i. hasOf (getD ch i 0) c) k)
+twiceAt : ℕ → List ℕ → ℕ → ℕ → Bool
+twiceAt present ch k c = not (inMask present c) || leb 2 (countTo (λ i. hasOf (getD ch i 0) c) k)
 
-choosable : List ℕ → ℕ → Bool
-choosable ch k = eqb k 3 && (everyTo (knownAt ch) k && (everyTo (λ i. everyTo (risesAt ch i) k) k && everyTo (twiceAt ch k) COMPONENTS))
+filledAt : ℕ → List ℕ → ℕ → Bool
+filledAt present ch i = leb 2 (presentIn present (getD ch i 0))
 
-four : (a b c d : Bool) → T (a && (b && (c && d))) → T a × T b × T c × T d
-four a b c d t = (
-  and-l a (b && (c && d)) t,
-  and-l b (c && d) (and-r a (b && (c && d)) t),
-  and-l c d (and-r b (c && d) (and-r a (b && (c && d)) t)),
-  and-r c d (and-r b (c && d) (and-r a (b && (c && d)) t)),
-)
+choosable : ℕ → List ℕ → ℕ → Bool
+choosable present ch k =
+    eqb k (numberOf (ones present)) && (everyTo (knownAt ch) k && (everyTo (λ i. everyTo (risesAt ch i) k) k && (everyTo (twiceAt present ch k) COMPONENTS && everyTo (filledAt present ch) k)))
 
-rises : (ch : List ℕ) (i j : ℕ) → i < j → T (risesAt ch i j) → getD ch i 0 < getD ch j 0
-unfolding risesAt
-rises ch i j h t = ltb→lt (getD ch i 0) (getD ch j 0) (go (ltb i j) (lt-ltb i j h) t)
-  where
-    go : (b : Bool) → b ≡ true → T (not b || ltb (getD ch i 0) (getD ch j 0)) → T (ltb (getD ch i 0) (getD ch j 0))
-    go true e t = t
-    go false e t = absurd (of-true false e)
+five : (a b c d e : Bool) → T (a && (b && (c && (d && e)))) → T a × T b × T c × T d × T e
+five a b c d e t =
+    let u = and-r a (b && (c && (d && e))) t in
+    let v = and-r b (c && (d && e)) u in
+    let w = and-r c (d && e) v in
+    (and-l a (b && (c && (d && e))) t, and-l b (c && (d && e)) u, and-l c (d && e) v, and-l d e w, and-r d e w)
 
-of-test : (ch : List ℕ) (k : ℕ) → T (choosable ch k) → Choosable ch k
-unfolding choosable knownAt twiceAt
-of-test ch k t =
-    let u = four (eqb k 3) (everyTo (knownAt ch) k) (everyTo (λ i. everyTo (risesAt ch i) k) k) (everyTo (twiceAt ch k) COMPONENTS) t in
+of-test : (present : ℕ) (ch : List ℕ) (k : ℕ) → T (choosable present ch k) → Choosable present ch k
+unfolding choosable knownAt risesAt twiceAt filledAt
+of-test present ch k t =
+    let u = five (eqb k (numberOf (ones present))) (everyTo (knownAt ch) k) (everyTo (λ i. everyTo (risesAt ch i) k) k) (everyTo (twiceAt present ch k) COMPONENTS) (everyTo (filledAt present ch) k) t in
     record {
-      three = eqb→eq k 3 (u .0);
+      number = eqb→eq k (numberOf (ones present)) (u .0);
       known = λ i h. record { listed = to-true (knownAt ch i) (eachTo (knownAt ch) k (u .1) i h) };
-      rising = λ i j h l. rises ch i j h (eachTo (risesAt ch i) k (eachTo (λ i. everyTo (risesAt ch i) k) k (u .2) i (omega arith)) j l);
-      twice = λ c h. leb→le 2 (countTo (λ i. hasOf (getD ch i 0) c) k) (eachTo (twiceAt ch k) COMPONENTS (u .3) c h);
+      rising = λ i j h l. ltb→lt (getD ch i 0) (getD ch j 0)
+          (passed (ltb i j) (ltb (getD ch i 0) (getD ch j 0)) (eachTo (risesAt ch i) k (eachTo (λ i. everyTo (risesAt ch i) k) k (u .2) i (omega arith)) j l) (lt-ltb i j h));
+      twice = λ c h e. leb→le 2 (countTo (λ i. hasOf (getD ch i 0) c) k)
+          (passed (inMask present c) (leb 2 (countTo (λ i. hasOf (getD ch i 0) c) k)) (eachTo (twiceAt present ch k) COMPONENTS (u .3) c h) e);
+      filled = λ i h. leb→le 2 (presentIn present (getD ch i 0)) (eachTo (filledAt present ch) k (u .4) i h);
     }
 
 -- the chosen systems, and the list that is answered, pass
-good : List ℕ → Bool
-good l = choosable l (length l) && choosable (paddedOf l) (length l)
+good : ℕ → List ℕ → Bool
+good present l = choosable present l (length l) && choosable present (paddedOf l) (length l)
 
-goodMarks : List Bool → Bool
-goodMarks marks = good (chosenOf candidates marks)
+goodMarks : ℕ → List Bool → Bool
+goodMarks present marks = good present (chosenOf candidates marks)
 
 -- however each component takes its systems in the second pass, and in the first
-second : List Bool → Bool
-second marks = always goodMarks candidates 2 order marks
+second : ℕ → List Bool → Bool
+second present marks = always (goodMarks present) (presentIn present) candidates 2 (keep present order) marks
 
--- so for every key
-passes-always : (key : ℕ → ℕ) → T (good (chosenOf candidates (marksOf key candidates order)))
-unfolding second goodMarks good marksOf choosable knownAt risesAt twiceAt paddedOf chosenOf listOf fold containingOf hasOf memberOf elem countTo
-passes-always key =
-    pass-good key goodMarks candidates 2 order (passOf key candidates order 1 (replicate NUMBERS false))
-    (pass-good key second candidates 1 order (replicate NUMBERS false) tt)
+first : ℕ → Bool
+first present = always (second present) (presentIn present) candidates 1 (keep present order) (replicate NUMBERS false)
 
--- for every mixture: exactly three different candidates, rising, and each component in at least two of them
-pub choose-choosable : (mix : List ℕ) → Choosable (chooseOf mix) (length (chooseOf mix))
-unfolding chooseOf good
-choose-choosable mix =
-    of-test (chooseOf mix) (length (chooseOf mix))
-    (and-l (choosable (chooseOf mix) (length (chooseOf mix))) (choosable (paddedOf (chooseOf mix)) (length (chooseOf mix))) (passes-always (fitnessOf mix)))
+-- for each set of two components or more
+enough : ℕ → Bool
+enough present = not (leb 2 (ones present)) || first present
 
--- and so of the choice as it is answered
-pub choice-choosable : (mix : List ℕ) → Choosable (choiceOf mix .systems) (choiceOf mix .count)
-unfolding chooseOf good
-choice-choosable mix =
-    of-test (paddedOf (chooseOf mix)) (length (chooseOf mix))
-    (and-r (choosable (chooseOf mix) (length (chooseOf mix))) (choosable (paddedOf (chooseOf mix)) (length (chooseOf mix))) (passes-always (fitnessOf mix)))
+each-set : T (everyTo enough (2 ^ COMPONENTS))
+unfolding enough first second goodMarks good choosable knownAt risesAt twiceAt filledAt paddedOf chosenOf listOf fold containingOf hasOf memberOf elem countTo keep inMask presentIn maskOf maskFrom ones
+each-set = tt
+
+-- so for every key that puts the systems with more components present first
+passes-always : (present : ℕ) (key : ℕ → ℕ) → present < 2 ^ COMPONENTS → 2 ≤ ones present
+    → ((s t : ℕ) → elem s candidates ≡ true → presentIn present s < presentIn present t → key s < key t)
+    → T (good present (chosenOf candidates (marksOf key candidates (keep present order))))
+unfolding marksOf enough first second goodMarks
+passes-always present key l h b =
+    pass-good key (presentIn present) candidates tt b (goodMarks present) 2 (keep present order) (passOf key candidates (keep present order) 1 (replicate NUMBERS false))
+    (pass-good key (presentIn present) candidates tt b (second present) 1 (keep present order) (replicate NUMBERS false)
+    (passed (leb 2 (ones present)) (first present) (eachTo enough (2 ^ COMPONENTS) each-set present l) (to-true (leb 2 (ones present)) (le→leb 2 (ones present) h))))
+
+module _ (mix : List ℕ) (h : 2 ≤ presentCount mix) where
+  tested : T (good (presentOf mix) (chooseOf mix))
+  unfolding chooseOf
+  tested = passes-always (presentOf mix) (standingOf mix) (present-lt mix) h (standing-more mix)
+
+  -- for every mixture of two components or more
+  pub choose-choosable : Choosable (presentOf mix) (chooseOf mix) (length (chooseOf mix))
+  unfolding good
+  choose-choosable =
+      of-test (presentOf mix) (chooseOf mix) (length (chooseOf mix))
+      (and-l (choosable (presentOf mix) (chooseOf mix) (length (chooseOf mix))) (choosable (presentOf mix) (paddedOf (chooseOf mix)) (length (chooseOf mix))) tested)
+
+  -- and so of the choice as it is answered
+  pub choice-choosable : Choosable (presentOf mix) (choiceOf mix .systems) (choiceOf mix .count)
+  unfolding good
+  choice-choosable =
+      of-test (presentOf mix) (paddedOf (chooseOf mix)) (length (chooseOf mix))
+      (and-r (choosable (presentOf mix) (chooseOf mix) (length (chooseOf mix))) (choosable (presentOf mix) (paddedOf (chooseOf mix)) (length (chooseOf mix))) tested)

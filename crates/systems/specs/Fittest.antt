@@ -14,7 +14,7 @@ use Rattle.systems.specs.Scores.{score-open, score-closed, open-of-score
 use Rattle.systems.specs.Choice.{fold, isChosen, openOf, scoreOf, betterOf, fittestOf}
 
 -- the numbers of the list rise, from b on
-abbrev rises : ℕ → List ℕ → Bool
+abbrev pub rises : ℕ → List ℕ → Bool
 rises b [] = true
 rises b (s ∷ systems) = leb b s && rises s systems
 
@@ -31,11 +31,11 @@ elem-cases P n x xs h f g = go (eqb n x) refl
     go true e = f (eqb-true n x e)
     go false e = g (rw (e, elem) at h)
 
-elem-here : (x : ℕ) (xs : List ℕ) → elem x (x ∷ xs) ≡ true
+pub elem-here : (x : ℕ) (xs : List ℕ) → elem x (x ∷ xs) ≡ true
 unfolding elem
 elem-here x xs = rw (eq-eqb x x refl, elem)
 
-elem-there : (n x : ℕ) (xs : List ℕ) → elem n xs ≡ true → elem n (x ∷ xs) ≡ true
+pub elem-there : (n x : ℕ) (xs : List ℕ) → elem n xs ≡ true → elem n (x ∷ xs) ≡ true
 unfolding elem
 elem-there n x xs h = go (eqb n x) refl
   where
@@ -120,7 +120,7 @@ module _ (key : ℕ → ℕ) (systems : List ℕ) (marks : List Bool) (c : ℕ) 
   f-open : openOf marks c f ≡ true
   f-open = open-of-score key marks c f some-score
 
-  fittest-is : Fittest key systems marks c f
+  pub fittest-is : Fittest key systems marks c f
   unfolding fittestOf
   fittest-is =
       record {

@@ -3,6 +3,8 @@ pub mod Table
 pub mod Members
 pub mod Choice
 pub mod Scores
-pub mod Chosen
+pub mod Presence
 pub mod Fittest
+pub mod Chosen
+pub mod Full
 pub mod Marked

@@ -2,7 +2,7 @@
 ghost use mathlib.Core.Path.{_≡_};
 ghost use Prim.Native.Nat.{_*_, _/_, _%_, _^_, _<_};
 ghost use Rattle.systems.specs.Systems.{memberOf, hasOf};
-ghost use Rattle.systems.specs.Choice.{NUMBERS};
+ghost use Rattle.systems.specs.Choice.{NUMBERS, maskOf};
 
 // How many components there are: methane 0, ethane 1, propane 2, butane 3.
 pub const COMPONENTS: usize = 4;
@@ -61,6 +61,17 @@ pub fn has(system: u8, c: usize) -> bool
         return false;
     }
     (HELD >> (s * 5 + c)) % 2 == 1
+}
+
+// The components that the system contains, a bit for each.
+pub fn mask(system: u8) -> u32
+    ensures { λ r. ⌜ r ≡ maskOf system ⌝ }
+{
+    let s = system as usize;
+    if s >= NUMBERS {
+        return 0;
+    }
+    ((HELD >> (s * 5)) % 16) as u32
 }
 
 // Room for chosen systems.

@@ -3,6 +3,13 @@ use Rattle.choice.proofs.Listing.{choice-is}
 use borrow.Author.Needs.{needs}
 use Rattle.choice.proofs.choose.Statement.{statement}
 use Rattle.choice.proofs.choose.Tie as tie
+use Rattle.choice.proofs.keys_of.Reads as keys-of-reads
+use Rattle.choice.proofs.listed.Reads as listed-reads
+use Rattle.choice.proofs.present.Reads as present-reads
+use Rattle.choice.proofs.turns.Reads as turns-reads
+
+present-requires : tie.Need-present-requires
+present-requires c κs = search needs
 
 keys-of-requires : tie.Need-keys-of-requires
 keys-of-requires c κs = search needs
@@ -14,7 +21,8 @@ listed-requires : tie.Need-listed-requires
 listed-requires c κs = search needs
 
 returns : tie.Need-returns
-returns c = choice-is _ _ _ (c .before .turns .ensures _ (c .before .before .before .keys-of .ensures)) (c .listed .ensures)
+returns c = choice-is _ _ _ _ (c .before .before .before .before .present .ensures) (c .before .turns .ensures _ (c .before .before .before .keys-of .ensures)) (c .listed .ensures)
 
 pub choose-spec : {M : Type 1} → statement M
-choose-spec = tie.close (tie.spec keys-of-requires turns-requires listed-requires returns)
+choose-spec =
+    tie.close (tie.spec present-requires keys-of-requires turns-requires listed-requires returns)

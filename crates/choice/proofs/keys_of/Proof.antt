@@ -6,18 +6,23 @@ use Rattle.systems.specs.Systems.{candidates}
 use Rattle.choice.proofs.Keying.{Fresh, fresh-none, fresh-next, fresh-all}
 use Rattle.choice.proofs.keys_of.Statement.{statement}
 use Rattle.choice.proofs.keys_of.Tie as tie
+use Rattle.choice.proofs.above.Reads as above-reads
+use Rattle.choice.proofs.key.Reads as key-reads
 
 abbrev Inv-loop : tie.InvT-loop
-Inv-loop m keys₀ i₀ keys i = Fresh m keys i
+Inv-loop m p top keys₀ i₀ keys i = Fresh m keys i
 
 abbrev μ-loop : tie.MeasureT-loop
-μ-loop m keys₀ i₀ keys i = length candidates - i
+μ-loop m p top keys₀ i₀ keys i = length candidates - i
+
+above-requires : tie.Need-above-requires Inv-loop μ-loop
+above-requires c κs = search needs
 
 loop-holds : tie.Need-loop-holds Inv-loop μ-loop
 loop-holds c = fresh-none _
 
 key-requires : tie.Need-key-requires Inv-loop μ-loop
-key-requires c κs = search needs
+key-requires c κs = (c .loop-test .taken, c .before .before .before .pre, c .before .before .above .ensures .0, c .before .before .above .ensures .1)
 
 mul-keys : tie.Need-mul-keys Inv-loop μ-loop
 mul-keys c = search needs
@@ -43,6 +48,7 @@ keys-of-spec =
     (tie.spec
     Inv-loop
     μ-loop
+    above-requires
     loop-holds
     key-requires
     mul-keys

@@ -1,32 +1,41 @@
 -- `choice::turns` meets its contract. Assumes nothing.
 use Prim.Native.Nat.{_-_, _≤_}
+use mathlib.Core.Logic.{⊎-elim}
 use native.Mathlib.Omega.{arith}
-use borrow.Author.Needs.{needs}
 use Rattle.choice.proofs.Packed.{order-lt}
-use Rattle.choice.proofs.Listing.{Turns, turns-none, turns-next, turns-all}
+use Rattle.choice.proofs.Listing.{Turns, turns-none, turns-next, turns-over, turns-all}
+use borrow.Author.Needs.{needs}
 use Rattle.choice.proofs.turns.Statement.{statement}
 use Rattle.choice.proofs.turns.Tie as tie
+use Rattle.choice.proofs.ordered.Reads as ordered-reads
+use Rattle.choice.proofs.take.Reads as take-reads
 
 abbrev Inv-loop : tie.InvT-loop
-Inv-loop keys₀ i₀ keys i = (i ≤ 8) × Turns keys₀ keys i
+Inv-loop keys₀ p i₀ keys i = (i ≤ 8) × Turns p keys₀ keys i
 
 abbrev μ-loop : tie.MeasureT-loop
-μ-loop keys₀ i₀ keys i = 8 - i
+μ-loop keys₀ p i₀ keys i = 8 - i
 
 loop-holds : tie.Need-loop-holds Inv-loop μ-loop
-loop-holds c = (omega arith, λ fit k. turns-none fit _ k)
+loop-holds c = (omega arith, λ fit k. turns-none _ fit _ k)
 
 mul-loop : tie.Need-mul-loop Inv-loop μ-loop
 mul-loop c = search needs
 
-add-take : tie.Need-add-take Inv-loop μ-loop
-add-take c = search needs
-
 ordered-requires : tie.Need-ordered-requires Inv-loop μ-loop
 ordered-requires c κs = omega arith
 
+cast-if1 : tie.Need-cast-if1 Inv-loop μ-loop
+cast-if1 c = record { fits = omega (arith, c .ordered .ensures, order-lt (c .before .before .loop .i)) }
+
+shr-if1 : tie.Need-shr-if1 Inv-loop μ-loop
+shr-if1 c = omega (arith, c .ordered .ensures, order-lt (c .before .before .loop .i))
+
+add-take : tie.Need-add-take Inv-loop μ-loop
+add-take c = search needs
+
 take-requires : tie.Need-take-requires Inv-loop μ-loop
-take-requires c κs = rw (c .ordered .ensures) (order-lt (c .before .before .before .loop .i))
+take-requires c κs = rw (c .before .before .ordered .ensures) (order-lt (c .before .before .before .before .loop .i))
 
 add-i : tie.Need-add-i Inv-loop μ-loop
 add-i c = search needs
@@ -35,10 +44,16 @@ loop-less : tie.Need-loop-less Inv-loop μ-loop
 loop-less c = search needs
 
 loop-again : tie.Need-loop-again Inv-loop μ-loop
-loop-again c = (omega arith, turns-next _ _ _ _ _ (c .before .before .before .before .loop .inv .1) (c .before .ordered .ensures) (c .take .ensures))
+loop-again c = (
+  omega arith,
+  ⊎-elim
+      (λ w. rw (w .3) (turns-next _ _ _ _ _ _ (c .before .before .before .loop .inv .1) (c .before .ordered .ensures) (w .0 .taken) (w .2 .ensures)))
+      (λ w. rw (w .1) (turns-over _ _ _ _ _ (c .before .before .before .loop .inv .1) (c .before .ordered .ensures) (w .0 .left)))
+      (c .if1 .came),
+)
 
 returns : tie.Need-returns Inv-loop μ-loop
-returns c = turns-all _ _ _ (c .before .loop .inv .1) (c .before .loop .inv .0) (c .loop-test .left)
+returns c = turns-all _ _ _ _ (c .before .loop .inv .1) (c .before .loop .inv .0) (c .loop-test .left)
 
 pub turns-spec : {M : Type 1} → statement M
 turns-spec =
@@ -48,8 +63,10 @@ turns-spec =
     μ-loop
     loop-holds
     mul-loop
-    add-take
     ordered-requires
+    cast-if1
+    shr-if1
+    add-take
     take-requires
     add-i
     loop-less

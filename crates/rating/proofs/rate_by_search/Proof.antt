@@ -1,6 +1,6 @@
 -- `rating::rate_by_search` meets its contract. Assumes nothing.
 use Rattle.analysis.specs.Register.{CODES}
-use Rattle.rating.proofs.CallCases.{in-range, turned-away, search-away-is, given-proposal, found-fit, search-in, search-not-five}
+use Rattle.rating.proofs.CallCases.{in-range, turned-away, search-away-is, count-few, count-enough, given-proposal, found-fit, search-in, search-not-five}
 use mathlib.Core.Path.{_≡_}
 use lib.ListN.{length}
 use borrow.Author.Needs.{needs}
@@ -19,6 +19,20 @@ refused-requires c κs = search needs
 enum-told : tie.Need-enum-told
 enum-told c = search needs
 
+present-count-requires : tie.Need-present-count-requires
+present-count-requires c κs = search needs
+
+refused-requires-2 : tie.Need-refused-requires-2
+refused-requires-2 c κs = search needs
+
+returns : tie.Need-returns
+returns c = let b = c .before .before .before .before .before .before .before in
+    let a = b .before .args .a .amounts in
+    let l : length a ≡ CODES = search needs in
+    let s = b .simplify .ensures in
+    let p = in-range _ _ (record { answer = s .0; code = s .1 .0 }) (c .before .before .before .enum-told .given .1) in
+    search-away-is _ _ _ _ _ (count-few a l p _ _ (s .1 .1 .0) (c .before .before .present-count .ensures) (c .before .if1 .taken)) (c .refused2 .ensures)
+
 choose-requires : tie.Need-choose-requires
 choose-requires c κs = search needs
 
@@ -29,26 +43,28 @@ find-requires : tie.Need-find-requires
 find-requires c κs = search needs
 
 found-outcome-requires : tie.Need-found-outcome-requires
-found-outcome-requires c κs = let b = c .before .before .before .before .before .before .before in
+found-outcome-requires c κs = let b = c .before .before .before .before .before .before .before .before .before in
     let a = b .before .args .a .amounts in
     let l : length a ≡ CODES = search needs in
     let s = b .simplify .ensures in
-    let p = in-range _ _ (record { answer = s .0; code = s .1 .0 }) (c .before .before .before .enum-told .given .1) in (
-      given-proposal a l p _ _ _ (s .1 .1 .0) (c .before .before .choose .ensures) (s .1 .1 .1),
-      found-fit a l p _ _ _ (s .1 .1 .0) (c .before .before .choose .ensures) (s .1 .1 .1) (b .before .args .allowance) _ (c .before .at-most .ensures) _ (c .find .ensures),
+    let p = in-range _ _ (record { answer = s .0; code = s .1 .0 }) (c .before .before .before .before .before .enum-told .given .1) in
+    let on = count-enough a l p _ _ (s .1 .1 .0) (c .before .before .before .before .present-count .ensures) (c .before .before .before .if1 .left) in (
+      given-proposal a l p on _ _ _ (s .1 .1 .0) (c .before .before .choose .ensures) (s .1 .1 .1),
+      found-fit a l p on _ _ _ (s .1 .1 .0) (c .before .before .choose .ensures) (s .1 .1 .1) (b .before .args .allowance) _ (c .before .at-most .ensures) _ (c .find .ensures),
     )
 
-returns : tie.Need-returns
-returns c = let b = c .before .before .before .before .before .before in
+returns-2 : tie.Need-returns-2
+returns-2 c = let b = c .before .before .before .before .before .before in
     search-away-is _ _ _ _ _ (turned-away _ _ (record { answer = b .simplify .ensures .0; code = b .simplify .ensures .1 .0 }) _ _ (c .before .before .answer .given .1)) (c .refused .ensures)
 
-returns-2 : tie.Need-returns-2
-returns-2 c = let b = c .before .before .before .before .before .before .before .before in
+returns-3 : tie.Need-returns-3
+returns-3 c = let b = c .before .before .before .before .before .before .before .before .before .before in
     let a = b .before .args .a .amounts in
     let l : length a ≡ CODES = search needs in
     let s = b .simplify .ensures in
-    let p = in-range _ _ (record { answer = s .0; code = s .1 .0 }) (c .before .before .before .before .enum-told .given .1) in
-    let e = search-in a l p _ _ _ (s .1 .1 .0) (c .before .before .before .choose .ensures) (s .1 .1 .1) (b .before .args .allowance) _ (c .before .before .at-most .ensures) _ (c .before .find .ensures) _ (c .found-outcome .ensures) in
+    let p = in-range _ _ (record { answer = s .0; code = s .1 .0 }) (c .before .before .before .before .before .before .enum-told .given .1) in
+    let on = count-enough a l p _ _ (s .1 .1 .0) (c .before .before .before .before .before .present-count .ensures) (c .before .before .before .before .if1 .left) in
+    let e = search-in a l p on _ _ _ (s .1 .1 .0) (c .before .before .before .choose .ensures) (s .1 .1 .1) (b .before .args .allowance) _ (c .before .before .at-most .ensures) _ (c .before .find .ensures) _ (c .found-outcome .ensures) in
     (e, λ z. absurd (search-not-five a l p _ _ _ e z))
 
 pub rate-by-search-spec : {M : Type 1} → statement M
@@ -59,9 +75,12 @@ rate-by-search-spec =
     enum-known-answer
     refused-requires
     enum-told
+    present-count-requires
+    refused-requires-2
+    returns
     choose-requires
     at-most-requires
     find-requires
     found-outcome-requires
-    returns
-    returns-2)
+    returns-2
+    returns-3)

@@ -1,6 +1,6 @@
 -- `rating::rate_split` meets its contract. Assumes nothing.
 use Rattle.analysis.specs.Register.{CODES}
-use Rattle.rating.proofs.CallCases.{in-range, turned-away, split-away, given-proposal, given-room, split-in, split-not-five}
+use Rattle.rating.proofs.CallCases.{in-range, turned-away, split-away, count-few, count-enough, given-proposal, given-room, split-in, split-not-five}
 use mathlib.Core.Path.{_≡_}
 use lib.ListN.{length}
 use borrow.Author.Needs.{needs}
@@ -16,30 +16,45 @@ enum-known-answer c = search needs
 enum-told : tie.Need-enum-told
 enum-told c = search needs
 
-choose-requires : tie.Need-choose-requires
-choose-requires c κs = search needs
-
-split-by-requires : tie.Need-split-by-requires
-split-by-requires c κs = let a = c .before .before .before .before .before .before .args .a .amounts in
-    let l : length a ≡ CODES = search needs in
-    let s = c .before .before .before .before .before .simplify .ensures in
-    let p = in-range _ _ (record { answer = s .0; code = s .1 .0 }) (c .before .enum-told .given .1) in (
-      given-proposal a l p _ _ _ (s .1 .1 .0) (c .choose .ensures) (s .1 .1 .1),
-      given-room a l p _ _ _ (s .1 .1 .0) (c .choose .ensures) (s .1 .1 .1),
-    )
+present-count-requires : tie.Need-present-count-requires
+present-count-requires c κs = search needs
 
 returns : tie.Need-returns
-returns c = let s = c .before .before .before .before .before .simplify .ensures in
-    let t = turned-away _ _ (record { answer = s .0; code = s .1 .0 }) _ _ (c .before .answer .given .1) in
-    (split-away _ _ _ _ t, t .fault)
-
-returns-2 : tie.Need-returns-2
-returns-2 c = let b = c .before .before .before .before .before .before in
+returns c = let b = c .before .before .before .before .before .before in
     let a = b .before .args .a .amounts in
     let l : length a ≡ CODES = search needs in
     let s = b .simplify .ensures in
     let p = in-range _ _ (record { answer = s .0; code = s .1 .0 }) (c .before .before .enum-told .given .1) in
-    let e = split-in a l p _ _ _ (s .1 .1 .0) (c .before .choose .ensures) (s .1 .1 .1) _ _ (c .split-by .ensures) in
+    let t = count-few a l p _ _ (s .1 .1 .0) (c .before .present-count .ensures) (c .if1 .taken) in
+    (split-away _ _ _ _ t, t .fault)
+
+choose-requires : tie.Need-choose-requires
+choose-requires c κs = search needs
+
+split-by-requires : tie.Need-split-by-requires
+split-by-requires c κs = let b = c .before .before .before .before .before .before .before in
+    let a = b .before .args .a .amounts in
+    let l : length a ≡ CODES = search needs in
+    let s = b .simplify .ensures in
+    let p = in-range _ _ (record { answer = s .0; code = s .1 .0 }) (c .before .before .before .enum-told .given .1) in
+    let on = count-enough a l p _ _ (s .1 .1 .0) (c .before .before .present-count .ensures) (c .before .if1 .left) in (
+      given-proposal a l p on _ _ _ (s .1 .1 .0) (c .choose .ensures) (s .1 .1 .1),
+      given-room a l p on _ _ _ (s .1 .1 .0) (c .choose .ensures) (s .1 .1 .1),
+    )
+
+returns-2 : tie.Need-returns-2
+returns-2 c = let s = c .before .before .before .before .before .simplify .ensures in
+    let t = turned-away _ _ (record { answer = s .0; code = s .1 .0 }) _ _ (c .before .answer .given .1) in
+    (split-away _ _ _ _ t, t .fault)
+
+returns-3 : tie.Need-returns-3
+returns-3 c = let b = c .before .before .before .before .before .before .before .before in
+    let a = b .before .args .a .amounts in
+    let l : length a ≡ CODES = search needs in
+    let s = b .simplify .ensures in
+    let p = in-range _ _ (record { answer = s .0; code = s .1 .0 }) (c .before .before .before .before .enum-told .given .1) in
+    let on = count-enough a l p _ _ (s .1 .1 .0) (c .before .before .before .present-count .ensures) (c .before .before .if1 .left) in
+    let e = split-in a l p on _ _ _ (s .1 .1 .0) (c .before .choose .ensures) (s .1 .1 .1) _ _ (c .split-by .ensures) in
     (e, λ z. absurd (split-not-five a l p _ _ _ e z))
 
 pub rate-split-spec : {M : Type 1} → statement M
@@ -49,7 +64,9 @@ rate-split-spec =
     simplify-requires
     enum-known-answer
     enum-told
+    present-count-requires
+    returns
     choose-requires
     split-by-requires
-    returns
-    returns-2)
+    returns-2
+    returns-3)

@@ -1,0 +1,129 @@
+-- The check by a register in which more codes must be present. Before document 02's Five these were 2 to 5 (document 01,
+-- "The register and the sheet": "1 to 5 may not"). Assumes nothing.
+use mathlib.Core.Path.{_≡_, refl, sym, ap, _∙_}
+use mathlib.Core.List.{List, [], _∷_}
+use mathlib.Core.Bool.{Bool, true, false, not, _||_}
+use Prim.Native.Nat.{ℕ, zero, suc, _+_, _<_}
+use native.Mathlib.Omega.{arith}
+use lib.Dec.{eqb, leb}
+use lib.ListN.{length, getD}
+use borrow.Author.Tests.{eqb-false}
+use Rattle.refusal.specs.Keys.{isIn}
+use Rattle.analysis.specs.Register.{Status, live, retired, splitsOnly, unknown, Entry, register, statusIn, statusOf}
+use Rattle.analysis.specs.Register.{ifElse}
+use Rattle.analysis.specs.Check.{leastBy, greatestBy, requiredBy, inRangeBy, inRange, allInRange, totalOf, totalFits}
+use Rattle.analysis.specs.Check.{refusalBy, refusalOf}
+
+-- a live code that may not be absent
+abbrev requiredToo : Bool → Status → Status
+requiredToo also (live least greatest required) = live least greatest (required || also)
+requiredToo also retired = retired
+requiredToo also splitsOnly = splitsOnly
+requiredToo also unknown = unknown
+
+-- a register in which the codes of a list must be present too
+abbrev pub requiring : List ℕ → List Entry → List Entry
+requiring codes [] = []
+requiring codes (e ∷ es) =
+    record { code = e .code; status = requiredToo (isIn (e .code) codes) (e .status) } ∷ requiring codes es
+
+-- is each amount in its range by a register, the first being that of `code`?
+abbrev pub allInRangeIn : List Entry → ℕ → List ℕ → Bool
+allInRangeIn entries code [] = true
+allInRangeIn entries code (x ∷ xs) =
+    ifElse (inRangeBy (statusIn entries code) x) (allInRangeIn entries (suc code) xs) false
+
+-- the number with which an analysis is refused by a register; 0 where it is in range
+unfoldable pub refusalIn : List Entry → List ℕ → ℕ
+refusalIn entries a = refusalBy (allInRangeIn entries 0 a) (totalFits (totalOf a))
+
+-- ---- by the register it is the check
+
+all-register : (code : ℕ) (a : List ℕ) → allInRangeIn register code a ≡ allInRange code a
+unfolding inRange statusOf
+all-register code [] = refl
+all-register code (x ∷ xs) =
+    ap (λ (b : Bool). ifElse (inRangeBy (statusIn register code) x) b false) (all-register (suc code) xs)
+
+pub refusal-register : (a : List ℕ) → refusalIn register a ≡ refusalOf a
+unfolding refusalIn refusalOf
+refusal-register a = ap (λ (b : Bool). refusalBy b (totalFits (totalOf a))) (all-register 0 a)
+
+-- ---- what passes where more must be present, passes
+
+never : _≡_ {A = Bool} false true → ⊥
+never e = let y : _≡_ {A = ℕ} 0 1 = cc in omega arith
+
+status-passes : (also : Bool) (s : Status) (x : ℕ) → inRangeBy (requiredToo also s) x ≡ true → inRangeBy s x ≡ true
+status-passes also retired x h = h
+status-passes also splitsOnly x h = h
+status-passes also unknown x h = h
+status-passes also (live least greatest required) x h = go (eqb x 0) required also h
+  where
+    go : (b r o : Bool) → ifElse b (not (r || o)) (ifElse (leb least x) (leb x greatest) false) ≡ true
+        → ifElse b (not r) (ifElse (leb least x) (leb x greatest) false) ≡ true
+    go false r o h = h
+    go true false o h = refl
+    go true true o h = absurd (never h)
+
+code-passes : (codes : List ℕ) (es : List Entry) (c x : ℕ) → inRangeBy (statusIn (requiring codes es) c) x ≡ true
+    → inRangeBy (statusIn es c) x ≡ true
+code-passes codes [] c x h = h
+code-passes codes (e ∷ es) c x h = go (eqb c (e .code)) (λ t. code-passes codes es c x t) h
+  where
+    go : (b : Bool) → (inRangeBy (statusIn (requiring codes es) c) x ≡ true → inRangeBy (statusIn es c) x ≡ true)
+        → inRangeBy (ifElse b (requiredToo (isIn (e .code) codes) (e .status)) (statusIn (requiring codes es) c)) x ≡ true
+        → inRangeBy (ifElse b (e .status) (statusIn es c)) x ≡ true
+    go true rest h = status-passes (isIn (e .code) codes) (e .status) x h
+    go false rest h = rest h
+
+both : (t u : Bool) → ifElse t u false ≡ true → (t ≡ true) × (u ≡ true)
+both true u h = (refl, h)
+both false u h = absurd (never h)
+
+all-passes : (codes : List ℕ) (es : List Entry) (code : ℕ) (a : List ℕ) → allInRangeIn (requiring codes es) code a ≡ true
+    → allInRangeIn es code a ≡ true
+all-passes codes es code [] h = refl
+all-passes codes es code (x ∷ xs) h =
+    let (t, u) = both (inRangeBy (statusIn (requiring codes es) code) x) _ h in
+    rw (code-passes codes es code x t, all-passes codes es (suc code) xs u)
+
+none : (t u : Bool) → refusalBy t u ≡ 0 → (t ≡ true) × (u ≡ true)
+none true true h = (refl, refl)
+none true false h = absurd (omega arith)
+none false u h = absurd (omega arith)
+
+pub requiring-passes : (codes : List ℕ) (a : List ℕ) → refusalIn (requiring codes register) a ≡ 0 → refusalOf a ≡ 0
+unfolding refusalIn
+requiring-passes codes a h =
+    let (t, u) = none (allInRangeIn (requiring codes register) 0 a) (totalFits (totalOf a)) h in
+    sym (refusal-register a) ∙ rw (all-passes codes register 0 a t, u)
+
+-- ---- and what must be present is
+
+at-code : (es : List Entry) (a : List ℕ) (code k : ℕ) → allInRangeIn es code a ≡ true → k < length a
+    → inRangeBy (statusIn es (code + k)) (getD a k 0) ≡ true
+at-code es [] code k h l = absurd (omega arith)
+at-code es (x ∷ xs) code zero h l =
+    let e : code + zero ≡ code = omega arith in
+    rw e (both (inRangeBy (statusIn es code) x) (allInRangeIn es (suc code) xs) h .0)
+at-code es (x ∷ xs) code (suc k) h l =
+    let e : code + suc k ≡ suc code + k = omega arith in
+    rw e (at-code es xs (suc code) k (both (inRangeBy (statusIn es code) x) _ h .1) (omega arith))
+
+some : (s : Status) (x : ℕ) → requiredBy s ≡ true → inRangeBy s x ≡ true → 0 < x
+some s x r h = go (eqb x 0) (requiredBy s) refl r h
+  where
+    go : (b q : Bool) → eqb x 0 ≡ b → q ≡ true
+        → ifElse b (not q) (ifElse (leb (leastBy s) x) (leb x (greatestBy s)) false) ≡ true → 0 < x
+    go true true e r h = absurd (never h)
+    go true false e r h = absurd (never r)
+    go false q e r h = omega (arith, eqb-false x 0 e)
+
+pub required-present : (entries : List Entry) (a : List ℕ) (k : ℕ) → refusalIn entries a ≡ 0 → k < length a
+    → requiredBy (statusIn entries k) ≡ true → 0 < getD a k 0
+unfolding refusalIn
+required-present entries a k h l r =
+    let e : 0 + k ≡ k = omega arith in
+    let t = at-code entries a 0 k (none (allInRangeIn entries 0 a) (totalFits (totalOf a)) h .0) l in
+    some (statusIn entries k) (getD a k 0) r (rw e at t)

@@ -1,0 +1,147 @@
+-- GASES RATED BEFORE GET THE SAME RATING, SPLIT AND ROUNDS (document 02, Five). Assumes nothing.
+--
+-- Before, codes 2 to 5 could not be absent, there was no 16, and the choice was that by fitness alone. `splitBefore` and
+-- `searchBefore` are today's definitions of the answers, `splitAnswerBy` and `searchOutcomeBy`, at that refusal and that
+-- choice. For every analysis that 5 and 6 let pass then, all four components are present, the choice by presence and
+-- fitness is the choice by fitness alone, and the answers are the same: to every proposed split, and by the search with
+-- every allowance, rating, spread, rounds and split. `code` is the code that refusal 5 carries.
+use mathlib.Core.Path.{_≡_, refl, sym, ap, _∙_, subst}
+use mathlib.Core.Bool.{Bool, true, false}
+use mathlib.Core.List.{List, [], _∷_}
+use Prim.Native.Nat.{ℕ, zero, suc, _<_}
+use native.Mathlib.Omega.{arith}
+use lib.Dec.{eqb}
+use lib.IntN.{ℤ}
+use lib.ListN.{getD, length}
+use borrow.Author.Tests.{eqb-true}
+use Rattle.analysis.specs.Register.{CODES, ifElse, register}
+use Rattle.analysis.specs.Required.{requiring, refusalIn, requiring-passes, required-present}
+use Rattle.sheet.specs.Split.{noSplit}
+use Rattle.sheet.specs.Read.{readOf}
+use Rattle.sheet.specs.declared.Reading.the-variants.{Read}
+use Rattle.sheet.specs.declared.Split.{Split}
+use Rattle.mixture.specs.Simplification.{tenthsOf}
+use Rattle.mixture.specs.Bounds.{simplified-methane, simplified-least}
+use Rattle.systems.specs.Systems.{COMPONENTS}
+use Rattle.systems.specs.Choice.{order, fitnessOf, chooseBy, answerOf, choiceOf}
+use Rattle.systems.specs.Presence.{two-present}
+use Rattle.systems.specs.Full.{choose-fittest}
+use Rattle.systems.specs.declared.Choice.{Choice}
+use Rattle.split.specs.Rated.{IsRated}
+use Rattle.split.specs.declared.Answer.{Answer}
+use Rattle.split.specs.declared.Answer.the-variants.{Rated, Refused}
+use Rattle.rating.specs.Rate.{ROUNDS, mixOf, checkedBy, splitAnswerBy, splitAnswer, outcome, searchOutcomeBy}
+use Rattle.rating.specs.Rate.{searchOutcome, sheetOutcome}
+use Rattle.rating.specs.RatedOn.{InRange, RatedOn, enough-on}
+use Rattle.rating.specs.Ends.{read-long}
+use Rattle.rating.specs.declared.Outcome.{Outcome}
+use Rattle.demand.specs.Sheets.{read-searched, read-own}
+use Rattle.demand.specs.RatedSheets.{analysisIn}
+
+-- ---- as it was
+
+-- 5 also where one of 2 to 5 is absent
+abbrev pub refusalBefore : List ℕ → ℕ
+refusalBefore a = refusalIn (requiring (2 ∷ 3 ∷ 4 ∷ 5 ∷ []) register) a
+
+-- the choice by fitness alone, over all components
+abbrev pub choiceBefore : List ℕ → Choice
+choiceBefore mix = answerOf (chooseBy (fitnessOf mix) order)
+
+unfoldable pub splitBefore : List ℕ → Split → ℕ → Answer
+splitBefore a p code = splitAnswerBy (refusalBefore a) (choiceBefore (mixOf a)) a p code
+
+unfoldable pub searchBefore : List ℕ → ℕ → ℕ → Outcome
+searchBefore a allowance code = searchOutcomeBy (refusalBefore a) (choiceBefore (mixOf a)) a allowance code
+
+-- ---- an analysis that 5 and 6 let pass before
+
+module _ (a : List ℕ) (long : length a ≡ CODES) (before : refusalBefore a ≡ 0) where
+  -- passes now
+  pub passes : InRange a
+  passes = requiring-passes (2 ∷ 3 ∷ 4 ∷ 5 ∷ []) a before
+
+  there : (k : ℕ) → k < 2 → 0 < getD a (2 + k) 0
+  there zero l = required-present _ a 2 before (omega arith) refl
+  there (suc zero) l = required-present _ a 3 before (omega arith) refl
+  there (suc (suc k)) l = absurd (omega arith)
+
+  butane : 0 < getD a 4 0
+  butane = required-present _ a 4 before (omega arith) refl
+
+  -- with all four components present
+  pub all-four : (c : ℕ) → c < COMPONENTS → 0 < getD (mixOf a) c 0
+  unfolding tenthsOf
+  all-four zero l = omega (arith, simplified-methane a long passes)
+  all-four (suc zero) l =
+      omega (arith, simplified-least a long passes 1 (omega arith) (omega (arith, there 0 (omega arith))))
+  all-four (suc (suc zero)) l =
+      omega (arith, simplified-least a long passes 2 (omega arith) (omega (arith, there 1 (omega arith))))
+  all-four (suc (suc (suc zero))) l =
+      omega (arith, simplified-least a long passes 3 (omega arith) (omega (arith, butane)))
+  all-four (suc (suc (suc (suc c)))) l = absurd (omega arith)
+
+  -- so 16 lets it pass
+  pub rated-on : RatedOn a
+  rated-on =
+      enough-on a passes
+      (two-present (mixOf a) (all-four 0 (omega arith)) 1 (omega arith) (omega arith) (all-four 1 (omega arith)))
+
+  -- and the choice is the one by fitness
+  pub choice-kept : choiceOf (mixOf a) ≡ choiceBefore (mixOf a)
+  choice-kept = ap answerOf (choose-fittest (mixOf a) all-four)
+
+  -- the answers are those from before: to every proposed split,
+  pub split-kept : (p : Split) (code : ℕ) → splitAnswer a p code ≡ splitBefore a p code
+  unfolding splitAnswer splitBefore
+  split-kept p code =
+      rw (rated-on, before) (ap (λ (choice : Choice). splitAnswerBy 0 choice a p code) choice-kept)
+
+  -- and by the search with every allowance
+  pub search-kept : (allowance code : ℕ) → searchOutcome a allowance code ≡ searchBefore a allowance code
+  unfolding searchOutcome searchBefore
+  search-kept allowance code =
+      rw (rated-on, before) (ap (λ (choice : Choice). searchOutcomeBy 0 choice a allowance code) choice-kept)
+
+-- ---- what was rated before
+
+not-refused : (n code : ℕ) (x : Answer) → IsRated (checkedBy n code x) → n ≡ 0
+not-refused n code x h = go (eqb n 0) refl h
+  where
+    go : (b : Bool) → eqb n 0 ≡ b → IsRated (ifElse b x (Refused n (ifElse (eqb n 5) code 0))) → n ≡ 0
+    go true e h = eqb-true n 0 e
+    go false e h = absurd h
+
+-- a split rated before gets the same rating and the same spread
+pub split-rated-before : (a : List ℕ) → length a ≡ CODES → (p : Split) (code : ℕ) (w : ℤ) (s r : ℕ)
+    → splitBefore a p code ≡ Rated w s r → splitAnswer a p code ≡ Rated w s r
+unfolding splitBefore
+split-rated-before a long p code w s r is =
+    let passed = not-refused (refusalBefore a) code _ (subst IsRated (sym is) tt) in
+    split-kept a long passed p code ∙ is
+
+-- a gas rated by the search gets the same rating, spread, rounds and split
+pub search-rated-before : (a : List ℕ) → length a ≡ CODES → (allowance code : ℕ)
+    → IsRated (searchBefore a allowance code .answer) → searchOutcome a allowance code ≡ searchBefore a allowance code
+unfolding searchBefore
+search-rated-before a long allowance code is = go (eqb (refusalBefore a) 0) refl is
+  where
+    go : (b : Bool) → eqb (refusalBefore a) 0 ≡ b
+        → IsRated (ifElse b (searchOutcomeBy 0 (choiceBefore (mixOf a)) a allowance code)
+        (outcome (Refused (refusalBefore a) (ifElse (eqb (refusalBefore a) 5) code 0)) noSplit) .answer)
+        → searchOutcome a allowance code ≡ searchBefore a allowance code
+    go true e h = search-kept a long (eqb-true (refusalBefore a) 0 e) allowance code
+    go false e h = absurd h
+
+-- ---- a sheet whose analysis passed before is answered as before: by the search, or by its own split
+
+module _ (s : List ℕ) (code : ℕ) (h : readOf s code .answer ≡ Read) (before : refusalBefore (analysisIn s code) ≡ 0) where
+  pub sheet-search-kept : readOf s code .split .count ≡ 0 → sheetOutcome s code ≡ searchBefore (analysisIn s code) ROUNDS code
+  sheet-search-kept e = read-searched s code h e ∙ search-kept (analysisIn s code) (read-long s code h) before ROUNDS code
+
+  pub sheet-split-kept : (readOf s code .split .count ≡ 0 → ⊥)
+      → sheetOutcome s code ≡ outcome (splitBefore (analysisIn s code) (readOf s code .split) code) noSplit
+  sheet-split-kept n =
+      read-own s code h n
+      ∙ ap (λ (x : Answer). outcome x noSplit)
+      (split-kept (analysisIn s code) (read-long s code h) before (readOf s code .split) code)

@@ -1,0 +1,59 @@
+-- The analyses that are rated on: 5, 6 and then 16 let them pass. By cases. Assumes nothing.
+use mathlib.Core.Path.{_≡_, refl}
+use mathlib.Core.Bool.{Bool, true, false}
+use mathlib.Core.List.{List}
+use mathlib.Core.Logic.{_↔_, _⊎_, inl, inr}
+use Prim.Native.Nat.{ℕ, _≤_, _<_}
+use native.Mathlib.Omega.{arith}
+use lib.Dec.{eqb, ltb}
+use borrow.Author.Tests.{eqb-true, eqb-false, eq-eqb, ltb-true, ltb-false, lt-ltb, le-ltb}
+use Rattle.refusal.specs.Register.{TOO_FEW}
+use Rattle.analysis.specs.Register.{ifElse}
+use Rattle.analysis.specs.Check.{refusalOf}
+use Rattle.systems.specs.Choice.{presentCount}
+use Rattle.rating.specs.Rate.{FEWEST, mixOf, ratingRefusal}
+
+-- in range: neither 5 nor 6 turns the analysis away
+abbrev pub InRange : List ℕ → Type 0
+InRange a = refusalOf a ≡ 0
+
+-- rated on: neither 5, 6 nor 16 does
+abbrev pub RatedOn : List ℕ → Type 0
+RatedOn a = ratingRefusal a ≡ 0
+
+module _ (a : List ℕ) where
+  -- rated on is in range with two components present at least
+  pub on-passed : RatedOn a → InRange a × (FEWEST ≤ presentCount (mixOf a))
+  unfolding ratingRefusal
+  on-passed h = go (eqb (refusalOf a) 0) (ltb (presentCount (mixOf a)) FEWEST) refl refl h
+    where
+      go : (t u : Bool) → eqb (refusalOf a) 0 ≡ t → ltb (presentCount (mixOf a)) FEWEST ≡ u
+          → ifElse t (ifElse u TOO_FEW 0) (refusalOf a) ≡ 0 → InRange a × (FEWEST ≤ presentCount (mixOf a))
+      go true true p q h = absurd (omega arith)
+      go true false p q h = (eqb-true (refusalOf a) 0 p, ltb-false (presentCount (mixOf a)) FEWEST q)
+      go false u p q h = absurd (eqb-false (refusalOf a) 0 p h)
+
+  -- a refusal of the range test comes first
+  pub range-first : eqb (refusalOf a) 0 ≡ false → ratingRefusal a ≡ refusalOf a
+  unfolding ratingRefusal
+  range-first e = rw e
+
+  module _ (h : InRange a) where
+    pub enough-on : FEWEST ≤ presentCount (mixOf a) → RatedOn a
+    unfolding ratingRefusal
+    enough-on l = rw (eq-eqb (refusalOf a) 0 h, le-ltb (presentCount (mixOf a)) FEWEST l)
+
+    pub too-few : presentCount (mixOf a) < FEWEST → ratingRefusal a ≡ TOO_FEW
+    unfolding ratingRefusal
+    too-few l = rw (eq-eqb (refusalOf a) 0 h, lt-ltb (presentCount (mixOf a)) FEWEST l)
+
+    -- an analysis in range is rated on or refused 16
+    pub on-or-few : RatedOn a ⊎ (ratingRefusal a ≡ TOO_FEW)
+    on-or-few = go (ltb (presentCount (mixOf a)) FEWEST) refl
+      where
+        go : (b : Bool) → ltb (presentCount (mixOf a)) FEWEST ≡ b → RatedOn a ⊎ (ratingRefusal a ≡ TOO_FEW)
+        go true e = inr (too-few (ltb-true (presentCount (mixOf a)) FEWEST e))
+        go false e = inl (enough-on (ltb-false (presentCount (mixOf a)) FEWEST e))
+
+  pub on-exactly-when : RatedOn a ↔ (InRange a × (FEWEST ≤ presentCount (mixOf a)))
+  on-exactly-when = (on-passed, λ h. enough-on (h .0) (h .1))
