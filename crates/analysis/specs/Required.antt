@@ -1,4 +1,5 @@
--- The check by a register in which more codes must be present. Before document 02's Five these were 2 to 5 (document 01,
+-- The check by a register in which more codes must be present. Before document 02's Five these were 2 to 5 (document
+-- 01,
 -- "The register and the sheet": "1 to 5 may not"). Assumes nothing.
 use mathlib.Core.Path.{_≡_, refl, sym, ap, _∙_}
 use mathlib.Core.List.{List, [], _∷_}
@@ -9,9 +10,11 @@ use lib.Dec.{eqb, leb}
 use lib.ListN.{length, getD}
 use borrow.Author.Tests.{eqb-false}
 use Rattle.refusal.specs.Keys.{isIn}
-use Rattle.analysis.specs.Register.{Status, live, retired, splitsOnly, unknown, Entry, register, statusIn, statusOf}
+use Rattle.analysis.specs.Register.{Status, live, retired, splitsOnly, unknown, Entry, register, statusIn}
+use Rattle.analysis.specs.Register.{statusOf}
 use Rattle.analysis.specs.Register.{ifElse}
-use Rattle.analysis.specs.Check.{leastBy, greatestBy, requiredBy, inRangeBy, inRange, allInRange, totalOf, totalFits}
+use Rattle.analysis.specs.Check.{leastBy, greatestBy, requiredBy, inRangeBy, inRange, allInRange, totalOf}
+use Rattle.analysis.specs.Check.{totalFits}
 use Rattle.analysis.specs.Check.{refusalBy, refusalOf}
 
 -- a live code that may not be absent
@@ -72,7 +75,8 @@ code-passes codes [] c x h = h
 code-passes codes (e ∷ es) c x h = go (eqb c (e .code)) (λ t. code-passes codes es c x t) h
   where
     go : (b : Bool) → (inRangeBy (statusIn (requiring codes es) c) x ≡ true → inRangeBy (statusIn es c) x ≡ true)
-        → inRangeBy (ifElse b (requiredToo (isIn (e .code) codes) (e .status)) (statusIn (requiring codes es) c)) x ≡ true
+        → inRangeBy (ifElse b (requiredToo (isIn (e .code) codes) (e .status)) (statusIn (requiring codes es) c))
+            x ≡ true
         → inRangeBy (ifElse b (e .status) (statusIn es c)) x ≡ true
     go true rest h = status-passes (isIn (e .code) codes) (e .status) x h
     go false rest h = rest h
@@ -81,7 +85,8 @@ both : (t u : Bool) → ifElse t u false ≡ true → (t ≡ true) × (u ≡ tru
 both true u h = (refl, h)
 both false u h = absurd (never h)
 
-all-passes : (codes : List ℕ) (es : List Entry) (code : ℕ) (a : List ℕ) → allInRangeIn (requiring codes es) code a ≡ true
+all-passes : (codes : List ℕ) (es : List Entry) (code : ℕ) (a : List ℕ)
+    → allInRangeIn (requiring codes es) code a ≡ true
     → allInRangeIn es code a ≡ true
 all-passes codes es code [] h = refl
 all-passes codes es code (x ∷ xs) h =

@@ -6,7 +6,8 @@ ghost use Prim.Native.Nat.{ℕ, _+_, _*_, _<_, _≤_};
 ghost use mathlib.Core.List.{List};
 ghost use lib.ListN.{getD, length, replicate};
 ghost use Rattle.systems.specs.Systems.{COMPONENTS, hasOf, candidates};
-ghost use Rattle.systems.specs.Choice.{NUMBERS, weights, order, allTo, presentOf, presentCount, presentIn, standingOf, keep, takeOf, marksOf, answerOf, chosenOf, choiceOf};
+ghost use Rattle.systems.specs.Choice.{NUMBERS, weights, order, allTo, presentOf, presentCount, presentIn};
+ghost use Rattle.systems.specs.Choice.{standingOf, keep, takeOf, marksOf, answerOf, chosenOf, choiceOf};
 ghost use Rattle.choice.specs.Keys.{Keyed, weighedTo};
 use systems::COMPONENTS;
 use systems::Choice;
@@ -136,7 +137,8 @@ fn count(p: u32, i: usize) -> u32
 
 // The key of the candidate in place i before it is chosen: the number present goes before the fitness.
 fn key(m: [u32; COMPONENTS], p: u32, top: u64, i: usize) -> u64
-    requires { ⌜ (i < length candidates) × (p ≡ presentOf m) × (top ≡ allTo m COMPONENTS + 1) × (top ≤ 429496729500 * COMPONENTS + 1) ⌝ }
+    requires { ⌜ (i < length candidates) × (p ≡ presentOf m) ⌝ }
+    requires { ⌜ (top ≡ allTo m COMPONENTS + 1) × (top ≤ 429496729500 * COMPONENTS + 1) ⌝ }
     ensures { λ r. ⌜ r ≡ standingOf m (getD candidates i 0) + 1 ⌝ }
 {
     count(p, i) as u64 * top + fitness(m, i)

@@ -61,24 +61,26 @@ module _ (a : List ℕ) (long : length a ≡ CODES) (before : refusalBefore a �
   pub passes : InRange a
   passes = requiring-passes (2 ∷ 3 ∷ 4 ∷ 5 ∷ []) a before
 
-  there : (k : ℕ) → k < 2 → 0 < getD a (2 + k) 0
-  there zero l = required-present _ a 2 before (omega arith) refl
-  there (suc zero) l = required-present _ a 3 before (omega arith) refl
-  there (suc (suc k)) l = absurd (omega arith)
+  -- with ethane, propane and i-butane
+  ethane : 0 < getD a 2 0
+  ethane = required-present _ a 2 before (omega arith) refl
 
-  butane : 0 < getD a 4 0
-  butane = required-present _ a 4 before (omega arith) refl
+  propane : 0 < getD a 3 0
+  propane = required-present _ a 3 before (omega arith) refl
 
-  -- with all four components present
+  i-butane : 0 < getD a 4 0
+  i-butane = required-present _ a 4 before (omega arith) refl
+
+  -- and so all four components present
   pub all-four : (c : ℕ) → c < COMPONENTS → 0 < getD (mixOf a) c 0
   unfolding tenthsOf
   all-four zero l = omega (arith, simplified-methane a long passes)
   all-four (suc zero) l =
-      omega (arith, simplified-least a long passes 1 (omega arith) (omega (arith, there 0 (omega arith))))
+      omega (arith, simplified-least a long passes 1 (omega arith) (omega (arith, ethane)))
   all-four (suc (suc zero)) l =
-      omega (arith, simplified-least a long passes 2 (omega arith) (omega (arith, there 1 (omega arith))))
+      omega (arith, simplified-least a long passes 2 (omega arith) (omega (arith, propane)))
   all-four (suc (suc (suc zero))) l =
-      omega (arith, simplified-least a long passes 3 (omega arith) (omega (arith, butane)))
+      omega (arith, simplified-least a long passes 3 (omega arith) (omega (arith, i-butane)))
   all-four (suc (suc (suc (suc c)))) l = absurd (omega arith)
 
   -- so 16 lets it pass

@@ -107,41 +107,38 @@ read-number s code = go (sectionsOf s)
 
 -- ---- a sheet
 
--- one that is read, by whether it has a split: as the search of its analysis ends, or as its split is answered
+-- the outcome of what was read, by whether there is no split: that of the search, or that of the split
+abbrev ratedBy : List ℕ → Split → ℕ → Bool → Outcome
+ratedBy a p code none = ifElse none (searchOutcome a ROUNDS code) (outcome (splitAnswer a p code) noSplit)
+
 module _ (s : List ℕ) (code : ℕ) (h : readOf s code .answer ≡ reading.Read) where
-  a : List ℕ
-  a = readOf s code .analysis .amounts
-
-  p : Split
-  p = readOf s code .split
-
-  by-count : (t : Bool) → eqb (p .count) 0 ≡ t
-      → sheetOutcome s code ≡ ifElse t (searchOutcome a ROUNDS code) (outcome (splitAnswer a p code) noSplit)
-  unfolding sheetOutcome a p
-  by-count t e =
+  by-count : (none : Bool) → eqb (readOf s code .split .count) 0 ≡ none
+      → sheetOutcome s code ≡ ratedBy (readOf s code .analysis .amounts) (readOf s code .split) code none
+  unfolding sheetOutcome
+  by-count none e =
       ap (λ (x : Reading). readBy x (readOf s code .analysis .amounts) (readOf s code .split) code) h
-      ∙ ap (λ (t : Bool). ifElse t (searchOutcome (readOf s code .analysis .amounts) ROUNDS code) _) e
+      ∙ ap (ratedBy (readOf s code .analysis .amounts) (readOf s code .split) code) e
 
+  -- without a split as the search of its analysis, and with one as that split
   pub read-searched : readOf s code .split .count ≡ 0
       → sheetOutcome s code ≡ searchOutcome (readOf s code .analysis .amounts) ROUNDS code
-  unfolding a p
   read-searched e = by-count true (eq-eqb (readOf s code .split .count) 0 e)
 
   pub read-own : (readOf s code .split .count ≡ 0 → ⊥)
       → sheetOutcome s code ≡ outcome (splitAnswer (readOf s code .analysis .amounts) (readOf s code .split) code) noSplit
-  unfolding a p
   read-own n = by-count false (ne-eqb (readOf s code .split .count) 0 n)
 
-  -- 16, with a split or without
+  -- 16, whichever it has
   pub read-few : ratingRefusal (readOf s code .analysis .amounts) ≡ TOO_FEW
       → sheetOutcome s code ≡ outcome (Refused TOO_FEW 0) noSplit
-  unfolding a p
-  read-few e = by-count (eqb (p .count) 0) refl ∙ go (eqb (p .count) 0)
+  read-few e = by-count (eqb (readOf s code .split .count) 0) refl ∙ go (eqb (readOf s code .split .count) 0)
     where
-      go : (t : Bool) → ifElse t (searchOutcome a ROUNDS code) (outcome (splitAnswer a p code) noSplit)
+      go : (none : Bool) → ratedBy (readOf s code .analysis .amounts) (readOf s code .split) code none
           ≡ outcome (Refused TOO_FEW 0) noSplit
-      go true = search-few a ROUNDS code e
-      go false = ap (λ (x : Answer). outcome x noSplit) (split-few a p code e)
+      go true = search-few (readOf s code .analysis .amounts) ROUNDS code e
+      go false =
+          ap (λ (x : Answer). outcome x noSplit)
+          (split-few (readOf s code .analysis .amounts) (readOf s code .split) code e)
 
 -- accepted and rated on, with no split: a rating or 11
 pub accepted-ends : (s : List ℕ) (code : ℕ) → readOf s code .answer ≡ reading.Read

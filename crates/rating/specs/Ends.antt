@@ -1,4 +1,5 @@
--- How the answers to an analysis that is rated on, or in range, end, and that what was read is in range. Assumes nothing.
+-- How the answers to an analysis end, where it is rated on and where it is in range, and that what was read is in range.
+-- Assumes nothing.
 use mathlib.Core.Path.{_≡_, refl, ap, _∙_}
 use mathlib.Core.Bool.{Bool, true, false}
 use mathlib.Core.Logic.{_⊎_, inl, inr}
@@ -123,14 +124,14 @@ module _ (a : List ℕ) (code : ℕ) (h : InRange a) where
   search-in-range allowance = go (on-or-few a h)
     where
       go : RatedOn a ⊎ (ratingRefusal a ≡ TOO_FEW) → RatedOrFew (searchOutcome a allowance code .answer)
-      go (inl e) = inl (search-wider _ (search-ends a allowance code e))
+      go (inl e) = inl (search-wider (searchOutcome a allowance code .answer) (search-ends a allowance code e))
       go (inr e) = inr (ap (λ (x : Outcome). x .answer) (search-few a allowance code e))
 
   pub split-in-range : (p : Split) → RatedOrFew (splitAnswer a p code)
   split-in-range p = go (on-or-few a h)
     where
       go : RatedOn a ⊎ (ratingRefusal a ≡ TOO_FEW) → RatedOrFew (splitAnswer a p code)
-      go (inl e) = inl (split-wider _ (split-ends a p code e))
+      go (inl e) = inl (split-wider (splitAnswer a p code) (split-ends a p code e))
       go (inr e) = inr (split-few a p code e)
 
 -- ---- what was read is an analysis in range

@@ -23,7 +23,7 @@ use controller::ControllerRecord;
 use sheet::RECORDS;
 
 // The version, 1.1.0: 10000, 100 and 1 times its three figures.
-const VERSION: u32 = 10100;
+const VERSION: u32 = 10200;
 
 // The library's version.
 #[no_mangle]

@@ -1,9 +1,10 @@
 -- Theorems of the choice, for every mixture in which two components or more are present: two systems come out where two
--- are present, else three; they are different candidates, rising; each present component is in at least two of them, and
--- each of them contains two present components or more.
+-- are present, else three; they are different candidates, rising; each present component is in at least two of them,
+-- and each of them contains two present components or more.
 --
--- Nothing of a system's standing is used but that a component takes, of the systems that contain it and are not chosen, one with the most
--- components present: for each set of components one test is computed over every way to take such systems. Assumes nothing.
+-- Nothing of a system's standing is used but that a component takes, of the systems that contain it and are not chosen,
+-- one with the most components present: for each set of components one test is computed over every way to take such
+-- systems. Assumes nothing.
 use Prim.Native.Nat.{ℕ, _^_, _≤_, _<_}
 use mathlib.Core.Path.{_≡_, refl}
 use mathlib.Core.List.{List, [], _∷_}
@@ -19,17 +20,21 @@ use Rattle.systems.specs.Table.{of-true, to-true, every, each, everyTo, 
 use Rattle.systems.specs.Members.{countTo}
 use Rattle.systems.specs.Presence.{present-lt, standing-more}
 use Rattle.systems.specs.Fittest.{elem-here, elem-there, rises, Fittest, fittest-is}
-use Rattle.systems.specs.Choice.{NUMBERS, order, fold, maskFrom, maskOf, inMask, presentOf, presentCount, presentIn, keep, containingOf, openOf, fittestOf, takeOf, passOf, marksOf, listOf, chosenOf, chooseOf, paddedOf, choiceOf, standingOf}
+use Rattle.systems.specs.Choice.{NUMBERS, order, fold, maskFrom, maskOf, inMask, presentOf, presentCount}
+use Rattle.systems.specs.Choice.{presentIn, keep, containingOf, openOf, fittestOf, takeOf, passOf, marksOf}
+use Rattle.systems.specs.Choice.{listOf, chosenOf, chooseOf, paddedOf, choiceOf, standingOf}
 
 -- the test passes at some number of the list
 abbrev pub some : (ℕ → Bool) → List ℕ → Bool
 some f [] = false
 some f (x ∷ xs) = f x || some f xs
 
-some-elem : (P : Type 0) (f : ℕ → Bool) (xs : List ℕ) → T (some f xs) → ((s : ℕ) → elem s xs ≡ true → f s ≡ true → P) → P
+some-elem : (P : Type 0) (f : ℕ → Bool) (xs : List ℕ) → T (some f xs)
+    → ((s : ℕ) → elem s xs ≡ true → f s ≡ true → P) → P
 unfolding elem
 some-elem P f [] t k = absurd t
-some-elem P f (x ∷ xs) t k = go (f x) refl t (k x (elem-here x xs)) (λ u. some-elem P f xs u (λ s e. k s (elem-there s x xs e)))
+some-elem P f (x ∷ xs) t k =
+    go (f x) refl t (k x (elem-here x xs)) (λ u. some-elem P f xs u (λ s e. k s (elem-there s x xs e)))
   where
     go : (b : Bool) → f x ≡ b → T (b || some f xs) → (f x ≡ true → P) → (T (some f xs) → P) → P
     go true e t p q = p e
@@ -47,18 +52,26 @@ to-passed false b f = tt
 every-of : (f : ℕ → Bool) (xs : List ℕ) → ((s : ℕ) → elem s xs ≡ true → T (f s)) → T (every f xs)
 unfolding elem
 every-of f [] h = tt
-every-of f (x ∷ xs) h = and-i (f x) (every f xs) (h x (elem-here x xs)) (every-of f xs (λ s e. h s (elem-there s x xs e)))
+every-of f (x ∷ xs) h =
+    and-i (f x) (every f xs) (h x (elem-here x xs)) (every-of f xs (λ s e. h s (elem-there s x xs e)))
 
 -- a system can be taken, and none that can be taken ranks higher
 abbrev pub topOf : (ℕ → ℕ) → List ℕ → List Bool → ℕ → ℕ → Bool
 topOf rank systems marks c s = openOf marks c s && every (λ t. not (openOf marks c t) || leb (rank t) (rank s)) systems
+
+-- a test passes at each of the systems that can be taken and that rank highest
+abbrev pub eachTop : (ℕ → ℕ) → List ℕ → List Bool → ℕ → (ℕ → Bool) → Bool
+eachTop rank systems marks c test = every (λ s. not (topOf rank systems marks c s) || test s) systems
 
 -- `good` holds in the end, whichever of the highest ranking systems each component takes
 abbrev pub always : (List Bool → Bool) → (ℕ → ℕ) → List ℕ → ℕ → List ℕ → List Bool → Bool
 always good rank systems wanted [] marks = good marks
 always good rank systems wanted (c ∷ cs) marks =
     elim (ltb (containingOf systems marks c) wanted) [
-      | true ↦ not (openOf marks c 0) && (some (openOf marks c) systems && every (λ s. not (topOf rank systems marks c s) || always good rank systems wanted cs (set marks s true)) systems)
+      | true ↦
+          not (openOf marks c 0)
+          && (some (openOf marks c) systems
+          && eachTop rank systems marks c (λ s. always good rank systems wanted cs (set marks s true)))
       | false ↦ always good rank systems wanted cs marks
     ]
 
@@ -66,55 +79,70 @@ always good rank systems wanted (c ∷ cs) marks =
 module _ (key rank : ℕ → ℕ) (systems : List ℕ) (r : T (rises 0 systems))
     (before : (s t : ℕ) → elem s systems ≡ true → rank s < rank t → key s < key t) where
   module _ (marks : List Bool) (c : ℕ) where
-    fittest-top : Fittest key systems marks c (fittestOf key systems marks c) → topOf rank systems marks c (fittestOf key systems marks c) ≡ true
+    abbrev best : ℕ
+    best = fittestOf key systems marks c
+
+    fittest-top : Fittest key systems marks c best → topOf rank systems marks c best ≡ true
     fittest-top f =
-        to-true (topOf rank systems marks c (fittestOf key systems marks c))
-        (and-i (openOf marks c (fittestOf key systems marks c)) (every (λ t. not (openOf marks c t) || leb (rank t) (rank (fittestOf key systems marks c))) systems)
-        (of-true (openOf marks c (fittestOf key systems marks c)) (f .free))
-        (every-of (λ t. not (openOf marks c t) || leb (rank t) (rank (fittestOf key systems marks c))) systems
-        (λ t e. to-passed (openOf marks c t) (leb (rank t) (rank (fittestOf key systems marks c)))
-        (λ o. le→leb (rank t) (rank (fittestOf key systems marks c)) (no-higher t (f .greatest t e o) (f .listed))))))
+        to-true (topOf rank systems marks c best)
+        (and-i (openOf marks c best) (every (λ t. not (openOf marks c t) || leb (rank t) (rank best)) systems)
+        (of-true (openOf marks c best) (f .free))
+        (every-of (λ t. not (openOf marks c t) || leb (rank t) (rank best)) systems
+        (λ t e. to-passed (openOf marks c t) (leb (rank t) (rank best))
+        (λ o. le→leb (rank t) (rank best) (no-higher t (f .greatest t e o) (f .listed))))))
       where
-        no-higher : (t : ℕ) → key t ≤ key (fittestOf key systems marks c) → elem (fittestOf key systems marks c) systems ≡ true → rank t ≤ rank (fittestOf key systems marks c)
-        no-higher t l e = go (ltb (rank (fittestOf key systems marks c)) (rank t)) refl
+        no-higher : (t : ℕ) → key t ≤ key best → elem best systems ≡ true → rank t ≤ rank best
+        no-higher t l e = go (ltb (rank best) (rank t)) refl
           where
-            go : (b : Bool) → ltb (rank (fittestOf key systems marks c)) (rank t) ≡ b → rank t ≤ rank (fittestOf key systems marks c)
-            go true q = let h = before (fittestOf key systems marks c) t e (ltb-true (rank (fittestOf key systems marks c)) (rank t) q) in absurd (omega arith)
-            go false q = ltb-false (rank (fittestOf key systems marks c)) (rank t) q
+            go : (b : Bool) → ltb (rank best) (rank t) ≡ b → rank t ≤ rank best
+            go true q = let h = before best t e (ltb-true (rank best) (rank t) q) in absurd (omega arith)
+            go false q = ltb-false (rank best) (rank t) q
 
     -- so what holds of each such system holds of the fittest
     fittest-passes : (test : ℕ → Bool) → T (not (openOf marks c 0)) → T (some (openOf marks c) systems)
-        → T (every (λ s. not (topOf rank systems marks c s) || test s) systems) → T (test (fittestOf key systems marks c))
+        → T (eachTop rank systems marks c test) → T (test best)
     fittest-passes test n u t =
-        some-elem (T (test (fittestOf key systems marks c))) (openOf marks c) systems u
+        some-elem (T (test best)) (openOf marks c) systems u
         (λ s e o.
-        let f = fittest-is key systems marks c r (not-true (openOf marks c 0) (to-true (not (openOf marks c 0)) n)) s e o in
-        passed (topOf rank systems marks c (fittestOf key systems marks c)) (test (fittestOf key systems marks c))
-        (each (λ s. not (topOf rank systems marks c s) || test s) systems t (fittestOf key systems marks c) (f .listed)) (fittest-top f))
+        let none = not-true (openOf marks c 0) (to-true (not (openOf marks c 0)) n) in
+        let f = fittest-is key systems marks c r none s e o in
+        passed (topOf rank systems marks c best) (test best)
+        (each (λ s. not (topOf rank systems marks c s) || test s) systems t best (f .listed)) (fittest-top f))
 
   -- what holds whichever system each component takes holds of the pass
   module _ (good : List Bool → Bool) (wanted : ℕ) where
-    take-good : (c : ℕ) (components : List ℕ) (marks : List Bool) → T (always good rank systems wanted (c ∷ components) marks)
+    -- what holds in the end where the next component has taken a system
+    abbrev taken : List ℕ → List Bool → ℕ → Bool
+    taken components marks s = always good rank systems wanted components (set marks s true)
+
+    abbrev tops : List ℕ → List Bool → ℕ → Bool
+    tops components marks c = eachTop rank systems marks c (taken components marks)
+
+    take-good : (c : ℕ) (components : List ℕ) (marks : List Bool)
+        → T (always good rank systems wanted (c ∷ components) marks)
         → T (always good rank systems wanted components (takeOf key systems wanted marks c))
     unfolding takeOf
     take-good c components marks t = go (ltb (containingOf systems marks c) wanted) refl
       where
-        go : (b : Bool) → ltb (containingOf systems marks c) wanted ≡ b → T (always good rank systems wanted components (takeOf key systems wanted marks c))
+        go : (b : Bool) → ltb (containingOf systems marks c) wanted ≡ b
+            → T (always good rank systems wanted components (takeOf key systems wanted marks c))
         go true e =
-            let u : T (not (openOf marks c 0) && (some (openOf marks c) systems && every (λ s. not (topOf rank systems marks c s) || always good rank systems wanted components (set marks s true)) systems)) = rw (e, always) at t in
-            let v = and-r (not (openOf marks c 0)) (some (openOf marks c) systems && every (λ s. not (topOf rank systems marks c s) || always good rank systems wanted components (set marks s true)) systems) u in
+            let all = tops components marks c in
+            let u : T (not (openOf marks c 0) && (some (openOf marks c) systems && all)) = rw (e, always) at t in
+            let v = and-r (not (openOf marks c 0)) (some (openOf marks c) systems && all) u in
             rw (e, takeOf)
-            (fittest-passes marks c (λ s. always good rank systems wanted components (set marks s true))
-            (and-l (not (openOf marks c 0)) (some (openOf marks c) systems && every (λ s. not (topOf rank systems marks c s) || always good rank systems wanted components (set marks s true)) systems) u)
-            (and-l (some (openOf marks c) systems) (every (λ s. not (topOf rank systems marks c s) || always good rank systems wanted components (set marks s true)) systems) v)
-            (and-r (some (openOf marks c) systems) (every (λ s. not (topOf rank systems marks c s) || always good rank systems wanted components (set marks s true)) systems) v))
+            (fittest-passes marks c (taken components marks)
+            (and-l (not (openOf marks c 0)) (some (openOf marks c) systems && all) u)
+            (and-l (some (openOf marks c) systems) all v)
+            (and-r (some (openOf marks c) systems) all v))
         go false e = rw (e, takeOf) (rw (e, always) at t)
 
     pub pass-good : (components : List ℕ) (marks : List Bool) → T (always good rank systems wanted components marks)
         → T (good (passOf key systems components wanted marks))
     unfolding passOf fold
     pass-good [] marks t = t
-    pass-good (c ∷ components) marks t = pass-good components (takeOf key systems wanted marks c) (take-good c components marks t)
+    pass-good (c ∷ components) marks t =
+        pass-good components (takeOf key systems wanted marks c) (take-good c components marks t)
 
 -- ---- the theorems
 
@@ -123,10 +151,10 @@ abbrev pub numberOf : ℕ → ℕ
 numberOf n = elim (eqb n 2) [ true ↦ 2 | false ↦ 3 ]
 
 pub two-chosen : (n : ℕ) → n ≡ 2 → numberOf n ≡ 2
-two-chosen n e = rw (eq-eqb n 2 e)
+two-chosen n e = rw (numberOf, eq-eqb n 2 e)
 
 pub three-chosen : (n : ℕ) → 3 ≤ n → numberOf n ≡ 3
-three-chosen n l = rw (ne-eqb n 2 (λ e. omega arith))
+three-chosen n l = rw (numberOf, ne-eqb n 2 (λ e. omega arith))
 
 -- what holds of k chosen systems `ch`, where the components of a mask are present
 pub record Choosable (present : ℕ) (ch : List ℕ) (k : ℕ) : Type 0 where
@@ -151,7 +179,11 @@ filledAt present ch i = leb 2 (presentIn present (getD ch i 0))
 
 choosable : ℕ → List ℕ → ℕ → Bool
 choosable present ch k =
-    eqb k (numberOf (ones present)) && (everyTo (knownAt ch) k && (everyTo (λ i. everyTo (risesAt ch i) k) k && (everyTo (twiceAt present ch k) COMPONENTS && everyTo (filledAt present ch) k)))
+    eqb k (numberOf (ones present))
+    && (everyTo (knownAt ch) k
+    && (everyTo (λ i. everyTo (risesAt ch i) k) k
+    && (everyTo (twiceAt present ch k) COMPONENTS
+    && everyTo (filledAt present ch) k)))
 
 five : (a b c d e : Bool) → T (a && (b && (c && (d && e)))) → T a × T b × T c × T d × T e
 five a b c d e t =
@@ -163,15 +195,21 @@ five a b c d e t =
 of-test : (present : ℕ) (ch : List ℕ) (k : ℕ) → T (choosable present ch k) → Choosable present ch k
 unfolding choosable knownAt risesAt twiceAt filledAt
 of-test present ch k t =
-    let u = five (eqb k (numberOf (ones present))) (everyTo (knownAt ch) k) (everyTo (λ i. everyTo (risesAt ch i) k) k) (everyTo (twiceAt present ch k) COMPONENTS) (everyTo (filledAt present ch) k) t in
+    let (number, known, rises, twice, filled) =
+        five (eqb k (numberOf (ones present))) (everyTo (knownAt ch) k) (everyTo (λ i. everyTo (risesAt ch i) k) k)
+        (everyTo (twiceAt present ch k) COMPONENTS) (everyTo (filledAt present ch) k) t in
     record {
-      number = eqb→eq k (numberOf (ones present)) (u .0);
-      known = λ i h. record { listed = to-true (knownAt ch i) (eachTo (knownAt ch) k (u .1) i h) };
-      rising = λ i j h l. ltb→lt (getD ch i 0) (getD ch j 0)
-          (passed (ltb i j) (ltb (getD ch i 0) (getD ch j 0)) (eachTo (risesAt ch i) k (eachTo (λ i. everyTo (risesAt ch i) k) k (u .2) i (omega arith)) j l) (lt-ltb i j h));
-      twice = λ c h e. leb→le 2 (countTo (λ i. hasOf (getD ch i 0) c) k)
-          (passed (inMask present c) (leb 2 (countTo (λ i. hasOf (getD ch i 0) c) k)) (eachTo (twiceAt present ch k) COMPONENTS (u .3) c h) e);
-      filled = λ i h. leb→le 2 (presentIn present (getD ch i 0)) (eachTo (filledAt present ch) k (u .4) i h);
+      number = eqb→eq k (numberOf (ones present)) number;
+      known = λ i h. record { listed = to-true (knownAt ch i) (eachTo (knownAt ch) k known i h) };
+      rising = λ i j h l.
+          let row = eachTo (λ i. everyTo (risesAt ch i) k) k rises i (omega arith) in
+          ltb→lt (getD ch i 0) (getD ch j 0)
+          (passed (ltb i j) (ltb (getD ch i 0) (getD ch j 0)) (eachTo (risesAt ch i) k row j l) (lt-ltb i j h));
+      twice = λ c h e.
+          let count = countTo (λ i. hasOf (getD ch i 0) c) k in
+          leb→le 2 count
+          (passed (inMask present c) (leb 2 count) (eachTo (twiceAt present ch k) COMPONENTS twice c h) e);
+      filled = λ i h. leb→le 2 (presentIn present (getD ch i 0)) (eachTo (filledAt present ch) k filled i h);
     }
 
 -- the chosen systems, and the list that is answered, pass
@@ -193,7 +231,8 @@ enough : ℕ → Bool
 enough present = not (leb 2 (ones present)) || first present
 
 each-set : T (everyTo enough (2 ^ COMPONENTS))
-unfolding enough first second goodMarks good choosable knownAt risesAt twiceAt filledAt paddedOf chosenOf listOf fold containingOf hasOf memberOf elem countTo keep inMask presentIn maskOf maskFrom ones
+unfolding enough first second goodMarks good choosable knownAt risesAt twiceAt filledAt paddedOf chosenOf listOf fold
+    containingOf hasOf memberOf elem countTo keep inMask presentIn maskOf maskFrom ones
 each-set = tt
 
 -- so for every key that puts the systems with more components present first
@@ -202,9 +241,11 @@ passes-always : (present : ℕ) (key : ℕ → ℕ) → present < 2 ^ COMPONENTS
     → T (good present (chosenOf candidates (marksOf key candidates (keep present order))))
 unfolding marksOf enough first second goodMarks
 passes-always present key l h b =
-    pass-good key (presentIn present) candidates tt b (goodMarks present) 2 (keep present order) (passOf key candidates (keep present order) 1 (replicate NUMBERS false))
+    pass-good key (presentIn present) candidates tt b (goodMarks present) 2 (keep present order)
+        (passOf key candidates (keep present order) 1 (replicate NUMBERS false))
     (pass-good key (presentIn present) candidates tt b (second present) 1 (keep present order) (replicate NUMBERS false)
-    (passed (leb 2 (ones present)) (first present) (eachTo enough (2 ^ COMPONENTS) each-set present l) (to-true (leb 2 (ones present)) (le→leb 2 (ones present) h))))
+    (passed (leb 2 (ones present)) (first present) (eachTo enough (2 ^ COMPONENTS) each-set present l)
+        (to-true (leb 2 (ones present)) (le→leb 2 (ones present) h))))
 
 module _ (mix : List ℕ) (h : 2 ≤ presentCount mix) where
   tested : T (good (presentOf mix) (chooseOf mix))
@@ -216,11 +257,13 @@ module _ (mix : List ℕ) (h : 2 ≤ presentCount mix) where
   unfolding good
   choose-choosable =
       of-test (presentOf mix) (chooseOf mix) (length (chooseOf mix))
-      (and-l (choosable (presentOf mix) (chooseOf mix) (length (chooseOf mix))) (choosable (presentOf mix) (paddedOf (chooseOf mix)) (length (chooseOf mix))) tested)
+      (and-l (choosable (presentOf mix) (chooseOf mix) (length (chooseOf mix)))
+          (choosable (presentOf mix) (paddedOf (chooseOf mix)) (length (chooseOf mix))) tested)
 
   -- and so of the choice as it is answered
   pub choice-choosable : Choosable (presentOf mix) (choiceOf mix .systems) (choiceOf mix .count)
   unfolding good
   choice-choosable =
       of-test (presentOf mix) (paddedOf (chooseOf mix)) (length (chooseOf mix))
-      (and-r (choosable (presentOf mix) (chooseOf mix) (length (chooseOf mix))) (choosable (presentOf mix) (paddedOf (chooseOf mix)) (length (chooseOf mix))) tested)
+      (and-r (choosable (presentOf mix) (chooseOf mix) (length (chooseOf mix)))
+          (choosable (presentOf mix) (paddedOf (chooseOf mix)) (length (chooseOf mix))) tested)

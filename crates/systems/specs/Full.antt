@@ -15,7 +15,9 @@ use Rattle.systems.specs.Table.{of-true, every, each, none-has}
 use Rattle.systems.specs.Scores.{score-open, score-closed, better-cases}
 use Rattle.systems.specs.Fittest.{elem-here, elem-there}
 use Rattle.systems.specs.Presence.{standing-fitter}
-use Rattle.systems.specs.Choice.{NUMBERS, order, fold, maskFrom, maskOf, inMask, presentAt, presentOf, presentIn, keep, fitnessOf, standingOf, isChosen, containingOf, openOf, scoreOf, betterOf, fittestOf, takeOf, passOf, marksOf, chosenOf, chooseBy, chooseOf}
+use Rattle.systems.specs.Choice.{NUMBERS, order, fold, maskFrom, maskOf, inMask, presentAt, presentOf, presentIn}
+use Rattle.systems.specs.Choice.{keep, fitnessOf, standingOf, isChosen, containingOf, openOf, scoreOf, betterOf}
+use Rattle.systems.specs.Choice.{fittestOf, takeOf, passOf, marksOf, chosenOf, chooseBy, chooseOf}
 
 ltb-suc : (a b : ℕ) → ltb (a + 1) (b + 1) ≡ ltb a b
 ltb-suc a b = go (ltb a b) refl
@@ -33,10 +35,12 @@ module _ (k l : ℕ → ℕ) (systems : List ℕ)
     abbrev Known : ℕ → Type 0
     Known s = openOf marks c s ≡ true → elem s systems ≡ true
 
-    score-alike : (s t : ℕ) → Known s → Known t → ltb (scoreOf k marks c s) (scoreOf k marks c t) ≡ ltb (scoreOf l marks c s) (scoreOf l marks c t)
+    score-alike : (s t : ℕ) → Known s → Known t
+        → ltb (scoreOf k marks c s) (scoreOf k marks c t) ≡ ltb (scoreOf l marks c s) (scoreOf l marks c t)
     score-alike s t p q = go (openOf marks c s) (openOf marks c t) refl refl
       where
-        go : (a b : Bool) → openOf marks c s ≡ a → openOf marks c t ≡ b → ltb (scoreOf k marks c s) (scoreOf k marks c t) ≡ ltb (scoreOf l marks c s) (scoreOf l marks c t)
+        go : (a b : Bool) → openOf marks c s ≡ a → openOf marks c t ≡ b
+            → ltb (scoreOf k marks c s) (scoreOf k marks c t) ≡ ltb (scoreOf l marks c s) (scoreOf l marks c t)
         go true true e f =
             ap₂ ltb (score-open k marks c s e) (score-open k marks c t f) ∙ ltb-suc (k s) (k t) ∙ alike s t (p e) (q f)
             ∙ sym (ap₂ ltb (score-open l marks c s e) (score-open l marks c t f) ∙ ltb-suc (l s) (l t))
@@ -59,7 +63,8 @@ module _ (k l : ℕ → ℕ) (systems : List ℕ)
     unfolding fold
     best-alike [] f b p = refl
     best-alike (s ∷ xs) f b p =
-        best-alike xs (λ t e. f t (elem-there t s xs e)) (betterOf k marks c b s) (better-cases k marks c Known b s (λ h o. f s (elem-here s xs)) (λ h. p))
+        best-alike xs (λ t e. f t (elem-there t s xs e)) (betterOf k marks c b s)
+            (better-cases k marks c Known b s (λ h o. f s (elem-here s xs)) (λ h. p))
         ∙ ap (fold (betterOf l marks c) xs) (better-alike b s p (λ o. f s (elem-here s xs)))
 
     fittest-alike : c < COMPONENTS → fittestOf k systems marks c ≡ fittestOf l systems marks c
@@ -73,17 +78,22 @@ module _ (k l : ℕ → ℕ) (systems : List ℕ)
     take-alike : (wanted : ℕ) → c < COMPONENTS → takeOf k systems wanted marks c ≡ takeOf l systems wanted marks c
     unfolding takeOf
     take-alike wanted h =
-        ap (λ x. elim (ltb (containingOf systems marks c) wanted) [ true ↦ set marks x true | false ↦ marks ]) (fittest-alike h)
+        ap (λ x. elim (ltb (containingOf systems marks c) wanted) [ true ↦ set marks x true | false ↦ marks ])
+            (fittest-alike h)
 
   pass-alike : (wanted : ℕ) (components : List ℕ) → T (every (λ c. ltb c COMPONENTS) components) → (marks : List Bool)
       → passOf k systems components wanted marks ≡ passOf l systems components wanted marks
   unfolding passOf fold
   pass-alike wanted [] t marks = refl
   pass-alike wanted (c ∷ components) t marks =
-      pass-alike wanted components (and-r (ltb c COMPONENTS) (every (λ c. ltb c COMPONENTS) components) t) (takeOf k systems wanted marks c)
-      ∙ ap (passOf l systems components wanted) (take-alike marks c wanted (ltb→lt c COMPONENTS (and-l (ltb c COMPONENTS) (every (λ c. ltb c COMPONENTS) components) t)))
+      pass-alike wanted components (and-r (ltb c COMPONENTS) (every (λ c. ltb c COMPONENTS) components) t)
+          (takeOf k systems wanted marks c)
+      ∙ ap (passOf l systems components wanted)
+          (take-alike marks c wanted
+          (ltb→lt c COMPONENTS (and-l (ltb c COMPONENTS) (every (λ c. ltb c COMPONENTS) components) t)))
 
-  pub marks-alike : (components : List ℕ) → T (every (λ c. ltb c COMPONENTS) components) → marksOf k systems components ≡ marksOf l systems components
+  pub marks-alike : (components : List ℕ) → T (every (λ c. ltb c COMPONENTS) components)
+      → marksOf k systems components ≡ marksOf l systems components
   unfolding marksOf
   marks-alike components t =
       pass-alike 2 components t (passOf k systems components 1 (replicate NUMBERS false))
@@ -124,7 +134,9 @@ choose-all mix p =
     ap (λ m. chosenOf candidates (marksOf (standingOf mix) candidates (keep m order))) p
     ∙ ap (chosenOf candidates)
     (marks-alike (standingOf mix) (fitnessOf mix) candidates
-    (λ s t e f. standing-fitter mix s t (ap (λ m. presentIn m s) p ∙ three-in s e ∙ sym (ap (λ m. presentIn m t) p ∙ three-in t f)))
+    (λ s t e f.
+        standing-fitter mix s t
+        (ap (λ m. presentIn m s) p ∙ three-in s e ∙ sym (ap (λ m. presentIn m t) p ∙ three-in t f)))
     order tt)
 
 -- for every mixture of all components

@@ -14,7 +14,8 @@ use borrow.Author.Tests.{eqb-true, eqb-false, ltb-true, ltb-false, lt-ltb, le-lt
 use Rattle.systems.specs.Systems.{COMPONENTS, memberOf, hasOf, elem, candidates}
 use Rattle.systems.specs.Table.{of-true}
 use Rattle.systems.specs.Members.{countTo}
-use Rattle.systems.specs.Choice.{fitnessOf, allTo, maskFrom, inMask, presentAt, presentOf, presentCount, maskOf, presentIn, standingOf}
+use Rattle.systems.specs.Choice.{fitnessOf, allTo, maskFrom, inMask, presentAt, presentOf, presentCount, maskOf}
+use Rattle.systems.specs.Choice.{presentIn, standingOf}
 
 -- ---- masks
 
@@ -56,7 +57,9 @@ in-mask f (suc n) i zero h =
 in-mask f (suc n) i (suc c) h =
     let e : suc c ≡ 1 + c = omega arith in
     ap (λ (x : ℕ). eqb (x % 2) 1)
-    (ap (λ (x : ℕ). (maskFrom f n (i + 1) * 2 + bit (f i)) / 2 ^ x) e ∙ sym (shr-shr (maskFrom f n (i + 1) * 2 + bit (f i)) 1 c) ∙ ap (λ (x : ℕ). x / 2 ^ c) (bit-high (f i) (maskFrom f n (i + 1))))
+    (ap (λ (x : ℕ). (maskFrom f n (i + 1) * 2 + bit (f i)) / 2 ^ x) e
+        ∙ sym (shr-shr (maskFrom f n (i + 1) * 2 + bit (f i)) 1 c)
+        ∙ ap (λ (x : ℕ). x / 2 ^ c) (bit-high (f i) (maskFrom f n (i + 1))))
     ∙ in-mask f n (i + 1) c (omega arith) ∙ ap f (omega arith)
 
 -- the number of the tests that pass from i on
@@ -79,7 +82,8 @@ both-mask f g zero i = refl
 both-mask f g (suc n) i =
     and-step (maskFrom f n (i + 1) * 2 + bit (f i)) (maskFrom g n (i + 1) * 2 + bit (g i))
     ∙ ap₂ (λ (x y : ℕ). x * 2 + y)
-    (ap₂ bitAnd (bit-high (f i) (maskFrom f n (i + 1))) (bit-high (g i) (maskFrom g n (i + 1))) ∙ both-mask f g n (i + 1))
+    (ap₂ bitAnd (bit-high (f i) (maskFrom f n (i + 1))) (bit-high (g i) (maskFrom g n (i + 1)))
+        ∙ both-mask f g n (i + 1))
     (ap₂ min (bit-low (f i) (maskFrom f n (i + 1))) (bit-low (g i) (maskFrom g n (i + 1))) ∙ go (f i) (g i))
   where
     go : (a b : Bool) → min (bit a) (bit b) ≡ bit (a && b)
@@ -118,20 +122,28 @@ unfolding countTo
 count-two f zero i j l h d e = absurd (omega arith)
 count-two f (suc n) i j l h d e = go (eqb j n) refl (λ k. count-one f n i k d) (λ k. count-two f n i j l k d e)
   where
-    go : (b : Bool) → eqb j n ≡ b → (i < n → 1 ≤ countTo f n) → (j < n → 2 ≤ countTo f n) → 2 ≤ countTo f n + cond (f n) 1 0
-    go true q r s = let k = eqb-true j n q in let t : f n ≡ true = ap f (sym k) ∙ e in rw t (omega (arith, r (omega arith)))
+    go : (b : Bool) → eqb j n ≡ b → (i < n → 1 ≤ countTo f n) → (j < n → 2 ≤ countTo f n)
+        → 2 ≤ countTo f n + cond (f n) 1 0
+    go true q r s =
+        let k = eqb-true j n q in
+        let t : f n ≡ true = ap f (sym k) ∙ e in
+        rw t (omega (arith, r (omega arith)))
     go false q r s = let k : j ≡ n → ⊥ = eqb-false j n q in omega (arith, s (omega arith))
 
 -- methane and one other are two
-pub two-present : (mix : List ℕ) → 0 < getD mix 0 0 → (c : ℕ) → 0 < c → c < COMPONENTS → 0 < getD mix c 0 → 2 ≤ presentCount mix
+pub two-present : (mix : List ℕ) → 0 < getD mix 0 0 → (c : ℕ) → 0 < c → c < COMPONENTS → 0 < getD mix c 0
+    → 2 ≤ presentCount mix
 two-present mix m c p h x =
-    rw (present-count mix) (count-two (presentAt mix) COMPONENTS 0 c p h (lt-ltb 0 (getD mix 0 0) m) (lt-ltb 0 (getD mix c 0) x))
+    rw (present-count mix)
+        (count-two (presentAt mix) COMPONENTS 0 c p h (lt-ltb 0 (getD mix 0 0) m) (lt-ltb 0 (getD mix c 0) x))
 
 -- and how many of a system's
-pub present-in-is : (mix : List ℕ) (system : ℕ) → presentIn (presentOf mix) system ≡ countTo (λ c. hasOf system c && presentAt mix c) COMPONENTS
+pub present-in-is : (mix : List ℕ) (system : ℕ)
+    → presentIn (presentOf mix) system ≡ countTo (λ c. hasOf system c && presentAt mix c) COMPONENTS
 unfolding presentIn presentOf maskOf countTo countFrom
 present-in-is mix system =
-    ap ones (both-mask (hasOf system) (presentAt mix) COMPONENTS 0) ∙ ones-mask (λ c. hasOf system c && presentAt mix c) COMPONENTS 0 ∙ omega arith
+    ap ones (both-mask (hasOf system) (presentAt mix) COMPONENTS 0)
+        ∙ ones-mask (λ c. hasOf system c && presentAt mix c) COMPONENTS 0 ∙ omega arith
 
 -- a component that a system contains and that is present
 pub record Supply (mix : List ℕ) (system : ℕ) : Type 0 where
@@ -152,10 +164,12 @@ count-some P f (suc n) h k = go (f n) refl (λ l. count-some P f n l (λ c i e. 
 -- there is one in each system with components present
 pub supply : (mix : List ℕ) (system : ℕ) → 1 ≤ presentIn (presentOf mix) system → Supply mix system
 supply mix system h =
-    count-some (Supply mix system) (λ c. hasOf system c && presentAt mix c) COMPONENTS (rw (present-in-is mix system) at h)
+    count-some (Supply mix system) (λ c. hasOf system c && presentAt mix c) COMPONENTS
+        (rw (present-in-is mix system) at h)
     (λ c l e. go c l (hasOf system c) (presentAt mix c) refl refl e)
   where
-    go : (c : ℕ) → c < COMPONENTS → (t u : Bool) → hasOf system c ≡ t → presentAt mix c ≡ u → (t && u) ≡ true → Supply mix system
+    go : (c : ℕ) → c < COMPONENTS → (t u : Bool) → hasOf system c ≡ t → presentAt mix c ≡ u → (t && u) ≡ true
+        → Supply mix system
     go c l true true p q e = record { component = c; low = l; contained = p; some = ltb-true 0 (getD mix c 0) q }
     go c l true false p q e = absurd (of-true false e)
     go c l false u p q e = absurd (of-true false e)
@@ -179,7 +193,9 @@ every-elem P (x ∷ xs) e s h = go (eqb s x) refl (every-elem P xs (e .1) s)
 -- no candidate's fitness is above that of everything
 pub fitness-le : (mix : List ℕ) (s : ℕ) → elem s candidates ≡ true → fitnessOf mix s ≤ allTo mix COMPONENTS
 unfolding Every allTo fitnessOf memberOf
-fitness-le mix = every-elem (λ s. fitnessOf mix s ≤ allTo mix COMPONENTS) candidates (omega arith, (omega arith, (omega arith, (omega arith, omega arith))))
+fitness-le mix =
+    every-elem (λ s. fitnessOf mix s ≤ allTo mix COMPONENTS) candidates
+    (omega arith, (omega arith, (omega arith, (omega arith, omega arith))))
 
 -- the first of two figures decides
 first-decides : (p q k f g : ℕ) → f < k → p < q → p * k + f < q * k + g
@@ -189,17 +205,22 @@ first-decides p q k f g h l =
     omega arith
 
 -- a candidate with more of its components present goes before one with fewer
-pub standing-more : (mix : List ℕ) (s t : ℕ) → elem s candidates ≡ true → presentIn (presentOf mix) s < presentIn (presentOf mix) t
+pub standing-more : (mix : List ℕ) (s t : ℕ) → elem s candidates ≡ true
+    → presentIn (presentOf mix) s < presentIn (presentOf mix) t
     → standingOf mix s < standingOf mix t
 unfolding standingOf
 standing-more mix s t e h =
-    first-decides (presentIn (presentOf mix) s) (presentIn (presentOf mix) t) (allTo mix COMPONENTS + 1) (fitnessOf mix s) (fitnessOf mix t) (omega (arith, fitness-le mix s e)) h
+    first-decides (presentIn (presentOf mix) s) (presentIn (presentOf mix) t) (allTo mix COMPONENTS + 1)
+        (fitnessOf mix s) (fitnessOf mix t) (omega (arith, fitness-le mix s e)) h
 
 -- and of two with as many the fitter
 pub standing-fitter : (mix : List ℕ) (s t : ℕ) → presentIn (presentOf mix) s ≡ presentIn (presentOf mix) t
     → ltb (standingOf mix s) (standingOf mix t) ≡ ltb (fitnessOf mix s) (fitnessOf mix t)
 unfolding standingOf
-standing-fitter mix s t e = rw e (go (presentIn (presentOf mix) t * (allTo mix COMPONENTS + 1)) (fitnessOf mix s) (fitnessOf mix t) (ltb (fitnessOf mix s) (fitnessOf mix t)) refl)
+standing-fitter mix s t e =
+    rw e
+    (go (presentIn (presentOf mix) t * (allTo mix COMPONENTS + 1)) (fitnessOf mix s) (fitnessOf mix t)
+    (ltb (fitnessOf mix s) (fitnessOf mix t)) refl)
   where
     go : (a f g : ℕ) (b : Bool) → ltb f g ≡ b → ltb (a + f) (a + g) ≡ b
     go a f g true p = let h = ltb-true f g p in lt-ltb (a + f) (a + g) (omega arith)

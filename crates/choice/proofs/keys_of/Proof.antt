@@ -22,7 +22,7 @@ loop-holds : tie.Need-loop-holds Inv-loop μ-loop
 loop-holds c = fresh-none _
 
 key-requires : tie.Need-key-requires Inv-loop μ-loop
-key-requires c κs = (c .loop-test .taken, c .before .before .before .pre, c .before .before .above .ensures .0, c .before .before .above .ensures .1)
+key-requires c κs = ((c .loop-test .taken, c .before .before .before .pre), c .before .before .above .ensures)
 
 mul-keys : tie.Need-mul-keys Inv-loop μ-loop
 mul-keys c = search needs
