@@ -121,7 +121,8 @@ module _ (a : List ℕ) (long : length a ≡ CODES) (passed : InRange a) where
 -- ---- worked examples: methane with ethane alone has systems 4 and 8, and methane alone is refused 16
 
 pub two-systems : chooseOf (mixOf methaneEthane) ≡ 4 ∷ 8 ∷ []
-unfolding chooseOf marksOf passOf takeOf containingOf fittestOf betterOf scoreOf chosenOf listOf fold fitnessOf standingOf
+unfolding chooseOf marksOf passOf takeOf containingOf fittestOf betterOf scoreOf chosenOf listOf fold fitnessOf
+    standingOf
     allTo keep inMask presentOf presentIn maskOf maskFrom ones hasOf memberOf
 two-systems = ap chooseOf methane-ethane
 

@@ -28,7 +28,8 @@ use Rattle.split.specs.declared.Search.{Search}
 use Rattle.split.specs.declared.Search.the-variants.{Balanced, Unbalanced, Unfit}
 use Rattle.split.specs.declared.Found.{Found}
 use Rattle.rating.specs.Records.{systemAt, codeAt, systemsOf, codesOf, matchesAt, fitsOf}
-use Rattle.rating.specs.Rate.{LIMIT, ROUNDS, mixOf, systemsFor, countFor, ratingRefusal, checkedBy, splitBy, splitAnswer, recordsOf}
+use Rattle.rating.specs.Rate.{LIMIT, ROUNDS, mixOf, systemsFor, countFor, ratingRefusal, checkedBy, splitBy}
+use Rattle.rating.specs.Rate.{splitAnswer, recordsOf}
 use Rattle.rating.specs.Rate.{outcome, foundBy, foundOutcome, searched, searchOutcome}
 use Rattle.rating.specs.RatedOn.{RatedOn}
 use Rattle.rating.specs.Ready.{room, shared, input}
@@ -37,14 +38,17 @@ use Rattle.rating.specs.declared.Outcome.{Outcome}
 -- the records expected of the chosen systems fit
 pub expected-fit : (ch : List ℕ) (k : ℕ) → 3 * k ≤ RECORDS → fitsOf ch k (3 * k) (systemsOf ch k) (codesOf ch k) ≡ true
 unfolding fitsOf matchesAt systemsOf codesOf
-expected-fit ch k h = rw (eq-eqb (3 * k) (3 * k) refl) (all-of (matchesAt ch k (systemsOf ch k) (codesOf ch k)) (3 * k) each)
+expected-fit ch k h =
+    rw (eq-eqb (3 * k) (3 * k) refl) (all-of (matchesAt ch k (systemsOf ch k) (codesOf ch k)) (3 * k) each)
   where
     each : (r : ℕ) → r < 3 * k → matchesAt ch k (systemsOf ch k) (codesOf ch k) r ≡ true
     each r l =
         let q : 0 + r ≡ r = omega arith in
         rw (
-          eq-eqb (getD (table (systemAt ch k) RECORDS 0) r 0) (systemAt ch k r) (getD-table (systemAt ch k) RECORDS 0 r (omega arith) ∙ ap (systemAt ch k) q),
-          eq-eqb (getD (table (codeAt ch k) RECORDS 0) r 0) (codeAt ch k r) (getD-table (codeAt ch k) RECORDS 0 r (omega arith) ∙ ap (codeAt ch k) q),
+          eq-eqb (getD (table (systemAt ch k) RECORDS 0) r 0) (systemAt ch k r)
+              (getD-table (systemAt ch k) RECORDS 0 r (omega arith) ∙ ap (systemAt ch k) q),
+          eq-eqb (getD (table (codeAt ch k) RECORDS 0) r 0) (codeAt ch k r)
+              (getD-table (codeAt ch k) RECORDS 0 r (omega arith) ∙ ap (codeAt ch k) q),
         )
 
 -- what fits, record by record
@@ -92,7 +96,8 @@ split-by-records a p code fits passed e = rw (passed, e)
 -- with the expected records, of an analysis that is rated on, the answer is that to its cells
 pub split-fits : (a : List ℕ) (p : Split) (code : ℕ) → RatedOn a → p .count ≡ 3 * countFor a
     → p .systems ≡ systemsOf (systemsFor a) (countFor a) → p .codes ≡ codesOf (systemsFor a) (countFor a)
-    → splitAnswer a p code ≡ proposedOf LIMIT (systemsFor a) (countFor a) (mixOf a) (cellsOf (systemsFor a) (countFor a) (p .amounts)) (inertFirst a)
+    → splitAnswer a p code ≡ proposedOf LIMIT (systemsFor a) (countFor a) (mixOf a)
+        (cellsOf (systemsFor a) (countFor a) (p .amounts)) (inertFirst a)
 unfolding splitAnswer splitBy
 split-fits a p code passed c s d =
     ap (λ (n : ℕ). checkedBy n code (splitBy (systemsFor a) (countFor a) (mixOf a) (inertFirst a) p)) passed
@@ -100,15 +105,21 @@ split-fits a p code passed c s d =
 
 -- a rating says that 5, 6 and 16 let the analysis pass, and is that of the cells
 pub split-rated : (a : List ℕ) (p : Split) (code : ℕ) (w : ℤ) (s r : ℕ) → splitAnswer a p code ≡ Rated w s r
-    → (RatedOn a) × (proposedOf LIMIT (systemsFor a) (countFor a) (mixOf a) (cellsOf (systemsFor a) (countFor a) (p .amounts)) (inertFirst a) ≡ Rated w s r)
+    → (RatedOn a) ×
+        (proposedOf LIMIT (systemsFor a) (countFor a) (mixOf a) (cellsOf (systemsFor a) (countFor a) (p .amounts))
+        (inertFirst a) ≡ Rated w s r)
 unfolding splitAnswer splitBy
 split-rated a p code w s r is =
     go (eqb (ratingRefusal a) 0) (fitsOf (systemsFor a) (countFor a) (p .count) (p .systems) (p .codes)) refl is
   where
     rated : Answer
-    rated = proposedOf LIMIT (systemsFor a) (countFor a) (mixOf a) (cellsOf (systemsFor a) (countFor a) (p .amounts)) (inertFirst a)
+    rated =
+        proposedOf LIMIT (systemsFor a) (countFor a) (mixOf a) (cellsOf (systemsFor a) (countFor a) (p .amounts))
+        (inertFirst a)
 
-    go : (b f : Bool) → eqb (ratingRefusal a) 0 ≡ b → ifElse b (ifElse f rated (Refused 7 0)) (Refused (ratingRefusal a) (ifElse (eqb (ratingRefusal a) 5) code 0)) ≡ Rated w s r
+    go : (b f : Bool) → eqb (ratingRefusal a) 0 ≡ b
+        → ifElse b (ifElse f rated (Refused 7 0))
+        (Refused (ratingRefusal a) (ifElse (eqb (ratingRefusal a) 5) code 0)) ≡ Rated w s r
         → (RatedOn a) × (rated ≡ Rated w s r)
     go true true e h = (eqb-true (ratingRefusal a) 0 e, h)
     go true false e h = absurd (subst IsRated (sym h) tt)
@@ -119,7 +130,9 @@ pub rated-zero : (a : List ℕ) (p : Split) (code : ℕ) (w : ℤ) (s r : ℕ) �
     → splitAnswer a p code ≡ Rated w s 0
 rated-zero a p code w s r is =
     let e = split-rated a p code w s r is .1 in
-    let z = rated-is LIMIT (systemsFor a) (countFor a) (mixOf a) (cellsOf (systemsFor a) (countFor a) (p .amounts)) (inertFirst a) w s r e .2 in
+    let z =
+        rated-is LIMIT (systemsFor a) (countFor a) (mixOf a) (cellsOf (systemsFor a) (countFor a) (p .amounts))
+        (inertFirst a) w s r e .2 in
     is ∙ ap (Rated w s) z
 
 -- ---- the search
@@ -152,8 +165,12 @@ pub balance : (a : List ℕ) → length a ≡ CODES → RatedOn a → (allowance
     → searched a allowance .search ≡ Balanced s r
     → Balance (mixOf a) (systemsFor a) (countFor a) LIMIT (min allowance ROUNDS) (searched a allowance .cells) s r
 balance a long passed allowance s r is =
-    let u = find-search (mixOf a) (systemsFor a) (countFor a) LEVEL LIMIT (min allowance ROUNDS) (input-fits (mixOf a) (systemsFor a) (countFor a) LEVEL (input a long passed)) in
-    rw u (find-balanced (mixOf a) (systemsFor a) (countFor a) LIMIT LEVEL (min allowance ROUNDS) s r (ap (λ (f : Found). f .search) (sym u) ∙ is))
+    let u =
+        find-search (mixOf a) (systemsFor a) (countFor a) LEVEL LIMIT (min allowance ROUNDS)
+        (input-fits (mixOf a) (systemsFor a) (countFor a) LEVEL (input a long passed)) in
+    rw u
+        (find-balanced (mixOf a) (systemsFor a) (countFor a) LIMIT LEVEL (min allowance ROUNDS) s r
+        (ap (λ (f : Found). f .search) (sym u) ∙ is))
 
 -- the found split, put back
 pub found-back : (a : List ℕ) → length a ≡ CODES → (allowance code code′ : ℕ) (w : ℤ) (s r : ℕ)
@@ -167,5 +184,6 @@ found-back a long allowance code code′ w s r is =
     let cells = searched a allowance .cells in
     ap (λ (p : Split). splitAnswer a p code′) f
     ∙ split-fits a (recordsOf ch k cells) code′ passed refl refl refl
-    ∙ put-back-records (mixOf a) ch k LIMIT (min allowance ROUNDS) cells s r b (shared a passed) (inertFirst a) (room a passed)
+    ∙ put-back-records (mixOf a) ch k LIMIT (min allowance ROUNDS) cells s r b (shared a passed) (inertFirst a)
+        (room a passed)
     ∙ ap (λ (x : ℤ). Rated x s 0) (sym e)

@@ -10,10 +10,10 @@
 -- two components is refused 16; every sheet ends in a rating, in one of 1 to 11 or in 16 (4).
 --
 -- The public functions `rate_split`, `rate_by_search` and `rate_sheet` promise `splitAnswer`, `searchOutcome` and
--- `sheetOutcome`, of which these theorems speak. An analysis is its 16 amounts, that of code k at index k. It is in range
--- when neither 5 nor 6 turns it away: `InRange`; it is rated on when 16 lets it pass as well: `RatedOn`. A split is rated
--- when the answer to it is a rating, with its spread, and no refusal: `IsRated`. `code` is the code that refusal 5
--- carries: any code at fault.
+-- `sheetOutcome`, of which these theorems speak. An analysis is its 16 amounts, that of code k at index k. It is in
+-- range when neither 5 nor 6 turns it away: `InRange`; it is rated on when 16 lets it pass as well: `RatedOn`. A split
+-- is rated when the answer to it is a rating, with its spread, and no refusal: `IsRated`. `code` is the code that
+-- refusal 5 carries: any code at fault.
 use mathlib.Core.Path.{_≡_, refl, sym, ap, _∙_, subst}
 use mathlib.Core.Bool.{Bool, true, false, _&&_}
 use mathlib.Core.Logic.{_↔_, _⊎_}
@@ -232,8 +232,8 @@ pub proposed-within : (a : List ℕ) → length a ≡ CODES → (p : Split) (cod
     → splitAnswer a p code ≡ Rated w s r → Within w (exactAt a (p .amounts)) 40
 proposed-within a long p code w s r is =
     let (on, e) = split-rated a p code w s r is in
-    rated-within (systemsFor a) (countFor a) (mixOf a) (cellsIn a (p .amounts)) (chosen a on) LIMIT (inertFirst a) w s r e
-    (omega (arith, million a long on)) (inert-million a long on)
+    rated-within (systemsFor a) (countFor a) (mixOf a) (cellsIn a (p .amounts)) (chosen a on) LIMIT (inertFirst a)
+    w s r e (omega (arith, million a long on)) (inert-million a long on)
 
 pub found-within : (a : List ℕ) → length a ≡ CODES → (allowance code : ℕ) (w : ℤ) (s r : ℕ)
     → searchOutcome a allowance code .answer ≡ Rated w s r

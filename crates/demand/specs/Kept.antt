@@ -1,10 +1,10 @@
 -- GASES RATED BEFORE GET THE SAME RATING, SPLIT AND ROUNDS (document 02, Five). Assumes nothing.
 --
--- Before, codes 2 to 5 could not be absent, there was no 16, and the choice was that by fitness alone. `splitBefore` and
--- `searchBefore` are today's definitions of the answers, `splitAnswerBy` and `searchOutcomeBy`, at that refusal and that
--- choice. For every analysis that 5 and 6 let pass then, all four components are present, the choice by presence and
--- fitness is the choice by fitness alone, and the answers are the same: to every proposed split, and by the search with
--- every allowance, rating, spread, rounds and split. `code` is the code that refusal 5 carries.
+-- Before, codes 2 to 5 could not be absent, there was no 16, and the choice was that by fitness alone. `splitBefore`
+-- and `searchBefore` are today's definitions of the answers, `splitAnswerBy` and `searchOutcomeBy`, at that refusal and
+-- that choice. For every analysis that 5 and 6 let pass then, all four components are present, the choice by presence
+-- and fitness is the choice by fitness alone, and the answers are the same: to every proposed split, and by the search
+-- with every allowance, rating, spread, rounds and split. `code` is the code that refusal 5 carries.
 use mathlib.Core.Path.{_≡_, refl, sym, ap, _∙_, subst}
 use mathlib.Core.Bool.{Bool, true, false}
 use mathlib.Core.List.{List, [], _∷_}
@@ -137,9 +137,12 @@ search-rated-before a long allowance code is = go (eqb (refusalBefore a) 0) refl
 
 -- ---- a sheet whose analysis passed before is answered as before: by the search, or by its own split
 
-module _ (s : List ℕ) (code : ℕ) (h : readOf s code .answer ≡ Read) (before : refusalBefore (analysisIn s code) ≡ 0) where
-  pub sheet-search-kept : readOf s code .split .count ≡ 0 → sheetOutcome s code ≡ searchBefore (analysisIn s code) ROUNDS code
-  sheet-search-kept e = read-searched s code h e ∙ search-kept (analysisIn s code) (read-long s code h) before ROUNDS code
+module _ (s : List ℕ) (code : ℕ) (h : readOf s code .answer ≡ Read)
+    (before : refusalBefore (analysisIn s code) ≡ 0) where
+  pub sheet-search-kept : readOf s code .split .count ≡ 0
+      → sheetOutcome s code ≡ searchBefore (analysisIn s code) ROUNDS code
+  sheet-search-kept e =
+      read-searched s code h e ∙ search-kept (analysisIn s code) (read-long s code h) before ROUNDS code
 
   pub sheet-split-kept : (readOf s code .split .count ≡ 0 → ⊥)
       → sheetOutcome s code ≡ outcome (splitBefore (analysisIn s code) (readOf s code .split) code) noSplit

@@ -125,7 +125,8 @@ module _ (s : List ℕ) (code : ℕ) (h : readOf s code .answer ≡ reading.Read
   read-searched e = by-count true (eq-eqb (readOf s code .split .count) 0 e)
 
   pub read-own : (readOf s code .split .count ≡ 0 → ⊥)
-      → sheetOutcome s code ≡ outcome (splitAnswer (readOf s code .analysis .amounts) (readOf s code .split) code) noSplit
+      → sheetOutcome s code
+      ≡ outcome (splitAnswer (readOf s code .analysis .amounts) (readOf s code .split) code) noSplit
   read-own n = by-count false (ne-eqb (readOf s code .split .count) 0 n)
 
   -- 16, whichever it has

@@ -1,5 +1,5 @@
--- How the answers to an analysis end, where it is rated on and where it is in range, and that what was read is in range.
--- Assumes nothing.
+-- How the answers to an analysis end, where it is rated on and where it is in range, and that what was read is in
+-- range. Assumes nothing.
 use mathlib.Core.Path.{_≡_, refl, ap, _∙_}
 use mathlib.Core.Bool.{Bool, true, false}
 use mathlib.Core.Logic.{_⊎_, inl, inr}

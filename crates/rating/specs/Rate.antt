@@ -53,8 +53,8 @@ countFor a = choiceOf (simplifiedOf a) .count
 abbrev pub FEWEST : ℕ
 FEWEST = 2
 
--- the number with which rating turns an analysis away: 5 or 6, then 16 where fewer than two of the components are present
--- after simplification (document 02, Five); 0 where it is rated on
+-- the number with which rating turns an analysis away: 5 or 6, then 16 where fewer than two of the components are
+-- present after simplification (document 02, Five); 0 where it is rated on
 unfoldable pub ratingRefusal : List ℕ → ℕ
 ratingRefusal a =
     ifElse (eqb (refusalOf a) 0) (ifElse (ltb (presentCount (mixOf a)) FEWEST) TOO_FEW 0) (refusalOf a)
@@ -64,7 +64,8 @@ checkedBy number code rated = ifElse (eqb number 0) rated (Refused number (ifEls
 
 -- ---- a proposed split
 
--- of chosen systems, a mixture and its inert part: 7 where its records are not those expected, else the answer to its cells
+-- of chosen systems, a mixture and its inert part: 7 where its records are not those expected, else the answer to its
+-- cells
 unfoldable pub splitBy : List ℕ → ℕ → List ℕ → ℕ → Split → Answer
 splitBy ch k mix n1 p =
     ifElse (fitsOf ch k (p .count) (p .systems) (p .codes))

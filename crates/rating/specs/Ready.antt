@@ -1,5 +1,5 @@
--- What holds of an analysis that 5, 6 and 16 let pass: its mixture, its chosen systems and its inert mixture are such that
--- every split of them can be worked out and the search can begin. Assumes nothing.
+-- What holds of an analysis that 5, 6 and 16 let pass: its mixture, its chosen systems and its inert mixture are such
+-- that every split of them can be worked out and the search can begin. Assumes nothing.
 use mathlib.Core.Path.{_≡_, refl, sym, ap, _∙_}
 use mathlib.Core.List.{List, [], _∷_}
 use mathlib.Core.Bool.{Bool, true, false, cond}
@@ -14,7 +14,8 @@ use Rattle.analysis.specs.Check as analysis
 use Rattle.analysis.specs.Ranges.{NoneOr}
 use Rattle.mixture.specs.Simplification.{simplifiedOf}
 use Rattle.mixture.specs.Inert.{inertFirst}
-use Rattle.mixture.specs.Bounds.{LEAST_PARTS, simplified-length, simplified-total, simplified-or-absent, inert-greatest, tenths-positive}
+use Rattle.mixture.specs.Bounds.{LEAST_PARTS, simplified-length, simplified-total, simplified-or-absent, inert-greatest}
+use Rattle.mixture.specs.Bounds.{tenths-positive}
 use Rattle.systems.specs.Systems.{COMPONENTS, hasOf}
 use Rattle.systems.specs.Members.{countTo}
 use Rattle.systems.specs.Choice.{presentAt, presentOf, presentCount}
@@ -73,12 +74,16 @@ module _ (a : List ℕ) (on : RatedOn a) where
   shared c l = go (presentAt (mixOf a) c) refl
     where
       go : (b : Bool) → presentAt (mixOf a) c ≡ b → Shared (mixOf a) (systemsFor a) (countFor a) c
-      go true e = inr (omega (arith, choosable .twice c l (present-is (mixOf a) c l ∙ e), count-sharers (systemsFor a) c (countFor a)))
+      go true e =
+          let twice = choosable .twice c l (present-is (mixOf a) c l ∙ e) in
+          inr (omega (arith, twice, count-sharers (systemsFor a) c (countFor a)))
       go false e = inl (omega (arith, ltb-false 0 (getD (mixOf a) c 0) e))
 
 module _ (a : List ℕ) (long : length a ≡ CODES) (on : RatedOn a) where
   pub million : totalOf (mixOf a) ≡ 1000000
-  million = sym (total-is (simplifiedOf a) (simplified-length a)) ∙ simplified-total a (tenths-positive a long (on-passed a on .0))
+  million =
+      sym (total-is (simplifiedOf a) (simplified-length a))
+      ∙ simplified-total a (tenths-positive a long (on-passed a on .0))
 
   pub inert-million : inertFirst a ≤ 1000000
   inert-million = inert-greatest a (tenths-positive a long (on-passed a on .0))
@@ -87,13 +92,20 @@ module _ (a : List ℕ) (long : length a ≡ CODES) (on : RatedOn a) where
   supplied : (s : ℕ) → s < countFor a → Supplied (mixOf a) (systemsFor a) (countFor a) s
   supplied s h =
       let y = supply (mixOf a) (systemOf (systemsFor a) s) (omega (arith, choosable a on .filled s h)) in
-      record { component = y .component; low = y .low; contained = y .contained; enough = enough y (simplified-or-absent a long (on-passed a on .0) (y .component) (y .low)) }
+      record {
+        component = y .component;
+        low = y .low;
+        contained = y .contained;
+        enough = enough y (simplified-or-absent a long (on-passed a on .0) (y .component) (y .low));
+      }
     where
-      enough : (y : Supply (mixOf a) (systemOf (systemsFor a) s)) → NoneOr LEAST_PARTS (getD (mixOf a) (y .component) 0) → countFor a ≤ getD (mixOf a) (y .component) 0
+      enough : (y : Supply (mixOf a) (systemOf (systemsFor a) s))
+          → NoneOr LEAST_PARTS (getD (mixOf a) (y .component) 0) → countFor a ≤ getD (mixOf a) (y .component) 0
       enough y (inl e) = absurd (omega (arith, y .some))
       enough y (inr l) = omega (arith, few a on .1)
 
   -- the search can begin: its start leaves no system empty
   pub input : SearchInput (mixOf a) (systemsFor a) (countFor a) LEVEL
   input =
-      enough-parts (mixOf a) (systemsFor a) (countFor a) LEVEL (omega arith) (omega (arith, million)) (chosen a on) supplied
+      enough-parts (mixOf a) (systemsFor a) (countFor a) LEVEL (omega arith) (omega (arith, million)) (chosen a on)
+      supplied
