@@ -76,7 +76,7 @@ code-passes codes (e ∷ es) c x h = go (eqb c (e .code)) (λ t. code-passes cod
   where
     go : (b : Bool) → (inRangeBy (statusIn (requiring codes es) c) x ≡ true → inRangeBy (statusIn es c) x ≡ true)
         → inRangeBy (ifElse b (requiredToo (isIn (e .code) codes) (e .status)) (statusIn (requiring codes es) c))
-            x ≡ true
+        x ≡ true
         → inRangeBy (ifElse b (e .status) (statusIn es c)) x ≡ true
     go true rest h = status-passes (isIn (e .code) codes) (e .status) x h
     go false rest h = rest h

@@ -97,7 +97,7 @@ split-by-records a p code fits passed e = rw (passed, e)
 pub split-fits : (a : List ℕ) (p : Split) (code : ℕ) → RatedOn a → p .count ≡ 3 * countFor a
     → p .systems ≡ systemsOf (systemsFor a) (countFor a) → p .codes ≡ codesOf (systemsFor a) (countFor a)
     → splitAnswer a p code ≡ proposedOf LIMIT (systemsFor a) (countFor a) (mixOf a)
-        (cellsOf (systemsFor a) (countFor a) (p .amounts)) (inertFirst a)
+    (cellsOf (systemsFor a) (countFor a) (p .amounts)) (inertFirst a)
 unfolding splitAnswer splitBy
 split-fits a p code passed c s d =
     ap (λ (n : ℕ). checkedBy n code (splitBy (systemsFor a) (countFor a) (mixOf a) (inertFirst a) p)) passed
@@ -106,8 +106,8 @@ split-fits a p code passed c s d =
 -- a rating says that 5, 6 and 16 let the analysis pass, and is that of the cells
 pub split-rated : (a : List ℕ) (p : Split) (code : ℕ) (w : ℤ) (s r : ℕ) → splitAnswer a p code ≡ Rated w s r
     → (RatedOn a) ×
-        (proposedOf LIMIT (systemsFor a) (countFor a) (mixOf a) (cellsOf (systemsFor a) (countFor a) (p .amounts))
-        (inertFirst a) ≡ Rated w s r)
+    (proposedOf LIMIT (systemsFor a) (countFor a) (mixOf a) (cellsOf (systemsFor a) (countFor a) (p .amounts))
+    (inertFirst a) ≡ Rated w s r)
 unfolding splitAnswer splitBy
 split-rated a p code w s r is =
     go (eqb (ratingRefusal a) 0) (fitsOf (systemsFor a) (countFor a) (p .count) (p .systems) (p .codes)) refl is
@@ -131,8 +131,8 @@ pub rated-zero : (a : List ℕ) (p : Split) (code : ℕ) (w : ℤ) (s r : ℕ) �
 rated-zero a p code w s r is =
     let e = split-rated a p code w s r is .1 in
     let z =
-        rated-is LIMIT (systemsFor a) (countFor a) (mixOf a) (cellsOf (systemsFor a) (countFor a) (p .amounts))
-        (inertFirst a) w s r e .2 in
+    rated-is LIMIT (systemsFor a) (countFor a) (mixOf a) (cellsOf (systemsFor a) (countFor a) (p .amounts))
+    (inertFirst a) w s r e .2 in
     is ∙ ap (Rated w s) z
 
 -- ---- the search
@@ -166,11 +166,11 @@ pub balance : (a : List ℕ) → length a ≡ CODES → RatedOn a → (allowance
     → Balance (mixOf a) (systemsFor a) (countFor a) LIMIT (min allowance ROUNDS) (searched a allowance .cells) s r
 balance a long passed allowance s r is =
     let u =
-        find-search (mixOf a) (systemsFor a) (countFor a) LEVEL LIMIT (min allowance ROUNDS)
-        (input-fits (mixOf a) (systemsFor a) (countFor a) LEVEL (input a long passed)) in
+    find-search (mixOf a) (systemsFor a) (countFor a) LEVEL LIMIT (min allowance ROUNDS)
+    (input-fits (mixOf a) (systemsFor a) (countFor a) LEVEL (input a long passed)) in
     rw u
-        (find-balanced (mixOf a) (systemsFor a) (countFor a) LIMIT LEVEL (min allowance ROUNDS) s r
-        (ap (λ (f : Found). f .search) (sym u) ∙ is))
+    (find-balanced (mixOf a) (systemsFor a) (countFor a) LIMIT LEVEL (min allowance ROUNDS) s r
+    (ap (λ (f : Found). f .search) (sym u) ∙ is))
 
 -- the found split, put back
 pub found-back : (a : List ℕ) → length a ≡ CODES → (allowance code code′ : ℕ) (w : ℤ) (s r : ℕ)
@@ -185,5 +185,5 @@ found-back a long allowance code code′ w s r is =
     ap (λ (p : Split). splitAnswer a p code′) f
     ∙ split-fits a (recordsOf ch k cells) code′ passed refl refl refl
     ∙ put-back-records (mixOf a) ch k LIMIT (min allowance ROUNDS) cells s r b (shared a passed) (inertFirst a)
-        (room a passed)
+    (room a passed)
     ∙ ap (λ (x : ℤ). Rated x s 0) (sym e)

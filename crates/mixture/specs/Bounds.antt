@@ -121,7 +121,8 @@ module _ (a : List ℕ) (l : length a ≡ CODES) (h : refusalOf a ≡ 0) where
       go (suc (suc zero)) k w = times-ten 100 (amountOf a 3) (omega arith) (w .propane-least)
       go (suc (suc (suc zero))) k w =
           butane-or-absent (amountOf a 4) (amountOf a 5) (amountOf a 6) (amountOf a 7) (amountOf a 8) (amountOf a 10)
-          (w .i-butane-least) (w .n-butane-least) (w .neo-pentane-least) (w .i-pentane-least) (w .n-pentane-least) (w .hexanes-least)
+          (w .i-butane-least) (w .n-butane-least) (w .neo-pentane-least) (w .i-pentane-least) (w .n-pentane-least)
+          (w .hexanes-least)
       go (suc (suc (suc (suc i)))) k w = absurd (omega arith)
 
   -- one that is absent stays 0

@@ -107,7 +107,8 @@ pub fn rate_by_search(a: Analysis, allowance: u32) -> Outcome
     }
 }
 
-// The rating of a sheet: 1 to 6, then 16 and that of its split, or by the search with the most rounds where it has none.
+// The rating of a sheet: 1 to 6, then 16, then that of its split, or by the search with the most rounds where it has
+// none.
 pub fn rate_sheet(s: &[u8]) -> Outcome
     ensures { λ r. ⌜ r ≡ sheetOutcome (now (s .entry)) (codeOf (r .answer)) ⌝ }
     ensures { λ r. ⌜ (numberOf (r .answer) ≡ 5 → FaultIn (getD (now (s .entry)) 0 0) (now (s .entry)) (codeOf (r .answer))) ⌝ }

@@ -23,7 +23,8 @@ use Rattle.sheet.specs.declared.Split.{Split}
 use Rattle.sheet.specs.declared.Written.the-variants as w
 use Rattle.sheet.specs.Components.{COMPONENT_BYTES, refusalBy, codeRefusal, codesReading, countOf, componentBytes, zeroListed}
 use Rattle.sheet.specs.Bytes.{bytesOf}
-use Rattle.sheet.specs.Split.{RECORDS, LONGEST_SPLIT, RECORD_BYTES, splitCounts, allowedCount, recordBytes, splitBytes}
+use Rattle.sheet.specs.Split.{RECORDS, LONGEST_SPLIT, RECORD_BYTES, splitCounts, allowedCount, recordBytes}
+use Rattle.sheet.specs.Split.{splitBytes}
 use Rattle.sheet.specs.Sheet.{LISTED, sheetOf, withSplit, withComponents, sectionsOf}
 use Rattle.sheet.specs.Read.{amountsOf, amountsRefusal, refusedSheet, contentOf, withAnswer, afterCodes, readBy, readOf}
 use Rattle.sheet.specs.Write.{writeRefusal, writtenOf, leftOf}

@@ -196,8 +196,8 @@ of-test : (present : ℕ) (ch : List ℕ) (k : ℕ) → T (choosable present ch 
 unfolding choosable knownAt risesAt twiceAt filledAt
 of-test present ch k t =
     let (number, known, rises, twice, filled) =
-        five (eqb k (numberOf (ones present))) (everyTo (knownAt ch) k) (everyTo (λ i. everyTo (risesAt ch i) k) k)
-        (everyTo (twiceAt present ch k) COMPONENTS) (everyTo (filledAt present ch) k) t in
+    five (eqb k (numberOf (ones present))) (everyTo (knownAt ch) k) (everyTo (λ i. everyTo (risesAt ch i) k) k)
+    (everyTo (twiceAt present ch k) COMPONENTS) (everyTo (filledAt present ch) k) t in
     record {
       number = eqb→eq k (numberOf (ones present)) number;
       known = λ i h. record { listed = to-true (knownAt ch i) (eachTo (knownAt ch) k known i h) };
@@ -242,10 +242,10 @@ passes-always : (present : ℕ) (key : ℕ → ℕ) → present < 2 ^ COMPONENTS
 unfolding marksOf enough first second goodMarks
 passes-always present key l h b =
     pass-good key (presentIn present) candidates tt b (goodMarks present) 2 (keep present order)
-        (passOf key candidates (keep present order) 1 (replicate NUMBERS false))
+    (passOf key candidates (keep present order) 1 (replicate NUMBERS false))
     (pass-good key (presentIn present) candidates tt b (second present) 1 (keep present order) (replicate NUMBERS false)
     (passed (leb 2 (ones present)) (first present) (eachTo enough (2 ^ COMPONENTS) each-set present l)
-        (to-true (leb 2 (ones present)) (le→leb 2 (ones present) h))))
+    (to-true (leb 2 (ones present)) (le→leb 2 (ones present) h))))
 
 module _ (mix : List ℕ) (h : 2 ≤ presentCount mix) where
   tested : T (good (presentOf mix) (chooseOf mix))
@@ -258,7 +258,7 @@ module _ (mix : List ℕ) (h : 2 ≤ presentCount mix) where
   choose-choosable =
       of-test (presentOf mix) (chooseOf mix) (length (chooseOf mix))
       (and-l (choosable (presentOf mix) (chooseOf mix) (length (chooseOf mix)))
-          (choosable (presentOf mix) (paddedOf (chooseOf mix)) (length (chooseOf mix))) tested)
+      (choosable (presentOf mix) (paddedOf (chooseOf mix)) (length (chooseOf mix))) tested)
 
   -- and so of the choice as it is answered
   pub choice-choosable : Choosable (presentOf mix) (choiceOf mix .systems) (choiceOf mix .count)
@@ -266,4 +266,4 @@ module _ (mix : List ℕ) (h : 2 ≤ presentCount mix) where
   choice-choosable =
       of-test (presentOf mix) (paddedOf (chooseOf mix)) (length (chooseOf mix))
       (and-r (choosable (presentOf mix) (chooseOf mix) (length (chooseOf mix)))
-          (choosable (presentOf mix) (paddedOf (chooseOf mix)) (length (chooseOf mix))) tested)
+      (choosable (presentOf mix) (paddedOf (chooseOf mix)) (length (chooseOf mix))) tested)

@@ -64,7 +64,7 @@ module _ (k l : ℕ → ℕ) (systems : List ℕ)
     best-alike [] f b p = refl
     best-alike (s ∷ xs) f b p =
         best-alike xs (λ t e. f t (elem-there t s xs e)) (betterOf k marks c b s)
-            (better-cases k marks c Known b s (λ h o. f s (elem-here s xs)) (λ h. p))
+        (better-cases k marks c Known b s (λ h o. f s (elem-here s xs)) (λ h. p))
         ∙ ap (fold (betterOf l marks c) xs) (better-alike b s p (λ o. f s (elem-here s xs)))
 
     fittest-alike : c < COMPONENTS → fittestOf k systems marks c ≡ fittestOf l systems marks c
@@ -79,7 +79,7 @@ module _ (k l : ℕ → ℕ) (systems : List ℕ)
     unfolding takeOf
     take-alike wanted h =
         ap (λ x. elim (ltb (containingOf systems marks c) wanted) [ true ↦ set marks x true | false ↦ marks ])
-            (fittest-alike h)
+        (fittest-alike h)
 
   pass-alike : (wanted : ℕ) (components : List ℕ) → T (every (λ c. ltb c COMPONENTS) components) → (marks : List Bool)
       → passOf k systems components wanted marks ≡ passOf l systems components wanted marks
@@ -87,10 +87,10 @@ module _ (k l : ℕ → ℕ) (systems : List ℕ)
   pass-alike wanted [] t marks = refl
   pass-alike wanted (c ∷ components) t marks =
       pass-alike wanted components (and-r (ltb c COMPONENTS) (every (λ c. ltb c COMPONENTS) components) t)
-          (takeOf k systems wanted marks c)
+      (takeOf k systems wanted marks c)
       ∙ ap (passOf l systems components wanted)
-          (take-alike marks c wanted
-          (ltb→lt c COMPONENTS (and-l (ltb c COMPONENTS) (every (λ c. ltb c COMPONENTS) components) t)))
+      (take-alike marks c wanted
+      (ltb→lt c COMPONENTS (and-l (ltb c COMPONENTS) (every (λ c. ltb c COMPONENTS) components) t)))
 
   pub marks-alike : (components : List ℕ) → T (every (λ c. ltb c COMPONENTS) components)
       → marksOf k systems components ≡ marksOf l systems components
@@ -135,8 +135,8 @@ choose-all mix p =
     ∙ ap (chosenOf candidates)
     (marks-alike (standingOf mix) (fitnessOf mix) candidates
     (λ s t e f.
-        standing-fitter mix s t
-        (ap (λ m. presentIn m s) p ∙ three-in s e ∙ sym (ap (λ m. presentIn m t) p ∙ three-in t f)))
+    standing-fitter mix s t
+    (ap (λ m. presentIn m s) p ∙ three-in s e ∙ sym (ap (λ m. presentIn m t) p ∙ three-in t f)))
     order tt)
 
 -- for every mixture of all components

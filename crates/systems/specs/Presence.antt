@@ -58,8 +58,8 @@ in-mask f (suc n) i (suc c) h =
     let e : suc c ≡ 1 + c = omega arith in
     ap (λ (x : ℕ). eqb (x % 2) 1)
     (ap (λ (x : ℕ). (maskFrom f n (i + 1) * 2 + bit (f i)) / 2 ^ x) e
-        ∙ sym (shr-shr (maskFrom f n (i + 1) * 2 + bit (f i)) 1 c)
-        ∙ ap (λ (x : ℕ). x / 2 ^ c) (bit-high (f i) (maskFrom f n (i + 1))))
+    ∙ sym (shr-shr (maskFrom f n (i + 1) * 2 + bit (f i)) 1 c)
+    ∙ ap (λ (x : ℕ). x / 2 ^ c) (bit-high (f i) (maskFrom f n (i + 1))))
     ∙ in-mask f n (i + 1) c (omega arith) ∙ ap f (omega arith)
 
 -- the number of the tests that pass from i on
@@ -83,7 +83,7 @@ both-mask f g (suc n) i =
     and-step (maskFrom f n (i + 1) * 2 + bit (f i)) (maskFrom g n (i + 1) * 2 + bit (g i))
     ∙ ap₂ (λ (x y : ℕ). x * 2 + y)
     (ap₂ bitAnd (bit-high (f i) (maskFrom f n (i + 1))) (bit-high (g i) (maskFrom g n (i + 1)))
-        ∙ both-mask f g n (i + 1))
+    ∙ both-mask f g n (i + 1))
     (ap₂ min (bit-low (f i) (maskFrom f n (i + 1))) (bit-low (g i) (maskFrom g n (i + 1))) ∙ go (f i) (g i))
   where
     go : (a b : Bool) → min (bit a) (bit b) ≡ bit (a && b)
@@ -135,7 +135,7 @@ pub two-present : (mix : List ℕ) → 0 < getD mix 0 0 → (c : ℕ) → 0 < c 
     → 2 ≤ presentCount mix
 two-present mix m c p h x =
     rw (present-count mix)
-        (count-two (presentAt mix) COMPONENTS 0 c p h (lt-ltb 0 (getD mix 0 0) m) (lt-ltb 0 (getD mix c 0) x))
+    (count-two (presentAt mix) COMPONENTS 0 c p h (lt-ltb 0 (getD mix 0 0) m) (lt-ltb 0 (getD mix c 0) x))
 
 -- and how many of a system's
 pub present-in-is : (mix : List ℕ) (system : ℕ)
@@ -143,7 +143,7 @@ pub present-in-is : (mix : List ℕ) (system : ℕ)
 unfolding presentIn presentOf maskOf countTo countFrom
 present-in-is mix system =
     ap ones (both-mask (hasOf system) (presentAt mix) COMPONENTS 0)
-        ∙ ones-mask (λ c. hasOf system c && presentAt mix c) COMPONENTS 0 ∙ omega arith
+    ∙ ones-mask (λ c. hasOf system c && presentAt mix c) COMPONENTS 0 ∙ omega arith
 
 -- a component that a system contains and that is present
 pub record Supply (mix : List ℕ) (system : ℕ) : Type 0 where
@@ -165,7 +165,7 @@ count-some P f (suc n) h k = go (f n) refl (λ l. count-some P f n l (λ c i e. 
 pub supply : (mix : List ℕ) (system : ℕ) → 1 ≤ presentIn (presentOf mix) system → Supply mix system
 supply mix system h =
     count-some (Supply mix system) (λ c. hasOf system c && presentAt mix c) COMPONENTS
-        (rw (present-in-is mix system) at h)
+    (rw (present-in-is mix system) at h)
     (λ c l e. go c l (hasOf system c) (presentAt mix c) refl refl e)
   where
     go : (c : ℕ) → c < COMPONENTS → (t u : Bool) → hasOf system c ≡ t → presentAt mix c ≡ u → (t && u) ≡ true
@@ -211,7 +211,7 @@ pub standing-more : (mix : List ℕ) (s t : ℕ) → elem s candidates ≡ true
 unfolding standingOf
 standing-more mix s t e h =
     first-decides (presentIn (presentOf mix) s) (presentIn (presentOf mix) t) (allTo mix COMPONENTS + 1)
-        (fitnessOf mix s) (fitnessOf mix t) (omega (arith, fitness-le mix s e)) h
+    (fitnessOf mix s) (fitnessOf mix t) (omega (arith, fitness-le mix s e)) h
 
 -- and of two with as many the fitter
 pub standing-fitter : (mix : List ℕ) (s t : ℕ) → presentIn (presentOf mix) s ≡ presentIn (presentOf mix) t
