@@ -202,10 +202,11 @@ def trace_gas(draw):
     code = draw.pick((2, 3, *BUTANE_CODES))
     a[code] = ref.RANGE[code][0] + draw.pick((0, 0, 1, draw.below(10)))
     inert = draw.pick((11, 12))
-    a[inert] = draw.between(300, 100000)
+    a[inert] = draw.between(500, 100000)
     if draw.one_in(2):
         a[23 - inert] = draw.between(50, 100000)
     a[1] = draw.between(999900, 1000100) - sum(a)
+    assert not ref.check(a)
     return tuple(a)
 
 
@@ -214,8 +215,8 @@ def alone_gas(draw):
     return set_gas(draw, SETS[0])
 
 
-GASES = (even_gas, even_gas, even_gas, small_gas, small_gas, small_gas,
-         limit_gas, rich_gas, tie_gas, lean_gas, lean_gas, heavy_gas,
+GASES = (even_gas, even_gas, small_gas, small_gas, small_gas, limit_gas,
+         limit_gas, rich_gas, rich_gas, tie_gas, lean_gas, lean_gas, heavy_gas,
          rich_lean_gas, trace_gas, alone_gas)
 
 
@@ -460,7 +461,7 @@ def any_split(draw, pool, kind):
 SPLIT_KINDS = ("put-back", "put-back", "near", "near", "near", "border",
                "border", "wide", "start", "miss-by-one", "miss", "wrap",
                "wrap", "empty", "empty", "all-zero", "misfit", "misfit",
-               "miscount", "absent-held", "alone", "other-gas")
+               "miscount", "absent-held", "alone", "other-gas", "other-gas")
 
 
 # -------------------------------------------------------------- sheets
@@ -524,7 +525,7 @@ def codes_sheet(draw, records):
             j = draw.below(len(listed))
             listed[i], listed[j] = listed[j], listed[i]
         elif which == 2 and len(listed) > 1:
-            del listed[i]
+            del listed[draw.pick((0, i))]       # methane, or any
         elif which == 3 and len(listed) < 11:
             listed.insert(i, listed[i])
         elif which == 4 and len(listed) < 11:
@@ -646,7 +647,7 @@ def unfit(draw, analysis):
     a = list(analysis)
     code = draw.pick(CODES)
     least, greatest = ref.RANGE[code]
-    a[code] = draw.pick((0, least - 1, greatest + 1, U32 - 1,
+    a[code] = draw.pick((0, 1, least - 1, greatest + 1, U32 - 1,
                          a[code] + 300, max(a[code] - 300, 0)))
     return tuple(a)
 
