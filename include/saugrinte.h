@@ -5,17 +5,22 @@
    Every function answers every input. An answer holds a number: 0 means done, anything else is a refusal, which changes
    no buffer. Its place tells more: for 2 to 4 the record's place from 0, for 5 a code at fault, for all else 0.
 
-   amounts[k] is the amount in parts of code k, 0 where it is absent. At 0, 9, 13, 14 and 15 no amount is legal:
-   anything but 0 there is refused 5.
+   amounts[k] is the amount in parts of code k, 0 where it is absent; only methane must be there. At 0, 9, 13, 14 and 15
+   no amount is legal: anything but 0 there is refused 5.
 
    A split is a count of records and three arrays: record i gives amount parts[i] of component codes[i] to system
-   systems[i]. Codes in a split are 1 methane, 2 ethane, 3 propane, 14 butanes. A rated gas's split has 9 records today.
-   Places from the count on are not read, and a call that gives a split writes zeros there.
+   systems[i]. Codes in a split are 1 methane, 2 ethane, 3 propane, 14 butanes. A rated gas's split has three records
+   for each system chosen: 6 where two of these four components are present, else 9. A system's records are those of all
+   its components, with amount 0 where the gas has none. Places from the count on are not read, and a call that gives a
+   split writes zeros there.
 
    A program that was compiled against this header outlives a release with the same first figure of SAUGRINTE_VERSION:
    no size, number or name here changes, new ones may come. The arrays have room for requests to come (hydrogen, splits
    of up to 21 records, sheets of up to 188 bytes), so a caller takes a split's records by its count and a sheet by its
    length.
+
+   Since version 1.2 codes 2 to 5 may be absent, which was refused 5 before, and a split may have 6 records. A gas that
+   was rated before has the rating, the split and the rounds that it had.
 
    The functions keep nothing between calls, so several threads may call them at once. They use no heap, no floating
    point but in saugrinte_controller, and of a C library memcpy alone. No pointer may be null, not even with a length,
@@ -36,7 +41,7 @@
 extern "C" {
 #endif
 
-#define SAUGRINTE_VERSION 10100     /* of this header, 1.1.0: 10000, 100 and 1 times its three figures */
+#define SAUGRINTE_VERSION 10200     /* of this header, 1.2.0: 10000, 100 and 1 times its three figures */
 
 #define SAUGRINTE_CODES 16          /* entries of an analysis, one for each code from 0 to 15 */
 #define SAUGRINTE_RECORDS 21        /* room for a split's records */
@@ -50,9 +55,9 @@ enum {
     SAUGRINTE_UNKNOWN = 2,          /* unknown: code 0, 14 or above in components */
     SAUGRINTE_RETIRED = 3,          /* retired: code 9 or 13 in components */
     SAUGRINTE_OUT_OF_ORDER = 4,     /* out of order: a code not above the one before */
-    SAUGRINTE_OUT_OF_RANGE = 5,     /* out of range: an amount outside its range, or one of codes 1 to 5 absent */
+    SAUGRINTE_OUT_OF_RANGE = 5,     /* out of range: an amount outside its range, or methane absent */
     SAUGRINTE_TOTAL = 6,            /* total: the amounts' sum outside 999900..1000100 */
-    SAUGRINTE_MISFIT = 7,           /* misfit: the split's systems or codes are not the nine expected */
+    SAUGRINTE_MISFIT = 7,           /* misfit: not three records for each system chosen, or other systems or codes */
     SAUGRINTE_UNSUMMED = 8,         /* unsummed: a component's amounts in the split don't add up */
     SAUGRINTE_EMPTY_SYSTEM = 9,     /* empty system: a chosen system has no parts */
     SAUGRINTE_WIDE = 10,            /* wide: the split's spread is above 500000 units */
@@ -60,6 +65,7 @@ enum {
     SAUGRINTE_NO_MIXTURE = 12,      /* no mixture: amounts whose sum is 0 or above 1000000 */
     SAUGRINTE_NO_SYSTEM = 13,       /* no system: not one of those below, at saugrinte_partial_number */
     SAUGRINTE_SHORT_BLANK = 14,     /* short blank: the writer's buffer is too short */
+    SAUGRINTE_TOO_FEW = 16,         /* too few: fewer than two of the four components after simplification */
     SAUGRINTE_SHARE = 17            /* share: a share outside the system's range of validity */
 };
 
@@ -114,21 +120,21 @@ uint32_t saugrinte_version(void);
 /* Rates a sheet: its own split where it has one, else the split that the search finds in 4000 rounds.
    Done: *figures holds rating, spread and rounds; *count and the three arrays the split found, or 0 and zeros for a
    sheet with its own split.
-   Refused 1 to 11: no buffer is changed. */
+   Refused 1 to 6, then 16, then 7 to 11: no buffer is changed. */
 saugrinte_answer saugrinte_rate(const uint8_t *sheet, size_t length, saugrinte_figures *figures, size_t *count,
                                 uint8_t systems[SAUGRINTE_RECORDS], uint8_t codes[SAUGRINTE_RECORDS],
                                 uint32_t parts[SAUGRINTE_RECORDS]);
 
 /* Rates an analysis by the search, with at most `allowance` rounds; above 4000 counts as 4000.
-   Done: *figures holds rating, spread and rounds; *count and the three arrays the split found.
-   Refused 5, 6, 11: no buffer is changed. */
+   Done: *figures holds rating, spread and rounds; *count, 6 or 9, and the three arrays the split found.
+   Refused 5, then 6, 16, 11: no buffer is changed. */
 saugrinte_answer saugrinte_search(const uint32_t amounts[SAUGRINTE_CODES], uint32_t allowance,
                                   saugrinte_figures *figures, size_t *count, uint8_t systems[SAUGRINTE_RECORDS],
                                   uint8_t codes[SAUGRINTE_RECORDS], uint32_t parts[SAUGRINTE_RECORDS]);
 
 /* Rates an analysis with a proposed split.
    Done: *figures holds rating, spread and 0.
-   Refused 5 to 10, 7 also where count is not nine: *figures is unchanged. */
+   Refused 5, then 6, 16, 7 to 10, 7 also where count is not three times the systems chosen: *figures is unchanged. */
 saugrinte_answer saugrinte_rate_split(const uint32_t amounts[SAUGRINTE_CODES], size_t count,
                                       const uint8_t systems[SAUGRINTE_RECORDS],
                                       const uint8_t codes[SAUGRINTE_RECORDS],
@@ -164,7 +170,7 @@ saugrinte_answer saugrinte_partial_number(uint32_t system, uint32_t n1, uint32_t
                                           int64_t *number);
 
 /* Reads a sheet.
-   Done: amounts holds the analysis, *count 0 or 9, the three arrays the split's records as they stand in the
+   Done: amounts holds the analysis, *count 0, 6 or 9, the three arrays the split's records as they stand in the
    sheet, and zeros after them.
    Refused 1 to 6: no buffer is changed. */
 saugrinte_answer saugrinte_read(const uint8_t *sheet, size_t length, uint32_t amounts[SAUGRINTE_CODES],
@@ -174,7 +180,7 @@ saugrinte_answer saugrinte_read(const uint8_t *sheet, size_t length, uint32_t am
 /* Writes the sheet of an analysis and a split, or of none (count 0), into a buffer of `room` bytes. The split's
    records are written as given.
    Done: *length holds the sheet's length, the buffer's first *length bytes the sheet; the others are unchanged.
-   Refused 1 (count neither 0 nor 9), then 5, 6, 14: the buffer and *length are unchanged. */
+   Refused 1 (count not 0, 6 or 9), then 5, 6, 14: the buffer and *length are unchanged. */
 saugrinte_answer saugrinte_write(const uint32_t amounts[SAUGRINTE_CODES], size_t count,
                                  const uint8_t systems[SAUGRINTE_RECORDS], const uint8_t codes[SAUGRINTE_RECORDS],
                                  const uint32_t parts[SAUGRINTE_RECORDS], uint8_t *buffer, size_t room,

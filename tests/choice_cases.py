@@ -1,7 +1,7 @@
 #!/usr/bin/env python3
 """The mixtures of crates/choice_cases and the systems that are chosen for them, worked out from 000 alone:
 A.3.1 for the simplified mixtures of gases, formula (A.1) with the sums of Table A.3 as exact fractions for the
-fitness, and A.3.2.4 for the choice.
+fitness, A.3.2.4 for the choice, and request Five for absent components.
 
   choice_cases.py            prints the lines that the program has to print
   choice_cases.py --check    compares the program's mixtures and its file `stdout` with them
@@ -41,19 +41,25 @@ def fitness(mixture, system):
     return sum(Fraction(mixture[c] * 100, SUMS[c]) for c in SYSTEMS[system])
 
 
-def chosen_by(fit, sequence):
+def standing(mixture, system):
+    """The number of components present goes before the fitness."""
+    return sum(mixture[c] > 0 for c in SYSTEMS[system]), fitness(mixture, system)
+
+
+def chosen_by(rank, sequence):
     taken = []
     for wanted in (1, 2):
         for c in sequence:
             if sum(c in SYSTEMS[s] for s in taken) < wanted:
                 free = [s for s in sorted(SYSTEMS) if c in SYSTEMS[s] and s not in taken]
-                most = max(fit(s) for s in free)
-                taken.append(min(s for s in free if fit(s) == most))
+                most = max(rank(s) for s in free)
+                taken.append(min(s for s in free if rank(s) == most))
     return sorted(taken)
 
 
 def chosen(mixture):
-    return chosen_by(lambda s: fitness(mixture, s), SEQUENCE)
+    """Absent components are passed over."""
+    return chosen_by(lambda s: standing(mixture, s), [c for c in SEQUENCE if mixture[c] > 0])
 
 
 def sequences_that_matter():
@@ -83,18 +89,42 @@ MIXTURES = [
     (100000, 400000, 300000, 200000),
     (100000, 700000, 150000, 50000),
     (300000, 50000, 600000, 50000),
-    (0, 0, 0, 0),                                   # all are
+    (0, 0, 0, 0),                                   # none is present
+    (1000000, 0, 0, 0),                             # one
+    (0, 1000000, 0, 0),
+    (0, 0, 1000000, 0),
+    (0, 0, 0, 1000000),
+    (989796, 10204, 0, 0),                          # two
+    (994898, 0, 5102, 0),
+    (979592, 0, 0, 20408),
+    (0, 500000, 500000, 0),
+    (0, 500000, 0, 500000),
+    (0, 0, 500000, 500000),
+    (999992, 8, 0, 0),                              # hardly two
+    (999992, 0, 8, 0),
+    (999992, 0, 0, 8),
+    (900000, 60000, 40000, 0),                      # three
+    (900000, 60000, 0, 40000),
+    (900000, 0, 60000, 40000),
+    (0, 300000, 300000, 400000),
+    (0, 200000, 500000, 300000),
+    (530000, 210000, 0, 260000),                    # 2 goes before 4
+    (500000, 260000, 0, 240000),                    # 2 and 4 are equally fit
+    (4294967295, 4294967295, 0, 0),
     (4294967295, 4294967295, 4294967295, 4294967295),
 ]
 
 
 def lines():
-    return [f"{len(chosen(m))} {' '.join(map(str, chosen(m)))}\n" for m in MIXTURES]
+    return [' '.join(map(str, [len(chosen(m)), *chosen(m)])) + '\n' for m in MIXTURES]
 
 
 def main():
     assert simplified(TABLE_A1) == (979229, 16803, 2438, 1530)
     assert [chosen(m) for m in MIXTURES[:4]] == [[4, 7, 8]] * 3 + [[2, 7, 8]]
+    # every set of components present; two choose two systems, three or four three
+    sizes = {frozenset(c for c in range(4) if m[c]): len(chosen(m)) for m in MIXTURES}
+    assert len(sizes) == 16 and all(n == min(len(there), 3) for there, n in sizes.items() if len(there) != 1)
     # no order of the components, nor one with a component left out, chooses otherwise; only one with two left out
     matter = sequences_that_matter()
     assert all(len(set(sequence)) < 3 for sequence in matter) and (PROPANE, ETHANE, PROPANE, ETHANE) in matter

@@ -29,7 +29,7 @@ import saugrinte as ref  # noqa: E402
 
 DEFAULT_SHEETS, DEFAULT_SEED = 100000, 1
 PART = 5000                 # sheets of one part: a seed and a run of the driver of its own
-SEARCH_ONE_IN = 32          # good sheets that ask for a search
+SEARCH_ONE_IN = 24          # good sheets that ask for a search
 EXACT = 150                 # ratings of proposed splits compared with the exact fraction, in a part
 SECONDS = 600               # the longest that the driver may take for a part, or to be built
 DISTANCE = 40               # units; every rating is nearer than this to the exact one
@@ -139,7 +139,8 @@ def search(analysis, allowance):
 
 
 def rate_split(analysis, count, records):
-    return check(analysis) or (ref.rate_split(analysis, records) if count == 9 else ref.Refusal(7))
+    """Of so many records; no split has the count where fewer are given, for the driver fills no record that fits."""
+    return check(analysis) or ref.rate_split(analysis, records[:count] if count <= len(records) else ())
 
 
 def read(sheet):
@@ -197,10 +198,11 @@ class Cases:
         expected = []
         for room in range(low, high + 1):
             buffer = bytearray([fill]) * room
-            if count not in (0, 9):
+            if count not in ref.SPLIT_COUNTS:
                 result = ref.Refusal(1)
             else:
-                result = check(analysis) or ref.write(analysis, records if count else None, buffer)
+                given = (*(records or ()), *((fill, fill, fill * 0x01010101),) * RECORDS)[:count]
+                result = check(analysis) or ref.write(analysis, given, buffer)
             length = None if isinstance(result, ref.Refusal) else big((result,), WORD)
             expected.append(Expected(result, block(fill, bytes(buffer), room) + block(fill, length, WORD)))
         self.add(kind, 'write %02x %d %s %s %d %d' % (fill, count, amounts(analysis).hex(), packed(records), low, high),
@@ -259,7 +261,7 @@ def sheet_cases(cases, exact, kind, sheet):
     if isinstance(got, ref.Refusal):
         return
     analysis, split = got
-    cases.write('write back', analysis, 9 if split else 0, split, len(sheet), len(sheet))
+    cases.write('write back', analysis, len(split or ()), split, len(sheet), len(sheet))
     if isinstance(result, ref.Refusal):
         return
     exact.compare(analysis, result.split, result.rating, split is None)
@@ -268,7 +270,7 @@ def sheet_cases(cases, exact, kind, sheet):
         if isinstance(back, ref.Refusal) or back[:3] != result[:3]:
             raise Difference('the reference does not rate the split found for %s' % sheet.hex())
         cases.search('found', analysis, ref.MOST_ROUNDS, result)
-        cases.split('found, put back', analysis, 9, result.split, back)
+        cases.split('found, put back', analysis, len(result.split), result.split, back)
         cases.rate('found, put back as a sheet', ref.layout(analysis, result.split), back)
 
 
@@ -323,6 +325,93 @@ def seldom_cases(cases, exact, seed):
         sheet_cases(cases, exact, 'count above 11', long_sheet(draw))
 
 
+# Counts of a split's records; the large ones have the last binary digits of 6 and 9.
+COUNTS = 0, 1, 3, 5, 6, 7, 8, 9, 10, 12, 21, 22, 255, 256 + 6, 256 + 9, U32 + 6, U32 + 9, U64 - 1
+
+COMPONENTS = 'methane', 'ethane', 'propane', 'butane'
+BUTANE_FROM = {'butanes': (4, 5), 'pentanes': (6, 7, 8), 'hexanes+': (10,), 'all': gases.BUTANE_CODES}
+SYSTEMS = {1: 'methane alone', 2: 'two systems', 3: 'three systems', 4: 'three systems'}   # by components present
+
+
+def set_kinds():
+    """(kind, components present beside methane, codes of butane): every set, butane from each source."""
+    for components in gases.SETS:
+        kind = 'present: ' + ', '.join(COMPONENTS[c] for c in sorted({ref.M, *components}))
+        for source in BUTANE_FROM if ref.B in components else ('',):
+            yield kind + (' from ' + source if source else ''), components, BUTANE_FROM.get(source)
+
+
+def split_sheet_cases(cases, kind, analysis, records):
+    """A proposed split in a sheet, and by the call."""
+    sheet = ref.layout(analysis, records)
+    got, result = read(sheet)
+    cases.rate(kind, sheet, result)
+    cases.read('read', sheet, got)
+    cases.split(kind, analysis, len(records), records[:RECORDS], rate_split(analysis, len(records), records))
+
+
+def count_cases(cases, draw, analysis):
+    """Splits of six and of nine records, right ones and wrong, and of 3, 12 and 255."""
+    got = gases.searched(analysis)
+    right = gases.start_split(analysis) if isinstance(got, ref.Refusal) else got.split
+    systems = SYSTEMS[len(ref.present(ref.simplify(analysis)))]
+    for records in (right, gases.random_split(draw, analysis), gases.miscounted(draw, right)):
+        split_sheet_cases(cases, '%d records, %s' % (len(records), systems), analysis, records)
+    for count in (3, 12, 255):
+        records, kind = (right * 43)[:count], '%d records' % count
+        split_sheet_cases(cases, kind, analysis, records)
+        room = draw.pick((0, ref.LONGEST, len(ref.layout(analysis, records))))
+        cases.write('write, ' + kind, analysis, count, records[:RECORDS], room, room)
+
+
+def trace_gas(draw, code):
+    """Methane, one hydrocarbon at its least amount, carbon dioxide and perhaps nitrogen."""
+    a = [0] * 14
+    a[code], a[11], a[12] = ref.RANGE[code][0], draw.between(300, 50000), draw.pick((0, draw.between(50, 50000)))
+    a[1] = 1000000 - sum(a)
+    return tuple(a)
+
+
+def out_of_order_cases(cases, draw):
+    """Methane and inert gases alone, out of total or out of range besides: 6 and 5 come before 16, and 16 before 7."""
+    a = list(gases.alone_gas(draw))
+    a[12] = max(a[12], 500)
+    a[1] = min(a[1], 900000)
+    total = draw.pick((999899, 1000101, draw.between(700000, 999899)))
+    light = (0, total - sum(a[2:]), *a[2:])
+    faulty = (0, 399999, *a[2:11], draw.pick((49, 100001)), *a[12:])
+    fit = (0, 1000000 - sum(a[2:]), *a[2:])
+    six = gases.start_split(fit)
+    for kind, analysis in (('methane alone', fit), ('methane alone, out of total', light),
+                           ('methane alone, out of range', faulty)):
+        for records in (None, six, gases.miscounted(draw, six)):
+            sheet = ref.layout(analysis, records)
+            got, result = read(sheet)
+            cases.rate(kind, sheet, result)
+            cases.read('read', sheet, got)
+            count = draw.pick(COUNTS)
+            cases.split(kind, analysis, count, records or (), rate_split(analysis, count, records or ()))
+        for allowance in (0, 4000, U32 - 1):
+            cases.search(kind, analysis, allowance, search(analysis, allowance))
+
+
+def lean_cases(cases, exact, seed):
+    """Absent components: each set of those present, traces, counts of a split, the order of refusals."""
+    draw = gases.Draw(seed + 4)
+    for kind, components, codes in set_kinds():
+        analysis = gases.set_gas(draw, components, codes)
+        sheet_cases(cases, exact, kind, ref.layout(analysis, None))
+        count_cases(cases, draw, analysis)
+        got = gases.searched(analysis)
+        if isinstance(got, ref.Rating):
+            for allowance in {max(got.rounds, 1) - 1, got.rounds}:
+                cases.search(kind, analysis, allowance, search(analysis, allowance))
+    for code in (2, 3, *gases.BUTANE_CODES):
+        sheet_cases(cases, exact, 'trace of code %d' % code, ref.layout(trace_gas(draw, code), None))
+    for _ in range(5):
+        out_of_order_cases(cases, draw)
+
+
 def at_no_code(draw, analysis):
     a = list(wide(analysis))
     a[draw.pick(NO_CODE)] = draw.pick((1, 100, U32 - 1))
@@ -345,8 +434,8 @@ def call_cases(cases, seed, sheets):
         kind = 'rate split ' + kind
         if draw.one_in(32):
             kind, analysis = 'rate split, amount at no code', at_no_code(draw, analysis)
-        count = draw.pick((0, 1, 8, 10, 21, 22, 255, U64 - 1)) if draw.one_in(32) else 9
-        if count != 9:
+        count = draw.pick(COUNTS) if draw.one_in(32) else len(records)
+        if count != len(records):
             kind = 'rate split, another count'
         cases.split(kind, analysis, count, records, rate_split(analysis, count, records))
     for case in itertools.islice(gases.partial_cases(seed), sheets // 5):
@@ -355,13 +444,13 @@ def call_cases(cases, seed, sheets):
         kind = 'write, a split' if records else 'write, no split'
         if draw.one_in(32):
             kind, analysis = 'write, amount at no code', at_no_code(draw, analysis)
-        count = draw.pick((1, 8, 10, 21, 22, 255, U64 - 1)) if draw.one_in(32) else 9 if records else 0
-        if count not in (0, 9):
+        count = draw.pick(COUNTS) if draw.one_in(16) else len(records or ())
+        if count != len(records or ()):
             kind = 'write, another count'
         cases.write(kind, analysis, count, records, room, room)
     for analysis, records, _ in itertools.islice(gases.writer_cases(seed + 2), sheets // 500):
         need = len(ref.layout(analysis, records))
-        cases.write('write, every room', analysis, 9 if records else 0, records, 0, need + 3)
+        cases.write('write, every room', analysis, len(records or ()), records, 0, need + 3)
     for _ in range(sheets // 20):
         edge = draw.between(-200, 200) * ref.UNITS + draw.pick((0, 5000000, -5000000)) + draw.pick((-1, 0, 1))
         any_rating = draw.step() - I64
@@ -449,6 +538,7 @@ def part_cases(seed, sheets, first):
         for case in gases.share_cases(seed):
             cases.partial('ends of shares, ' + system_word(case[0]), *case)
     seldom_cases(cases, exact, seed)
+    lean_cases(cases, exact, seed)
     call_cases(cases, seed, sheets)
     for kind, sheet in itertools.islice(gases.sheets(seed, SEARCH_ONE_IN), sheets):
         sheet_cases(cases, exact, kind, sheet)
@@ -493,12 +583,34 @@ LEAST = {
     'search rich_gas': {0: 40, 11: 100},
     'search small_gas': {0: 500},
     'search tie_gas': {0: 150},
+    'search lean_gas': {0: 250, 11: 5},
+    'search heavy_gas': {0: 120},
+    'search rich_lean_gas': {0: 4, 11: 100},
+    'search trace_gas': {0: 120},
+    'search alone_gas': {16: 120},
     'inert at a half': {0: 200},
     'fitness tie': {0: 50},
     'found': {0: 2000},
     'found, put back': {0: 2000},
     'found, put back as a sheet': {0: 2000},
+    # absent components
+    **{kind: {0: 16, 11: 10} if components else {16: 10} for kind, components, _ in set_kinds()},
+    **{'trace of code %d' % code: {0: 10} for code in (2, 3, *gases.BUTANE_CODES)},
+    '6 records, methane alone': {16: 40},
+    '6 records, two systems': {0: 120, 10: 120},
+    '6 records, three systems': {7: 260},
+    '9 records, methane alone': {16: 20},
+    '9 records, two systems': {7: 120},
+    '9 records, three systems': {0: 250, 10: 250},
+    **{'%d records' % n: {1: 200, 7: 190, 16: 10} for n in (3, 12, 255)},
+    **{'write, %d records' % n: {1: 200} for n in (3, 12, 255)},
+    'methane alone': {16: 450},
+    'methane alone, out of total': {6: 450},
+    'methane alone, out of range': {5: 450},
     # sheets with a split
+    'split absent-held': {8: 800},
+    'split alone': {16: 800},
+    'split miscount': {7: 750},
     'split all-zero': {8: 900},
     'split border': {0: 900, 10: 900},
     'split empty': {9: 1000, 10: 400},
@@ -506,18 +618,18 @@ LEAST = {
     'split miss': {8: 900},
     'split miss-by-one': {8: 900},
     'split near': {0: 1000, 10: 1500},
-    'split other-gas': {7: 60, 8: 900},
+    'split other-gas': {7: 500, 8: 900, 16: 50},
     'split put-back': {0: 1500},
     'split start': {10: 900},
     'split wide': {10: 900},
     'split wrap': {8: 1500},
     # damaged sheets
-    'codes': {0: 80, 2: 1500, 3: 1500, 4: 3000, 5: 500, 6: 300, 7: 300, 8: 500, 11: 40},
+    'codes': {0: 80, 2: 1500, 3: 1500, 4: 3000, 5: 500, 6: 300, 7: 300, 8: 500, 11: 40, 16: 30},
     'count above 11': {1: 200},
     'flipped': {0: 40, 1: 150, 2: 300, 3: 30, 4: 150, 5: 800, 6: 300, 7: 300, 8: 600},
-    'range': {0: 80, 5: 4000, 6: 600, 7: 300, 8: 300, 11: 5},
+    'range': {0: 80, 5: 4000, 6: 600, 7: 300, 8: 300, 11: 5, 16: 10},
     'torn': {0: 200, 1: 5000, 7: 80},
-    'total': {0: 150, 5: 70, 6: 1000, 7: 80, 8: 1000, 11: 20},
+    'total': {0: 150, 5: 70, 6: 1000, 7: 80, 8: 1000, 11: 20, 16: 80},
     'wild': {1: 1000, 2: 500, 3: 250, 4: 300, 5: 250},
     # all of them read, and the good ones written again
     'read': {0: 20000, 1: 7000, 2: 2000, 3: 2000, 4: 4000, 5: 6000, 6: 2500},
@@ -525,8 +637,11 @@ LEAST = {
     # single calls
     'search, allowance 0': {11: 30},
     'search, allowance above 4000': {0: 40, 11: 5},
-    'search, allowance to 4000': {0: 60, 5: 3, 6: 2, 11: 60},
+    'search, allowance to 4000': {0: 60, 5: 3, 6: 2, 11: 60, 16: 5},
     'search, amount at no code': {5: 5},
+    'rate split absent-held': {8: 190},
+    'rate split alone': {16: 170},
+    'rate split miscount': {7: 180},
     'rate split all-zero': {8: 200},
     'rate split border': {0: 200, 10: 200},
     'rate split empty': {9: 300, 10: 100},
@@ -534,13 +649,13 @@ LEAST = {
     'rate split miss': {8: 200},
     'rate split miss-by-one': {8: 200},
     'rate split near': {0: 300, 5: 20, 6: 10, 10: 300},
-    'rate split other-gas': {7: 10, 8: 200},
+    'rate split other-gas': {7: 120, 8: 200, 16: 10},
     'rate split put-back': {0: 400},
     'rate split start': {10: 200},
     'rate split wide': {10: 200},
     'rate split wrap': {8: 400},
     'rate split, amount at no code': {5: 150},
-    'rate split, another count': {7: 100},
+    'rate split, another count': {5: 5, 7: 110, 16: 5},
     **{'partial number, %d' % s: {0: 350, 12: 130} for s in range(1, 9)},
     **{'partial number, %d' % s: {0: 250, 12: 130, 17: 70} for s in (*range(12, 19), 20)},
     **{'partial number, %d' % s: {13: 75} for s in NO_SYSTEMS},
@@ -554,13 +669,17 @@ LEAST = {
     'write, no split': {0: 250, 5: 40, 6: 20, 14: 200},
     'write, a split': {0: 700, 5: 100, 6: 70, 14: 800},
     'write, amount at no code': {5: 70},
-    'write, another count': {1: 70},
+    'write, another count': {0: 4, 1: 110},
     'write, every room': {0: 300, 5: 900, 6: 400, 14: 7000},
     'controller': {0: 5000},
     'whole number': {0: 2500},
     # kept in tests/data
-    'spread at the limit': {0: 4, 10: 4},
+    'spread at the limit': {0: 8, 10: 6},
     'kept: ends-at-500000': {0: 21, 11: 3},
+    'kept: lean-needs-stride-1': {0: 21, 11: 3},
+    'kept: lean-rated-at-the-start': {0: 16},
+    'kept: lean-unbalanced': {11: 8},
+    'kept: lean-would-empty': {11: 24},
     'kept: needs-4001': {11: 8},
     'kept: needs-more-than-4000': {11: 32},
     'kept: needs-stride-1': {0: 56, 11: 8},
@@ -569,7 +688,7 @@ LEAST = {
 }
 # Each number, of all kinds together; and ratings compared with the exact fraction.
 LEAST_NUMBERS = {0: 70000, 1: 15000, 2: 4000, 3: 4000, 4: 8000, 5: 10000, 6: 6000, 7: 3000, 8: 9000, 9: 1500, 10: 6000,
-                 11: 400, 12: 2000, 13: 1000, 14: 8000, 17: 700}
+                 11: 700, 12: 2000, 13: 1000, 14: 8000, 16: 2500, 17: 700}
 LEAST_EXACT = 3000
 
 

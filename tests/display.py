@@ -4,8 +4,8 @@
   python3 tests/display.py PROGRAM
 
 The published gases, without a split and with the found one; the sheets kept in tests/data, at the limits of the spread
-and of the search; and document 01's own cases: totals and ethane at their limits, its seven bytes, the longest sheet,
-one byte more, and none.
+and of the search; document 01's own cases: totals and ethane at their limits, its seven bytes, the longest sheet, one
+byte more, and none; and request Five's: lean gases, with splits of six and nine records, and methane alone.
 """
 import os
 import subprocess
@@ -73,11 +73,37 @@ def scope():
     yield 'no bytes', b'', 'REFUSED 1\n'
 
 
+BIOMETHANE = (0, 970000, 10000, 0, 0, 0, 0, 0, 0, 0, 0, 20000, 0, 0)        # two systems
+NO_BUTANE = (0, 950000, 30000, 10000, 0, 0, 0, 0, 0, 0, 0, 10000, 0, 0)     # three
+PENTANES = (0, 979990, 0, 0, 0, 0, 10, 0, 0, 0, 0, 20000, 0, 0)
+METHANE = (0, 980000, 0, 0, 0, 0, 0, 0, 0, 0, 0, 20000, 0, 0)
+
+
+def lean():
+    """(name, sheet, line) of request Five; None for a line that it leaves to the rules."""
+    for name, analysis in (('biomethane', BIOMETHANE), ('no butane', NO_BUTANE), ('neo-pentane alone', PENTANES)):
+        split = ref.search(analysis).split
+        yield name, ref.layout(analysis, None), None
+        yield name + ', split put back', ref.layout(analysis, split), None
+    six, nine = ref.search(BIOMETHANE).split, ref.search(NO_BUTANE).split
+    yield 'nine records for two systems', ref.layout(BIOMETHANE, nine), 'REFUSED 7\n'
+    yield 'six records for three systems', ref.layout(NO_BUTANE, six), 'REFUSED 7\n'
+    yield 'parts of an absent component', ref.layout(BIOMETHANE, (*six[:5], (8, 14, 1))), 'REFUSED 8\n'
+    for count in (3, 12, 255):
+        yield '%d records' % count, ref.layout(BIOMETHANE, (six * 43)[:count]), 'REFUSED 1\n'
+    yield 'propane listed at 0', bytes.fromhex('0401000ecd1002000027100300000000' '0b00004e2000'), 'REFUSED 5\n'
+    yield 'methane alone', ref.layout(METHANE, None), 'REFUSED 16\n'
+    yield 'methane alone, six records', ref.layout(METHANE, six), 'REFUSED 16\n'
+    yield 'methane alone, nine records', ref.layout(METHANE, nine), 'REFUSED 16\n'
+    yield 'methane alone, total 999899', ref.layout((0, 979899, *METHANE[2:]), None), 'REFUSED 6\n'
+    yield 'no methane', ref.layout((0, 0, *BIOMETHANE[2:]), None), 'REFUSED 5\n'
+
+
 def main():
     if len(sys.argv) != 2:
         sys.exit(__doc__)
     count = 0
-    for name, sheet, line in (*scope(), *published(), *limits()):
+    for name, sheet, line in (*scope(), *lean(), *published(), *limits()):
         wanted = ref.display(ref.rate(sheet))
         if line not in (None, wanted):
             sys.exit('display: %s: %r is known, the reference has %r' % (name, line, wanted))

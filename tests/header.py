@@ -14,8 +14,8 @@ import sys
 
 ROOT = os.path.join(os.path.dirname(os.path.abspath(__file__)), '..')
 RETIRED, SPLITS_ONLY = 'retired', 'splitsOnly'
-NOT_YET = {15, 16}          # refusals of requests that have not landed (Two and Five)
-OTHER_ROOM = {'LISTED': 12, 'LONGEST_SPLIT': 21}     # what SAUGRINTE_SHEET leaves room for (requests Five and Seven)
+NOT_YET = {15}              # refusals of requests that have not landed (Two)
+OTHER_ROOM = {'LISTED': 12, 'LONGEST_SPLIT': 21}     # what SAUGRINTE_SHEET leaves room for (request Seven)
 
 
 def text(*path):

@@ -1,11 +1,11 @@
 #!/usr/bin/env python3
-"""Cases for reading and writing sheets, with the answers that document 01 fixes.
+"""Cases for reading and writing sheets, with the answers that document 01 and request Five fix.
 
 sheet_cases.py           writes crates/sheet_cases/data/ and crates/sheet_cases/stdout
 sheet_cases.py --check   compares those files with what is made here
 
 The reader below is written from document 01 ("The register and the sheet",
-"What is turned away"), apart from the program that is tested.
+"What is turned away") and request Five, apart from the program that is tested.
 
 A data file is a count of cases in two bytes and the cases, all numbers high
 byte first. A case is a length in two bytes, the codes at fault in two bytes
@@ -18,8 +18,8 @@ to be written. One line is printed for each:
   REFUSED   number, and for 2 to 4 the place, for 5 FAULT where the code that
             came with it is at fault
 
-The counts after WRITE are over buffers of 0 to 112 bytes: refused 5 with a
-code at fault, refused 6, refused 14, written, and anything else. A refusal
+The counts after WRITE are over buffers of 0 to 112 bytes: refused 1, refused 5
+with a code at fault, refused 6, refused 14, written, and anything else. A refusal
 counts only where the buffer is unchanged; a writing only where the length is
 the sheet's, the sheet's bytes stand first and the bytes after them are
 unchanged.
@@ -33,11 +33,11 @@ CRATE = os.path.join(os.path.dirname(os.path.abspath(__file__)), '..', 'crates',
 RANGE = {1: (400000, 999700), 2: (100, 150000), 3: (100, 60000), 4: (10, 40000), 5: (10, 40000), 6: (10, 500),
          7: (10, 20000), 8: (10, 20000), 10: (10, 15000), 11: (50, 100000), 12: (50, 150000)}
 RETIRED = (9, 13)
-REQUIRED = (1, 2, 3, 4, 5)
+REQUIRED = (1,)
 LEAST_TOTAL, GREATEST_TOTAL = 999900, 1000100
 MOST_COMPONENTS = 11
 CODES = 16
-SPLIT_COUNTS = (0, 9)
+SPLIT_COUNTS = (0, 6, 9)
 COMPONENT_SIZE, SPLIT_SIZE = 5, 6
 LARGEST_BUFFER = 112
 U32 = (1 << 32) - 1
@@ -61,7 +61,7 @@ def sections(data):
 
 
 def faults(amounts, listed):
-    """The codes at fault: an amount outside its range, or one of 1 to 5 absent."""
+    """The codes at fault: an amount outside its range, or methane absent."""
     wrong = {c for c in REQUIRED if c not in listed}
     for c in listed:
         if c not in RANGE or not RANGE[c][0] <= amounts[c] <= RANGE[c][1]:
@@ -113,7 +113,7 @@ def sheet(components, split=()):
 
 def written(length):
     """Counts of a sheet of this length, over every buffer."""
-    return [0, 0, min(length, LARGEST_BUFFER + 1), max(0, LARGEST_BUFFER + 1 - length), 0]
+    return [0, 0, 0, min(length, LARGEST_BUFFER + 1), max(0, LARGEST_BUFFER + 1 - length), 0]
 
 
 def line(data):
@@ -131,25 +131,30 @@ def line(data):
 # The gas of 001 Table A.1, and its starting split.
 GAS = [(1, 970797), (2, 16658), (3, 2417), (4, 346), (5, 245), (6, 11), (7, 73), (8, 125), (10, 84), (11, 528), (12, 8715)]
 START = [(4, 1, 326410), (4, 2, 8402), (4, 3, 1219), (7, 1, 326410), (7, 3, 1219), (7, 14, 765), (8, 1, 326409), (8, 2, 8401), (8, 14, 765)]
-# The five that may not be absent, and records that no split should have.
+# Five components, and records that no split should have.
 FIVE = [(1, 900000), (2, 60000), (3, 30000), (4, 5000), (5, 5000)]
 ODD = [(0, 0, 0), (255, 255, U32), (20, 9, 1), (7, 13, 256), (7, 3, 65536), (7, 3, 16777216), (2, 14, 100), (1, 2, 3), (9, 9, 9)]
 
+# Methane and ethane, and its starting split; methane alone.
+LEAN = [(1, 970000), (2, 10000), (11, 20000)]
+LEAN_START = [(4, 1, 494898), (4, 2, 5102), (4, 3, 0), (8, 1, 494898), (8, 2, 5102), (8, 14, 0)]
+ALONE = [(1, 980000), (11, 20000)]
+
 
 def truncations():
-    for good in (sheet(GAS), sheet(FIVE, ODD), sheet(GAS, START)):
+    for good in (sheet(GAS), sheet(FIVE, ODD), sheet(GAS, START), sheet(LEAN, LEAN_START)):
         for n in range(len(good) + 1):
             yield good[:n]
 
 
 def extensions():
-    for good in (sheet(FIVE), sheet(GAS, START)):
+    for good in (sheet(FIVE), sheet(GAS, START), sheet(LEAN, LEAN_START)):
         for byte in range(256):
             yield good + bytes([byte])
 
 
 def flips():
-    for good in (sheet(GAS), sheet(FIVE, ODD)):
+    for good in (sheet(GAS), sheet(FIVE, ODD), sheet(LEAN, LEAN_START)):
         for i in range(len(good)):
             for bit in range(8):
                 yield good[:i] + bytes([good[i] ^ 1 << bit]) + good[i + 1:]
@@ -161,9 +166,15 @@ def counts():
     for n in (0, 1, 10, 11, 12, 13, 128, 255):
         whole = sheet(many[:n])
         yield from (whole, whole[:-1], whole + b'\0')
-    for n in (0, 1, 8, 9, 10, 12, 128, 255):
-        whole = sheet(GAS, [(4, 1, n)] * n)
-        yield from (whole, whole[:-1], whole + b'\0')
+    for n in (0, 1, 2, 3, 4, 5, 6, 7, 8, 9, 10, 12, 21, 128, 255):
+        for base in (GAS, LEAN, ALONE):
+            whole = sheet(base, [(4, 1, n)] * n)
+            yield from (whole, whole[:-1], whole + b'\0')
+    # The counts 6 and 9 with the other's records.
+    for split, n in ((LEAN_START, 9), (START, 6)):
+        whole = sheet(LEAN, split)
+        at = 1 + COMPONENT_SIZE * len(LEAN)
+        yield whole[:at] + bytes([n]) + whole[at + 1:]
     for n in (8, 12, 255):
         yield bytes([n]) + sheet(GAS)[1:]
         yield sheet(GAS)[:-1] + bytes([n])
@@ -212,10 +223,21 @@ def amounts():
                 rest = 1000000 - sum(x for c, x in changed if c != 1)
                 changed = put(changed, 0, None, rest if 0 <= rest <= U32 else GAS[0][1])
             yield sheet(changed)
-    # Each code left out: 1 to 5 are at fault, the others absent.
+    # Each code left out: methane is at fault, the others absent.
     for place, (code, amount) in enumerate(GAS):
         yield sheet(put(GAS, 0, None, GAS[0][1] + amount)[:place] + GAS[place + 1:])
         yield sheet(GAS[:place] + GAS[place + 1:])
+    # Every set of codes 2 to 5 absent, also with neither inert gases nor pentanes, and each of them listed at 0.
+    for bits in range(16):
+        absent = {2 + k for k in range(4) if bits >> k & 1}
+        for base in (GAS, FIVE):
+            left = sum(x for c, x in base if c in absent)
+            yield sheet([(c, x + left if c == 1 else x) for c, x in base if c not in absent])
+            yield sheet([(c, 0 if c in absent else x + left if c == 1 else x) for c, x in base])
+    # Methane with one other, and alone.
+    yield from (sheet(LEAN), sheet(LEAN, LEAN_START), sheet(LEAN, START), sheet(ALONE), sheet(ALONE, LEAN_START))
+    yield from (sheet([(1, 999700), (12, 300)]), sheet([(1, 999700), (3, 300)]), sheet([(1, 999700), (6, 300)]))
+    yield from (sheet([(1, 999690), (4, 10), (12, 300)]), sheet([(1, 999691), (4, 9), (12, 300)]), sheet([(1, 1000000)]))
     # Methane at its ends.
     yield sheet([(1, 999700), (2, 100), (3, 100), (4, 50), (5, 50)])
     yield sheet([(1, 999701), (2, 100), (3, 100), (4, 50), (5, 49)])
@@ -231,10 +253,10 @@ def amounts():
 
 
 def totals():
-    for base in (GAS, FIVE):
+    for base in (GAS, FIVE, LEAN, ALONE):
         rest = sum(x for c, x in base if c != 1)
         for total in (999899, 999900, 999901, 1000000, 1000099, 1000100, 1000101, 600000, 1100000):
-            for split in ((), START):
+            for split in ((), START, LEAN_START):
                 yield sheet(put(base, 0, None, total - rest), split)
     # Totals that come into range only where they wrap at 32 bits.
     yield sheet(FIVE + [(11, 1 << 31), (12, 1 << 31)])
@@ -250,14 +272,9 @@ def fields():
 
 def writings():
     """(amounts by code, split): what a reader would never hand on is refused too."""
-    gas = [0] * CODES
-    for code, amount in GAS:
-        gas[code] = amount
-    five = [0] * CODES
-    for code, amount in FIVE:
-        five[code] = amount
-    for split in ([], START, ODD):
-        yield from ((gas, split), (five, split), ([0] * CODES, split))
+    gas, five, lean, alone = ([dict(base).get(code, 0) for code in range(CODES)] for base in (GAS, FIVE, LEAN, ALONE))
+    for split in ([], START, ODD, LEAN_START):
+        yield from ((gas, split), (five, split), (lean, split), (alone, split), ([0] * CODES, split))
         for code in range(CODES):
             for amount in (0, 1, 9, 99, 100, 40000, 1000000, U32):
                 yield gas[:code] + [amount] + gas[code + 1:], split
@@ -267,18 +284,22 @@ def writings():
         # Totals that come into range only where they wrap at 32 bits.
         yield five[:11] + [1 << 31, 1 << 31] + five[13:], split
         yield five[:11] + [U32, 1] + five[13:], split
+    # Counts that are not allowed, before 5 and 6.
+    for n in (1, 2, 3, 4, 5, 7, 8, 10, 12, 18, 21, 22, 128, 255):
+        for split in ([(4, 1, n)] * n, (START * 29)[:n]):
+            yield from ((gas, split), (lean, split), (alone, split), ([0] * CODES, split), ([0, 900000] + gas[2:], split))
 
 
 def write_case(analysis, split):
     """The case's bytes, and its line."""
     refused, wrong = checked(analysis, [c for c in range(CODES) if analysis[c]])
-    records = split or [(0, 0, 0)] * 9
+    if len(split) not in SPLIT_COUNTS:
+        refused, wrong = 1, set()
+    records = (split + [(0, 0, 0)] * 9)[:9]
     body = b''.join(a.to_bytes(4, 'big') for a in analysis) + bytes([len(split)])
     body += b''.join(bytes([s, c]) + a.to_bytes(4, 'big') for s, c, a in records)
-    if refused == 5:
-        counted = [LARGEST_BUFFER + 1, 0, 0, 0, 0]
-    elif refused == 6:
-        counted = [0, LARGEST_BUFFER + 1, 0, 0, 0]
+    if refused:
+        counted = [LARGEST_BUFFER + 1 if number == refused else 0 for number in (1, 5, 6, 14)] + [0, 0]
     else:
         out = sheet([(c, analysis[c]) for c in range(CODES) if analysis[c]], split)
         counted, body = written(len(out)), body + out
@@ -321,6 +342,10 @@ def self_test():
         assert line(sheet(put(GAS, 0, None, total - rest))).startswith(answer)
     assert line(sheet([(1, 969901), (2, 99), (3, 20000), (4, 5000), (5, 5000)])) == 'REFUSED 5 FAULT'
     assert line(sheet([(1, 969900), (2, 100), (3, 20000), (4, 5000), (5, 5000)])).startswith('READ')
+    # and request Five
+    assert line(sheet(LEAN, LEAN_START)).startswith('READ') and line(sheet(ALONE)).startswith('READ')
+    assert line(sheet(GAS, START[:3])) == line(sheet(LEAN, START + START[:3])) == 'REFUSED 1'
+    assert line(sheet(GAS[1:])) == line(sheet(LEAN[:2] + [(3, 0)] + LEAN[2:])) == 'REFUSED 5 FAULT'
 
 
 def main():

@@ -16,11 +16,24 @@ import saugrinte as ref  # noqa: E402
 TOOL = os.path.join(ROOT, 'tools', 'sheet.py')
 TABLE_A1 = (0, 970797, 16658, 2417, 346, 245, 11, 73, 125, 0, 84, 528, 8715, 0)
 FOUND = ref.search(TABLE_A1).split
+BIOMETHANE = (0, 970000, 300, 0, 0, 0, 0, 0, 0, 0, 0, 22000, 7700, 0)
+BIOMETHANE_FOUND = ref.search(BIOMETHANE).split
 NAMES = {1: 'methane', 2: 'ethane', 3: 'propane', 14: 'butane'}
-SPLIT = ''.join('split %d %s %d.%04d\n' % (s, NAMES[c], a // 10000, a % 10000) for s, c, a in FOUND)
+
+
+def split_lines(records):
+    return ''.join('split %d %s %d.%04d\n' % (s, NAMES[c], a // 10000, a % 10000) for s, c, a in records)
+
+
+def lines(path):
+    with open(path, encoding='utf-8') as example:
+        return example.read()
+
+
+SPLIT = split_lines(FOUND)
 EXAMPLE = os.path.join(ROOT, 'examples', 'table-a1.txt')
-with open(EXAMPLE, encoding='utf-8') as example:
-    LINES = example.read()
+LINES = lines(EXAMPLE)
+LEAN_LINES = lines(os.path.join(ROOT, 'examples', 'biomethane.txt'))
 
 # (what it is, text, status, a part of the message)
 WRONG = (
@@ -39,8 +52,10 @@ WRONG = (
     ('five decimals', 'methane 97.07971\n', "line 1: '97.07971' has more than four decimals"),
     ('too large', 'methane 429496.7296\n', "line 1: '429496.7296' does not fit the sheet's four bytes"),
     ('twice', 'methane 97\n\nmethane 1\n', 'line 3: methane is listed twice'),
-    ('eight records', SPLIT.split('\n', 1)[1], 'a split has nine records, and 8 are given'),
-    ('ten records', SPLIT + 'split 8 butane 1\n', 'a split has nine records, and 10 are given'),
+    *(('%d records' % n, 'split 8 butane 1\n' * n, 'a split has six or nine records, and %d are given' % n)
+      for n in (1, 3, 5, 7, 8, 10, 12, 255)),
+    ('eight of nine records', SPLIT.split('\n', 1)[1], 'a split has six or nine records, and 8 are given'),
+    ('ten records and components', LINES + SPLIT + 'split 8 butane 1\n', 'a split has six or nine records, and 10 are'),
     ('a short split line', 'split 4 methane\n', 'line 1: a split line is: split SYSTEM COMPONENT AMOUNT'),
     ('a system in words', 'split four methane 1\n', "line 1: 'four' is not a system's number"),
     ('a system above a byte', 'split 256 methane 1\n', "line 1: '256' is not a system's number"),
@@ -55,6 +70,11 @@ RIGHT = (
     ('lines in another order', '\n'.join(reversed(LINES.split('\n'))), ref.layout(TABLE_A1, None)),
     ('comments and blank lines', '# gas\n\n  methane 40 # percent\n\tethane\t0.01\n',
      bytes.fromhex('020100061a80020000006400')),
+    ('a gas without propane and butanes', LEAN_LINES, ref.layout(BIOMETHANE, None)),
+    ('with its found split of six records', LEAN_LINES + split_lines(BIOMETHANE_FOUND),
+     ref.layout(BIOMETHANE, BIOMETHANE_FOUND)),
+    ('six records for a gas of nine', LINES + split_lines(BIOMETHANE_FOUND), ref.layout(TABLE_A1, BIOMETHANE_FOUND)),
+    ('methane alone', 'methane 97\n', bytes.fromhex('0101000ecd1000')),
     ('no line at all', '', bytes(2)),
     ('the largest amount', 'methane 429496.7295\n', bytes.fromhex('0101ffffffff00')),
     ('an amount of 0', 'nitrogen 0\n', bytes.fromhex('010c0000000000')),
@@ -80,6 +100,7 @@ def turned_away(status, out, said):
 
 
 def main():
+    expect('six records', len(BIOMETHANE_FOUND) == 6, BIOMETHANE_FOUND)
     for what, text, sheet in RIGHT:
         got = run(text)
         expect(what, got == (0, sheet, ''), got)

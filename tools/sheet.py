@@ -8,11 +8,13 @@ A line is a component and its amount in percent by volume, with at most four dec
   methane 97.0797
   n-butane 0.0245
 
-and, where a split is proposed, one line for each of its nine records, in their order:
+A component that is absent has no line; every gas has methane. Where a split is proposed, one line more for each of its
+six or nine records, in their order:
 
   split 4 methane 31.0026
 
-Text after '#' is left out. The ranges and the total are left to the rating, which refuses by number.
+Text after '#' is left out. The ranges and the total are left to the rating, which refuses by number (an amount of 0 is
+out of range: leave the line out).
 """
 import re
 import sys
@@ -22,6 +24,7 @@ CODES = {
     'n-pentane': 8, 'hexanes+': 10, 'carbon-dioxide': 11, 'nitrogen': 12,
 }
 SPLIT_CODES = {'methane': 1, 'ethane': 2, 'propane': 3, 'butane': 14}
+SPLIT_COUNTS = (0, 6, 9)
 GREATEST = 4294967295
 
 
@@ -67,8 +70,8 @@ def read(lines):
             components[code] = parts(words[1])
         except ValueError as wrong:
             sys.exit(f'sheet: line {number}: {wrong}')
-    if len(split) not in (0, 9):
-        sys.exit(f'sheet: a split has nine records, and {len(split)} are given')
+    if len(split) not in SPLIT_COUNTS:
+        sys.exit(f'sheet: a split has six or nine records, and {len(split)} are given')
     return components, split
 
 

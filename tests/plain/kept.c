@@ -57,11 +57,11 @@ static int64_t number_more(const split *s, state *t, int row, int c)
     return t->more[row][c];
 }
 
-static totals totals_of(const int64_t numbers[CHOSEN])
+static totals totals_of(const split *s)
 {
     totals w = { 0, 0 };
-    for (int i = 0; i < CHOSEN; i++) {
-        int64_t cut = numbers[i] / 10000;
+    for (int i = 0; i < s->count; i++) {
+        int64_t cut = s->numbers[i] / 10000;
         w.sum += cut;
         w.squares += cut * cut;
     }
@@ -76,9 +76,9 @@ static totals replaced(totals w, int64_t before, int64_t after)
     return w;
 }
 
-static int64_t imbalance_of(totals w)
+static int64_t imbalance_of(totals w, int count)
 {
-    return CHOSEN * w.squares - w.sum * w.sum;
+    return count * w.squares - w.sum * w.sum;
 }
 
 /* Carries the stride. The tries that would take it back lead to the numbers before it. */
@@ -99,17 +99,17 @@ static int first_move(split *s, uint32_t stride, state *t)
 {
     if (t->stride != stride)
         forget_all(t, stride);
-    totals all = totals_of(s->numbers);
-    int64_t was = imbalance_of(all);
+    totals all = totals_of(s);
+    int64_t was = imbalance_of(all, s->count);
     for (int c = 0; c < COMPONENTS; c++)
-        for (int from = 0; from < CHOSEN; from++) {
+        for (int from = 0; from < s->count; from++) {
             if (!contains[s->systems[from]][c] || s->amounts[from][c] < stride || parts_of(s->amounts[from]) == stride)
                 continue;
             totals given = replaced(all, s->numbers[from], number_less(s, t, from, c));
-            for (int to = 0; to < CHOSEN; to++) {
+            for (int to = 0; to < s->count; to++) {
                 if (from == to || !contains[s->systems[to]][c])
                     continue;
-                if (imbalance_of(replaced(given, s->numbers[to], number_more(s, t, to, c))) < was) {
+                if (imbalance_of(replaced(given, s->numbers[to], number_more(s, t, to, c)), s->count) < was) {
                     move(s, t, c, from, to);
                     return 1;
                 }

@@ -5,17 +5,15 @@
 #include "saugrinte.h"
 
 enum { TORN = 1, UNKNOWN, RETIRED, OUT_OF_ORDER, OUT_OF_RANGE, TOTAL, MISFIT, UNSUMMED, EMPTY_SYSTEM, WIDE,
-       UNBALANCED, NO_MIXTURE, NO_SYSTEM, SHORT_BLANK, SHARE = 17 };
+       UNBALANCED, NO_MIXTURE, NO_SYSTEM, SHORT_BLANK, TOO_FEW = 16, SHARE };
 
 enum { CODES = SAUGRINTE_CODES, ROOM = SAUGRINTE_RECORDS, ROUNDS = SAUGRINTE_ROUNDS };
-
-/* Records of a split. */
-enum { RECORDS = 9 };
 
 /* Components of the simplified mixture. */
 enum { METHANE, ETHANE, PROPANE, BUTANE, COMPONENTS };
 
-/* The four systems to choose from, in the order of their numbers 2, 4, 7, 8; the inert system, 20; the others. */
+/* The four systems to choose from, in the order of their numbers 2, 4, 7, 8; the inert system, 20; the others. At most
+   three are chosen. */
 enum { CANDIDATES = 4, INERT = 4, SYSTEMS = 16, CHOSEN = 3, MEMBERS = 3 };
 
 #define WHOLE 1000000
@@ -34,10 +32,10 @@ static saugrinte_answer refused(uint32_t number, uint32_t place)
 static const struct { uint32_t least, greatest; int required; } ranges[CODES] = {
     { 0, 0, 0 },
     { 400000, 999700, 1 },
-    { 100, 150000, 1 },
-    { 100, 60000, 1 },
-    { 10, 40000, 1 },
-    { 10, 40000, 1 },
+    { 100, 150000, 0 },
+    { 100, 60000, 0 },
+    { 10, 40000, 0 },
+    { 10, 40000, 0 },
     { 10, 500, 0 },
     { 10, 20000, 0 },
     { 10, 20000, 0 },
@@ -356,37 +354,56 @@ static const int contains[CANDIDATES][COMPONENTS] = {
     { 1, 1, 0, 1 },
 };
 
-static void choose(const mixture *m, int systems[CHOSEN])
+/* How many components are present: a choice is made for two or more. */
+static int present(const mixture *m)
+{
+    int count = 0;
+    for (int c = 0; c < COMPONENTS; c++)
+        count += m->amounts[c] > 0;
+    return count;
+}
+
+/* A system with more of its components present goes before a fitter one; absent components choose none. The number of
+   systems. */
+static int choose(const mixture *m, int systems[CHOSEN])
 {
     static const uint64_t weights[COMPONENTS] = { 48, 75, 80, 100 };
     static const int order[COMPONENTS] = { PROPANE, ETHANE, BUTANE, METHANE };
     uint64_t fitness[CANDIDATES] = { 0 };
+    int there[CANDIDATES] = { 0 };
     int chosen[CANDIDATES] = { 0 };
     int times[COMPONENTS] = { 0 };
     for (int s = 0; s < CANDIDATES; s++)
         for (int c = 0; c < COMPONENTS; c++)
-            if (contains[s][c])
+            if (contains[s][c]) {
                 fitness[s] += weights[c] * m->amounts[c];
+                there[s] += m->amounts[c] > 0;
+            }
     for (int wanted = 1; wanted <= 2; wanted++)
         for (int i = 0; i < COMPONENTS; i++) {
-            if (times[order[i]] >= wanted)
+            if (m->amounts[order[i]] == 0 || times[order[i]] >= wanted)
                 continue;
             int best = -1;
             for (int s = 0; s < CANDIDATES; s++)
-                if (contains[s][order[i]] && !chosen[s] && (best < 0 || fitness[s] > fitness[best]))
+                if (contains[s][order[i]] && !chosen[s]
+                    && (best < 0 || there[s] > there[best]
+                        || (there[s] == there[best] && fitness[s] > fitness[best])))
                     best = s;
             chosen[best] = 1;
             for (int c = 0; c < COMPONENTS; c++)
                 times[c] += contains[best][c];
         }
-    for (int s = 0, i = 0; s < CANDIDATES && i < CHOSEN; s++)
+    int count = 0;
+    for (int s = 0; s < CANDIDATES && count < CHOSEN; s++)
         if (chosen[s])
-            systems[i++] = s;
+            systems[count++] = s;
+    return count;
 }
 
 /* ---- the split and the rating ---- */
 
 typedef struct {
+    int count;                          /* of systems, 2 or 3 */
     int systems[CHOSEN];
     uint32_t amounts[CHOSEN][COMPONENTS];
     int64_t numbers[CHOSEN];
@@ -408,14 +425,14 @@ static int64_t parts_of(const uint32_t amounts[COMPONENTS])
     return sum;
 }
 
-static int64_t spread_of(const int64_t numbers[CHOSEN])
+static int64_t spread_of(const split *s)
 {
-    int64_t least = numbers[0], greatest = numbers[0];
-    for (int i = 1; i < CHOSEN; i++) {
-        if (numbers[i] < least)
-            least = numbers[i];
-        if (numbers[i] > greatest)
-            greatest = numbers[i];
+    int64_t least = s->numbers[0], greatest = s->numbers[0];
+    for (int i = 1; i < s->count; i++) {
+        if (s->numbers[i] < least)
+            least = s->numbers[i];
+        if (s->numbers[i] > greatest)
+            greatest = s->numbers[i];
     }
     return greatest - least;
 }
@@ -423,21 +440,26 @@ static int64_t spread_of(const int64_t numbers[CHOSEN])
 static void rated(const split *s, const mixture *m, int64_t rounds, saugrinte_figures *figures)
 {
     int64_t sum = 0;
-    for (int i = 0; i < CHOSEN; i++)
+    for (int i = 0; i < s->count; i++)
         sum += s->numbers[i] * parts_of(s->amounts[i]);
     figures->rating = sum / WHOLE + m->inert - 1000003000;
-    figures->spread = spread_of(s->numbers);
+    figures->spread = spread_of(s);
     figures->rounds = rounds;
 }
 
-static saugrinte_answer rate_records(const uint32_t amounts[CODES], const uint8_t *systems, const uint8_t *codes,
-                                     const uint32_t *parts, saugrinte_figures *figures)
+static saugrinte_answer rate_records(const uint32_t amounts[CODES], size_t count, const uint8_t *systems,
+                                     const uint8_t *codes, const uint32_t *parts, saugrinte_figures *figures)
 {
     mixture m = simplify(amounts);
     split s = { 0 };
     uint64_t sums[COMPONENTS] = { 0 };
-    choose(&m, s.systems);
-    for (int r = 0; r < RECORDS; r++) {
+    if (present(&m) < 2)
+        return refused(TOO_FEW, 0);
+    s.count = choose(&m, s.systems);
+    int records = s.count * MEMBERS;
+    if (count != (size_t)records)
+        return refused(MISFIT, 0);
+    for (int r = 0; r < records; r++) {
         int i = r / MEMBERS, c = members[s.systems[i]][r % MEMBERS];
         if (systems[r] != system_numbers[s.systems[i]] || codes[r] != split_codes[c])
             return refused(MISFIT, 0);
@@ -447,12 +469,12 @@ static saugrinte_answer rate_records(const uint32_t amounts[CODES], const uint8_
     for (int c = 0; c < COMPONENTS; c++)
         if (sums[c] != m.amounts[c])
             return refused(UNSUMMED, 0);
-    for (int i = 0; i < CHOSEN; i++) {
+    for (int i = 0; i < s.count; i++) {
         if (parts_of(s.amounts[i]) == 0)
             return refused(EMPTY_SYSTEM, 0);
         s.numbers[i] = number_of(s.systems[i], s.amounts[i]);
     }
-    if (spread_of(s.numbers) > LIMIT)
+    if (spread_of(&s) > LIMIT)
         return refused(WIDE, 0);
     rated(&s, &m, 0, figures);
     return done;
@@ -463,19 +485,19 @@ static saugrinte_answer rate_records(const uint32_t amounts[CODES], const uint8_
 static void start(const mixture *m, split *s)
 {
     memset(s, 0, sizeof *s);
-    choose(m, s->systems);
+    s->count = choose(m, s->systems);
     for (int c = 0; c < COMPONENTS; c++) {
         uint32_t sharing = 0;
-        for (int i = 0; i < CHOSEN; i++)
+        for (int i = 0; i < s->count; i++)
             sharing += contains[s->systems[i]][c];
         uint32_t share = m->amounts[c] / sharing, odd = m->amounts[c] % sharing;
-        for (int i = 0; i < CHOSEN; i++)
+        for (int i = 0; i < s->count; i++)
             if (contains[s->systems[i]][c]) {
                 s->amounts[i][c] = share + (odd > 0);
                 odd -= odd > 0;
             }
     }
-    for (int i = 0; i < CHOSEN; i++)
+    for (int i = 0; i < s->count; i++)
         s->numbers[i] = number_of(s->systems[i], s->amounts[i]);
 }
 
@@ -488,15 +510,20 @@ typedef struct {
     uint64_t imbalance;
 } state;
 
-static uint64_t imbalance_of(const int64_t numbers[CHOSEN])
+/* Over every pair of systems. */
+static uint64_t imbalance_of(const int64_t numbers[CHOSEN], int count)
 {
-    int64_t a = numbers[0] / 10000, b = numbers[1] / 10000, c = numbers[2] / 10000;
-    return (a - b) * (a - b) + (b - c) * (b - c) + (a - c) * (a - c);
+    int64_t a = numbers[0] / 10000, b = numbers[1] / 10000;
+    uint64_t sum = (a - b) * (a - b);
+    if (count < CHOSEN)
+        return sum;
+    int64_t c = numbers[2] / 10000;
+    return sum + (b - c) * (b - c) + (a - c) * (a - c);
 }
 
 static void begin(const split *s, state *at)
 {
-    at->imbalance = imbalance_of(s->numbers);
+    at->imbalance = imbalance_of(s->numbers, s->count);
 }
 
 /* Carries one stride of component c where that lowers the imbalance. Only the two systems touched are worked out
@@ -510,7 +537,7 @@ static int move(split *s, int c, int from, int to, uint32_t stride, state *at)
     s->amounts[to][c] += stride;
     numbers[from] = number_of(s->systems[from], s->amounts[from]);
     numbers[to] = number_of(s->systems[to], s->amounts[to]);
-    uint64_t after = imbalance_of(numbers);
+    uint64_t after = imbalance_of(numbers, s->count);
     if (after < at->imbalance) {
         memcpy(s->numbers, numbers, sizeof numbers);
         at->imbalance = after;
@@ -524,8 +551,8 @@ static int move(split *s, int c, int from, int to, uint32_t stride, state *at)
 static int first_move(split *s, uint32_t stride, state *at)
 {
     for (int c = 0; c < COMPONENTS; c++)
-        for (int from = 0; from < CHOSEN; from++)
-            for (int to = 0; to < CHOSEN; to++)
+        for (int from = 0; from < s->count; from++)
+            for (int to = 0; to < s->count; to++)
                 if (from != to && contains[s->systems[from]][c] && contains[s->systems[to]][c]
                     && move(s, c, from, to, stride, at))
                     return 1;
@@ -539,10 +566,12 @@ static saugrinte_answer find(const uint32_t amounts[CODES], uint32_t allowance, 
     mixture m = simplify(amounts);
     uint32_t stride = 65536, rounds = 0;
     state at;
+    if (present(&m) < 2)
+        return refused(TOO_FEW, 0);
     start(&m, s);
     begin(s, &at);
     for (;;) {
-        if (spread_of(s->numbers) <= LIMIT) {
+        if (spread_of(s) <= LIMIT) {
             rated(s, &m, rounds, figures);
             return done;
         }
@@ -580,6 +609,12 @@ static uint8_t *put_four_bytes(uint8_t *b, uint32_t value)
     return b + 4;
 }
 
+/* How many records a split may have in a sheet. */
+static int allowed(size_t count)
+{
+    return count == 0 || count == 6 || count == 9;
+}
+
 static saugrinte_answer parse(const uint8_t *sheet, size_t length, contents *out)
 {
     memset(out, 0, sizeof *out);
@@ -588,7 +623,7 @@ static saugrinte_answer parse(const uint8_t *sheet, size_t length, contents *out
     size_t components = sheet[0];
     const uint8_t *second = sheet + 1 + 5 * components;
     out->count = second[0];
-    if ((out->count != 0 && out->count != RECORDS) || length != 2 + 5 * components + 6 * out->count)
+    if (!allowed(out->count) || length != 2 + 5 * components + 6 * out->count)
         return refused(TORN, 0);
     int before = 0, at_fault = 0;
     for (size_t r = 0; r < components; r++) {
@@ -630,11 +665,12 @@ uint32_t saugrinte_version(void)
 static void put_records(const split *found, size_t *count, uint8_t systems[ROOM], uint8_t codes[ROOM],
                         uint32_t parts[ROOM])
 {
-    *count = found ? RECORDS : 0;
+    int records = found ? found->count * MEMBERS : 0;
+    *count = records;
     memset(systems, 0, ROOM);
     memset(codes, 0, ROOM);
     memset(parts, 0, ROOM * sizeof *parts);
-    for (int r = 0; found && r < RECORDS; r++) {
+    for (int r = 0; r < records; r++) {
         int i = r / MEMBERS, c = members[found->systems[i]][r % MEMBERS];
         systems[r] = system_numbers[found->systems[i]];
         codes[r] = split_codes[c];
@@ -651,7 +687,7 @@ saugrinte_answer saugrinte_rate(const uint8_t *sheet, size_t length, saugrinte_f
     if (answer.number)
         return answer;
     answer = read.count == 0 ? find(read.amounts, ROUNDS, figures, &found)
-                             : rate_records(read.amounts, read.systems, read.codes, read.parts, figures);
+                             : rate_records(read.amounts, read.count, read.systems, read.codes, read.parts, figures);
     if (answer.number == 0)
         put_records(read.count == 0 ? &found : NULL, count, systems, codes, parts);
     return answer;
@@ -676,9 +712,7 @@ saugrinte_answer saugrinte_rate_split(const uint32_t amounts[CODES], size_t coun
     saugrinte_answer answer = check(amounts);
     if (answer.number)
         return answer;
-    if (count != RECORDS)
-        return refused(MISFIT, 0);
-    return rate_records(amounts, systems, codes, parts, figures);
+    return rate_records(amounts, count, systems, codes, parts, figures);
 }
 
 saugrinte_answer saugrinte_partial_number(uint32_t system, uint32_t n1, uint32_t n2, uint32_t n3, int64_t *number)
@@ -714,7 +748,7 @@ saugrinte_answer saugrinte_write(const uint32_t amounts[CODES], size_t count, co
                                  const uint8_t codes[ROOM], const uint32_t parts[ROOM], uint8_t *buffer, size_t room,
                                  size_t *length)
 {
-    if (count != 0 && count != RECORDS)
+    if (!allowed(count))
         return refused(TORN, 0);
     saugrinte_answer answer = check(amounts);
     if (answer.number)

@@ -18,13 +18,19 @@ Command line:
 import sys
 import time
 from functools import lru_cache
+from itertools import combinations
 from typing import NamedTuple
 
 import saugrinte as ref
 
 U32 = 1 << 32
 CODES = sorted(ref.RANGE)
-OPTIONAL = [c for c in CODES if c not in ref.REQUIRED]
+FULL = (1, 2, 3, 4, 5)      # in every gas that is not lean
+BUTANE_CODES = (4, 5, 6, 7, 8, 10)      # what the mixture's butane comes from
+
+# The components present beside methane, every set of them, none to all.
+SETS = tuple(frozenset(c for place, c in enumerate((ref.E, ref.P, ref.B))
+                       if bits >> place & 1) for bits in range(8))
 
 
 class Draw:
@@ -88,7 +94,7 @@ def gas(draw, amount, absent_one_in=4):
     while True:
         a = [0] * 14
         for code in CODES[1:]:
-            if code in OPTIONAL and draw.one_in(absent_one_in):
+            if code not in FULL and draw.one_in(absent_one_in):
                 continue
             a[code] = amount(draw, code)
         total = draw.pick((1000000, 999900, 1000100,
@@ -136,8 +142,82 @@ def tie_gas(draw):
             return tuple(a)
 
 
+def some_of(draw, items):
+    """At least one of the items: often one alone, or all."""
+    which = draw.below(3)
+    if which == 0:
+        return (draw.pick(items),)
+    if which == 1:
+        return items
+    return tuple(x for x in items if draw.one_in(2)) or items[:1]
+
+
+def set_gas(draw, components, butanes=BUTANE_CODES):
+    """An analysis in range with just these components beside methane; butane
+    from some of the codes named."""
+    while True:
+        a = [0] * 14
+        amount = draw.pick((amount_small, amount_small, amount_even,
+                            amount_limit))
+        codes = [code for c, code in ((ref.E, 2), (ref.P, 3))
+                 if c in components]
+        if ref.B in components:
+            codes += some_of(draw, butanes)
+        for code in codes:
+            a[code] = amount(draw, code)
+        for code in (11, 12):
+            if not draw.one_in(3):
+                a[code] = amount(draw, code)
+        a[1] = draw.pick((1000000, 999900, 1000100,
+                          draw.between(999900, 1000100))) - sum(a)
+        if not ref.check(a):
+            return tuple(a)
+
+
+def lean_gas(draw):
+    """Two or three components present."""
+    return set_gas(draw, draw.pick(SETS[1:7]))
+
+
+def heavy_gas(draw):
+    """Pentanes and hexanes+ in place of butanes, with or without others."""
+    return set_gas(draw, draw.pick(SETS[4:]), BUTANE_CODES[2:])
+
+
+def rich_lean_gas(draw):
+    """Much butane and no propane, so that system 2 can be chosen."""
+    while True:
+        a = [0] * 14
+        a[2] = amount_even(draw, 2)
+        for code in (*BUTANE_CODES, 11, 12):
+            a[code] = amount_rich(draw, code)
+        a[1] = draw.between(999900, 1000100) - sum(a)
+        if not ref.check(a):
+            return tuple(a)
+
+
+def trace_gas(draw):
+    """One hydrocarbon beside methane, at its least amount or little more."""
+    a = [0] * 14
+    code = draw.pick((2, 3, *BUTANE_CODES))
+    a[code] = ref.RANGE[code][0] + draw.pick((0, 0, 1, draw.below(10)))
+    inert = draw.pick((11, 12))
+    a[inert] = draw.between(500, 100000)
+    if draw.one_in(2):
+        a[23 - inert] = draw.between(50, 100000)
+    a[1] = draw.between(999900, 1000100) - sum(a)
+    assert not ref.check(a)
+    return tuple(a)
+
+
+def alone_gas(draw):
+    """Methane and inert gases alone: refused 16."""
+    return set_gas(draw, SETS[0])
+
+
 GASES = (even_gas, even_gas, small_gas, small_gas, small_gas, limit_gas,
-         rich_gas, tie_gas)
+         limit_gas, rich_gas, rich_gas, tie_gas, lean_gas, lean_gas, heavy_gas,
+         rich_lean_gas, trace_gas, alone_gas)
 
 
 def any_gas(draw):
@@ -195,10 +275,10 @@ def emptied(draw, records):
     held = held_of(records)
     drained = draw.pick(sorted(held))
     for c in list(held[drained]):
-        taker = draw.pick([s for s in sorted(held)
-                           if s != drained and c in held[s]])
-        held[taker][c] += held[drained][c]
-        held[drained][c] = 0
+        takers = [s for s in sorted(held) if s != drained and c in held[s]]
+        if takers:          # else it is absent
+            held[draw.pick(takers)][c] += held[drained][c]
+            held[drained][c] = 0
     if draw.one_in(4):      # one part left: no longer empty
         for c in held[drained]:
             giver = next((s for s in sorted(held) if s != drained
@@ -243,15 +323,16 @@ def border(draw, records):
 def off_by(draw, records, step):
     """One record changed by `step` parts, modulo 2^32."""
     out = [list(r) for r in records]
-    out[draw.below(9)][2] += step
+    out[draw.below(len(out))][2] += step
     return tuple((s, c, a % U32) for s, c, a in out)
 
 
 def wrapped(draw, records):
     """Adds up modulo 2^32 only."""
     out = [list(r) for r in records]
-    code = draw.pick(ref.SPLIT_CODE)
-    same = [i for i in range(9) if out[i][1] == code]
+    codes = [r[1] for r in records]
+    code = draw.pick([c for c in ref.SPLIT_CODE if codes.count(c) > 1])
+    same = [i for i in range(len(out)) if codes[i] == code]
     i = draw.pick(same)
     j = draw.pick([x for x in same if x != i])
     carried = draw.pick((out[i][2] + 1, draw.below(U32),
@@ -261,22 +342,49 @@ def wrapped(draw, records):
     return tuple(map(tuple, out))
 
 
+# Two or three of the systems.
+CHOICES = tuple(s for n in (2, 3) for s in combinations(ref.CANDIDATES, n))
+
+
 def misfit(draw, records):
     """A wrong system, a wrong code, or records in another order."""
     out = [list(r) for r in records]
     which = draw.below(4)
-    i = draw.below(9)
+    i = draw.below(len(out))
     if which == 0:
         out[i][0] = draw.pick((0, 1, 2, 4, 5, 7, 8, 20, 255))
     elif which == 1:
         out[i][1] = draw.pick((0, 1, 2, 3, 4, 5, 9, 13, 14, 15, 255))
     elif which == 2:
-        j = draw.below(9)
+        j = draw.below(len(out))
         out[i], out[j] = out[j], out[i]
     else:                   # all records of another choice
-        systems = draw.pick(((2, 4, 7), (2, 4, 8), (2, 7, 8), (4, 7, 8)))
+        systems = draw.pick([s for s in CHOICES if 3 * len(s) == len(out)])
         for record, (s, c) in zip(out, ref.expected(systems)):
             record[0], record[1] = s, ref.SPLIT_CODE[c]
+    return tuple(map(tuple, out))
+
+
+def miscounted(draw, records):
+    """A system's three records too few, or three too many: six for nine, and
+    nine for six."""
+    systems = sorted({s for s, _, _ in records})
+    if len(systems) == 3:
+        left_out = draw.pick((*systems, systems[2]))
+        return tuple(r for r in records if r[0] != left_out)
+    other = draw.pick([s for s in ref.CANDIDATES if s not in systems])
+    more = tuple((s, ref.SPLIT_CODE[c], draw.pick((0, draw.below(1000))))
+                 for s, c in ref.expected((other,)))
+    out = records + more
+    return tuple(sorted(out, key=lambda r: r[0])) if draw.one_in(2) else out
+
+
+def absent_held(draw, analysis, records):
+    """A record of an absent component with an amount that is not 0."""
+    there = ref.present(ref.simplify(analysis))
+    out = [list(r) for r in records]
+    absent = [r for r in out if ref.SPLIT_CODE.index(r[1]) not in there]
+    draw.pick(absent)[2] = draw.pick((1, 1, draw.between(1, 1000), U32 - 1))
     return tuple(map(tuple, out))
 
 
@@ -312,6 +420,15 @@ def any_split(draw, pool, kind):
     if kind == "start":
         analysis = any_gas(draw)
         return analysis, start_split(analysis)
+    if kind == "absent-held":
+        analysis = draw.pick((lean_gas, lean_gas, trace_gas))(draw)
+        return analysis, absent_held(draw, analysis, draw.pick(
+            (start_split(analysis), random_split(draw, analysis))))
+    if kind == "alone":     # two systems' records, or three's
+        analysis = alone_gas(draw)
+        records = start_split(analysis)
+        return analysis, (miscounted(draw, records) if draw.one_in(2)
+                          else misfit(draw, records))
     analysis, found = pool.pick()
     if kind == "put-back":
         return analysis, found
@@ -334,6 +451,8 @@ def any_split(draw, pool, kind):
         return analysis, tuple((s, c, 0) for s, c, _ in found)
     if kind == "misfit":
         return analysis, misfit(draw, found)
+    if kind == "miscount":
+        return analysis, miscounted(draw, found)
     if kind == "other-gas":
         return any_gas(draw), found
     raise ValueError(kind)
@@ -342,7 +461,7 @@ def any_split(draw, pool, kind):
 SPLIT_KINDS = ("put-back", "put-back", "near", "near", "near", "border",
                "border", "wide", "start", "miss-by-one", "miss", "wrap",
                "wrap", "empty", "empty", "all-zero", "misfit", "misfit",
-               "other-gas")
+               "miscount", "absent-held", "alone", "other-gas", "other-gas")
 
 
 # -------------------------------------------------------------- sheets
@@ -365,7 +484,7 @@ def listed_of(analysis):
 
 def random_records(draw):
     return tuple((draw.below(256), draw.below(256), draw.below(U32))
-                 for _ in range(9))
+                 for _ in range(draw.pick((6, 9))))
 
 
 def range_sheet(draw, records):
@@ -406,7 +525,7 @@ def codes_sheet(draw, records):
             j = draw.below(len(listed))
             listed[i], listed[j] = listed[j], listed[i]
         elif which == 2 and len(listed) > 1:
-            del listed[i]
+            del listed[draw.pick((0, i))]       # methane, or any
         elif which == 3 and len(listed) < 11:
             listed.insert(i, listed[i])
         elif which == 4 and len(listed) < 11:
@@ -422,7 +541,7 @@ def torn_sheet(draw, good):
     if which == 0:
         return good[:draw.below(len(good))]
     if which == 1:
-        extra = draw.pick((1, 1, 5, 6, 54, draw.below(300)))
+        extra = draw.pick((1, 1, 5, 6, 18, 36, 54, draw.below(300)))
         return good + bytes(draw.pick((0, draw.below(256)))
                             for _ in range(extra))
     out = bytearray(good)
@@ -431,10 +550,10 @@ def torn_sheet(draw, good):
         out[0] = draw.pick((0, out[0] - 1, out[0] + 1, 11, 12,
                             draw.below(256)))
     elif which == 3:
-        out[second] = draw.pick((0, 1, 3, 6, 8, 9, 10, 255,
+        out[second] = draw.pick((0, 1, 3, 6, 8, 9, 10, 12, 255,
                                  draw.below(256)))
     else:                   # both the count and the bytes
-        n = draw.below(16)
+        n = draw.pick((3, 6, 9, 12, 255, draw.below(16)))
         out[second:] = bytes([n]) + bytes(
             draw.below(256) for _ in range(6 * n))
     return bytes(out)
@@ -528,7 +647,7 @@ def unfit(draw, analysis):
     a = list(analysis)
     code = draw.pick(CODES)
     least, greatest = ref.RANGE[code]
-    a[code] = draw.pick((0, least - 1, greatest + 1, U32 - 1,
+    a[code] = draw.pick((0, 1, least - 1, greatest + 1, U32 - 1,
                          a[code] + 300, max(a[code] - 300, 0)))
     return tuple(a)
 
@@ -660,7 +779,7 @@ def writer_cases(seed):
             records = random_records(draw)
         if draw.one_in(8):
             analysis = unfit(draw, analysis)
-        need = 2 + 5 * len(listed_of(analysis)) + (54 if records else 0)
+        need = len(ref.layout(analysis, records))
         yield analysis, records, draw.pick(
             (need, need - 1, need + 1, 0, 1, 111, draw.below(140)))
 
@@ -689,7 +808,8 @@ def timed(seed, count):
 
 
 def rounds_table(seed, count):
-    for make in (even_gas, small_gas, limit_gas, rich_gas, tie_gas):
+    for make in (even_gas, small_gas, limit_gas, rich_gas, tie_gas, lean_gas,
+                 heavy_gas, rich_lean_gas, trace_gas):
         draw = Draw(seed)
         rounds, seconds, refused, chosen = [], [], 0, {}
         for _ in range(count):

@@ -1,9 +1,9 @@
 """Reference program for the methane number rating, written from document 01,
-and for single systems from request Six of document 02, alone.  Whole numbers
-and exact fractions only.
+for lean gases from request Five of document 02, and for single systems from
+its request Six, alone.  Whole numbers and exact fractions only.
 
 An analysis is a tuple of 14 amounts in parts, indexed by code; 0 is absent,
-and places 0, 9 and 13 are always 0.  A split is nine records
+and places 0, 9 and 13 are always 0.  A split is six or nine records
 (system, code, amount).  A refusal is Refusal(number, at): `at` is the
 record's place for 2 to 4, the set of all codes at fault for 5, else None.
 
@@ -14,6 +14,7 @@ import sys
 from decimal import Decimal
 from fractions import Fraction
 from functools import lru_cache
+from itertools import combinations
 from typing import NamedTuple
 
 PARTS = 1000000            # parts in the whole
@@ -33,7 +34,9 @@ RANGE = {
     11: (50, 100000), 12: (50, 150000),
 }
 RETIRED = (9, 13)
-REQUIRED = (1, 2, 3, 4, 5)
+REQUIRED = (1,)
+SPLIT_COUNTS = (0, 6, 9)
+FEWEST = 2                 # components present in a mixture that is rated
 
 # Components of the simplified mixture, and their codes in a split.
 M, E, P, B = 0, 1, 2, 3
@@ -243,7 +246,7 @@ def read(sheet):
     if size < 1 or sheet[0] > MOST_COMPONENTS:
         return Refusal(1)
     second = 1 + 5 * sheet[0]
-    if size < second + 1 or sheet[second] not in (0, 9):
+    if size < second + 1 or sheet[second] not in SPLIT_COUNTS:
         return Refusal(1)
     if size != second + 1 + 6 * sheet[second]:
         return Refusal(1)
@@ -266,7 +269,7 @@ def read(sheet):
         return refusal
 
     split = None
-    if sheet[second] == 9:
+    if sheet[second]:
         split = tuple(
             (sheet[at], sheet[at + 1],
              int.from_bytes(sheet[at + 2:at + 6], "big"))
@@ -305,8 +308,10 @@ def layout(analysis, split):
 
 
 def write(analysis, split, buffer):
-    """Refusal 5, 6 or 14, or the sheet's length.  `buffer` is a bytearray;
+    """Refusal 1, 5, 6 or 14, or the sheet's length.  `buffer` is a bytearray;
     only the sheet's own bytes are changed, none by a refusal."""
+    if len(split or ()) not in SPLIT_COUNTS:
+        return Refusal(1)
     refusal = check(analysis)
     if refusal:
         return refusal
@@ -345,18 +350,37 @@ def fitness(amounts):
             for s in CANDIDATES}
 
 
+def present(amounts):
+    """The set of components present."""
+    return {c for c, amount in enumerate(amounts) if amount > 0}
+
+
 def choose(amounts):
-    """The chosen systems, rising."""
+    """The chosen systems, rising.  More components present go before more
+    fitness, and this before a lower number."""
     fit = fitness(amounts)
+    there = present(amounts)
     chosen = []
     for wanted in (1, 2):
         for c in CHOICE_ORDER:
+            if c not in there:
+                continue
             if sum(c in FORMULA_ORDER[s] for s in chosen) < wanted:
                 free = [s for s in CANDIDATES
                         if c in FORMULA_ORDER[s] and s not in chosen]
-                chosen.append(min(free, key=lambda s: (-fit[s], s)))
-    assert len(chosen) == 3
+                chosen.append(min(free, key=lambda s: (
+                    -len(there & set(FORMULA_ORDER[s])), -fit[s], s)))
+    if len(there) >= FEWEST:
+        assert len(chosen) == min(len(there), 3)
     return tuple(sorted(chosen))
+
+
+def turned_away(analysis):
+    """5, 6 or 16, else None."""
+    refusal = check(analysis)
+    if refusal is None and len(present(simplify(analysis))) < FEWEST:
+        refusal = Refusal(16)
+    return refusal
 
 
 def inert(analysis):
@@ -433,7 +457,8 @@ def exact_number(system, n1, n2, n3):
 # ------------------------------------------------- the split and the rating
 
 def expected(systems):
-    """The nine (system, component) pairs of the records, in order."""
+    """The (system, component) pairs of the records, three for each system,
+    in order."""
     return [(s, c) for s in systems for c in sorted(FORMULA_ORDER[s])]
 
 
@@ -458,8 +483,8 @@ def mean_and_inert(analysis, parts, numbers):
 
 
 def rate_split(analysis, records):
-    """Refusal 5 to 10, or the rating of a proposed split."""
-    refusal = check(analysis)
+    """Refusal 5, 6, 16 or 7 to 10, or the rating of a proposed split."""
+    refusal = turned_away(analysis)
     if refusal:
         return refusal
     amounts = simplify(analysis)
@@ -522,8 +547,9 @@ def moves(systems):
 
 
 def imbalance(numbers):
-    x, y, z = (cut(n, 10000) for n in numbers)
-    return (x - y) ** 2 + (x - z) ** 2 + (y - z) ** 2
+    """Over every pair of the chosen systems."""
+    return sum((x - y) ** 2 for x, y in
+               combinations([cut(n, 10000) for n in numbers], 2))
 
 
 def first_move(held, numbers, order, stride):
@@ -548,8 +574,8 @@ def first_move(held, numbers, order, stride):
 
 
 def search(analysis, allowance=MOST_ROUNDS):
-    """Refusal 5, 6 or 11, or the rating with its found split."""
-    refusal = check(analysis)
+    """Refusal 5, 6, 16 or 11, or the rating with its found split."""
+    refusal = turned_away(analysis)
     if refusal:
         return refusal
     allowance = min(allowance, MOST_ROUNDS)
@@ -579,7 +605,7 @@ def search(analysis, allowance=MOST_ROUNDS):
 
 
 def rate(sheet):
-    """The answer to a sheet: Refusal 1 to 11, or Rating."""
+    """The answer to a sheet: Refusal 1 to 11 or 16, or Rating."""
     got = read(sheet)
     if isinstance(got, Refusal):
         return got

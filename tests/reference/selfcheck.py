@@ -1,6 +1,7 @@
 """Checks the reference against document 01: the figures given there, the
-limits of 19 and 40 units, found splits put back, and sums; and against request
-Six of document 02: the systems, their rule and their ranges.
+limits of 19 and 40 units, found splits put back, and sums; and against the
+requests Five and Six of document 02: lean gases, the choice for each set of
+components present; the systems, their rule and their ranges.
 
 selfcheck.py [SEED [GASES]]     default 1 and 300
 """
@@ -79,7 +80,7 @@ def refusals():
     assert ref.read(good + b"\0") == Refusal(1)
     assert ref.read(bytes([12]) + bytes(200)) == Refusal(1)
     assert ref.read(bytes([0, 1]) + bytes(6)) == Refusal(1)
-    assert ref.read(bytes(2)) == Refusal(5, frozenset([1, 2, 3, 4, 5]))
+    assert ref.read(bytes(2)) == Refusal(5, frozenset([1]))
 
     def listed(*records):
         return ref.read(gases.sheet_of(records, ()))
@@ -134,6 +135,125 @@ def refusals():
     assert ref.write(thin, None, bytearray()) == Refusal(5, frozenset([2]))
     light = (0, 900000, *A1[2:])
     assert ref.write(light, None, bytearray()) == Refusal(6)
+
+
+def lean():
+    """Absent components: what is still refused, the order 1, 5, 6, 16, 7, the
+    counts of a split, and records of absent components."""
+    biomethane = (0, 970000, 10000, *[0] * 8, 20000, 0, 0)
+    alone = (0, 980000, *[0] * 9, 20000, 0, 0)
+
+    def listed(*records):
+        return ref.rate(gases.sheet_of(records, ()))
+    # Absent is no fault, listed at 0 is; methane must be there.
+    assert isinstance(ref.rate(ref.layout(biomethane, None)), Rating)
+    assert listed((1, 970000), (2, 10000), (3, 0), (11, 20000)) == \
+        Refusal(5, frozenset([3]))
+    assert listed((2, 10000), (11, 20000)) == Refusal(5, frozenset([1]))
+    # 16 after 5 and 6, before 7 and 11; reading and writing don't test it.
+    assert listed((1, 980000), (11, 20000)) == Refusal(16)
+    assert listed((1, 980000), (11, 20101)) == Refusal(6)
+    assert listed((1, 980000), (11, 49)) == Refusal(5, frozenset([11]))
+    assert ref.search(alone, 0) == ref.search(alone) == Refusal(16)
+    for count in (0, 1, 6, 9, 12, 21):
+        assert ref.rate_split(alone, ((4, 1, 0),) * count) == Refusal(16)
+    sheet = ref.layout(alone, None)
+    assert ref.read(sheet) == (alone, None)
+    assert ref.write(alone, None, bytearray(12)) == 12
+
+    # Counts of a split: 0, 6, 9 in a sheet and at the writer, 1 before 5.
+    for count in range(256):
+        records = ((4, 1, 7),) * count
+        for analysis in (biomethane, alone, A1):
+            sheet = ref.layout(analysis, records)
+            room = bytearray(len(sheet))
+            if count in (0, 6, 9):
+                assert ref.read(sheet) == (analysis, records or None)
+                assert ref.write(analysis, records, room) == len(sheet)
+                assert room == sheet
+            else:
+                assert ref.read(sheet) == Refusal(1)
+                assert ref.write(analysis, records, room) == Refusal(1)
+        nothing = ref.write((0,) * 14, records, bytearray())
+        assert nothing.number == (5 if count in (0, 6, 9) else 1)
+        if count != 6:
+            assert ref.rate_split(biomethane, records) == Refusal(7)
+
+    # Two systems, and three: the wrong count, and an absent component's parts.
+    found = ref.search(biomethane)
+    assert [(s, c) for s, c, _ in found.split] == [
+        (4, 1), (4, 2), (4, 3), (8, 1), (8, 2), (8, 14)]
+    assert found.split[2][2] == found.split[5][2] == 0
+    assert ref.rate_split(biomethane, found.split) == found._replace(rounds=0)
+    assert ref.rate_split(A1, ref.search(A1).split[:6]) == Refusal(7)
+    held = list(found.split)
+    held[2] = (4, 3, 1)
+    assert ref.rate_split(biomethane, held) == Refusal(8)
+    nine = (*found.split[:3], (7, 1, 0), (7, 3, 0), (7, 14, 0),
+            *found.split[3:])
+    assert ref.rate_split(biomethane, nine) == Refusal(7)
+
+    # The choice for each set of components present, worked out by hand.
+    x = 50000
+    for amounts, systems in (
+            ((0, 0, 0, 0), ()), ((1000000, 0, 0, 0), (4, 7)),
+            ((900000, x, 0, 0), (4, 8)), ((900000, 0, x, 0), (4, 7)),
+            ((900000, 0, 0, x), (7, 8)), ((0, x, x, 0), (2, 4)),
+            ((0, x, 0, x), (2, 8)), ((0, 0, x, x), (2, 7)),
+            ((900000, x, x, 0), (4, 7, 8)), ((900000, x, 0, x), (4, 7, 8)),
+            ((900000, 0, x, x), (4, 7, 8)), ((0, x, x, x), (2, 7, 8)),
+            ((0, 2 * x, 5 * x, 3 * x), (2, 4, 7)),
+            ((1, 0, 0, 999999), (7, 8)), ((1, 499999, 500000, 0), (2, 4, 7)),
+            # 2 and 4, both with two present: fitter, equally fit, less fit.
+            ((100, 1, 0, 49), (2, 7, 8)), ((100, 1, 0, 48), (2, 7, 8)),
+            ((100, 1, 0, 47), (4, 7, 8))):
+        assert ref.choose(amounts) == systems == plain_choice(amounts), amounts
+
+
+def plain_choice(amounts):
+    """The choice once more, by the number of ones of masks: bit c for
+    component c."""
+    masks = {2: 0b1110, 4: 0b0111, 7: 0b1101, 8: 0b1011}
+    present = sum(1 << c for c in range(4) if amounts[c])
+    weight = (48, 75, 80, 100)
+    chosen = set()
+    for wanted in (1, 2):
+        for c in (2, 1, 3, 0):
+            if not present >> c & 1 or \
+                    sum(masks[s] >> c & 1 for s in chosen) >= wanted:
+                continue
+            best = None
+            for s in (2, 4, 7, 8):
+                if s in chosen or not masks[s] >> c & 1:
+                    continue
+                key = (bin(masks[s] & present).count("1"),
+                       sum(weight[x] * amounts[x] for x in range(4)
+                           if masks[s] >> x & 1))
+                if best is None or key > best[0]:
+                    best = key, s
+            chosen.add(best[1])
+    return tuple(sorted(chosen))
+
+
+def choices(seed, count):
+    """Two components present choose two systems, more choose three, each
+    component present is in two of them; and the choice is that by masks."""
+    draw = gases.Draw(seed)
+    seen = {}
+    for _ in range(count):
+        amounts = [draw.pick((0, 0, 1, draw.below(1000), draw.below(1000000)))
+                   for _ in range(4)]
+        chosen = ref.choose(amounts)
+        assert chosen == plain_choice(amounts), amounts
+        there = ref.present(amounts)
+        if len(there) > 1:
+            assert len(chosen) == (2 if len(there) == 2 else 3)
+            assert all(sum(c in ref.FORMULA_ORDER[s] for s in chosen) >= 2
+                       for c in there)
+            assert all(there & set(ref.FORMULA_ORDER[s]) for s in chosen)
+        seen[frozenset(there)] = seen.get(frozenset(there), 0) + 1
+    assert len(seen) == 16 and min(seen.values()) >= 20
+    return len(seen)
 
 
 PRINTED = ref.columns(ref.TABLE_A2)
@@ -271,8 +391,8 @@ def plain_number(system, n1, n2, n3):
 
 
 def plain_search(analysis, allowance):
-    """The search over a flat list of nine records, everything worked out
-    afresh for each move."""
+    """The search over a flat list of records, everything worked out afresh
+    for each move."""
     amounts = ref.simplify(analysis)
     systems = ref.choose(amounts)
     variables = {2: (3, 2, 14), 4: (1, 2, 3), 7: (1, 3, 14), 8: (1, 2, 14)}
@@ -293,8 +413,9 @@ def plain_search(analysis, allowance):
                 for s in systems]
 
     def uneven(values):
-        x, y, z = [abs(v) // 10000 * (1 if v >= 0 else -1) for v in values]
-        return (x - y) ** 2 + (y - z) ** 2 + (z - x) ** 2
+        cuts = [abs(v) // 10000 * (1 if v >= 0 else -1) for v in values]
+        return sum((cuts[i] - cuts[j]) ** 2
+                   for i in range(len(cuts)) for j in range(i))
 
     rounds, stride = 0, 65536
     while True:
@@ -380,11 +501,19 @@ def found_splits(seed, count):
     draw = gases.Draw(seed)
     worst = Fraction(0)
     rated = 0
+    kinds = {2: 0, 3: 0}
     for n in range(count):
         analysis = gases.any_gas(draw)
         amounts = ref.simplify(analysis)
-        assert sum(amounts) == 1000000 and min(amounts) > 0
+        assert sum(amounts) == 1000000
+        # Present exactly where the analysis has some, and then 8 parts or more.
+        assert all(x >= 8 if raw else x == 0
+                   for x, raw in zip(amounts, ref.tenths(analysis)))
         got = ref.search(analysis)
+        if amounts[0] == 1000000:
+            assert got == Refusal(16)
+            continue
+        kinds[len(ref.choose(amounts))] += 1
         if isinstance(got, Refusal):
             assert got == Refusal(11)
             if n % 16 == 0:
@@ -408,7 +537,7 @@ def found_splits(seed, count):
             assert ref.search(analysis, got.rounds - 1) == Refusal(11)
         if got.rounds < 40:
             assert plain_search(analysis, 4000) == (got.rounds, got.split)
-    assert worst < 40
+    assert worst < 40 and min(kinds.values()) >= count // 10
     return rated, worst
 
 
@@ -421,7 +550,8 @@ def proposed_splits(seed, count):
     for _ in range(count):
         kind, analysis, records = next(cases)
         got = ref.rate_split(analysis, records)
-        fits = not ref.check(analysis)
+        fits = not ref.check(analysis) and \
+            sum(x > 0 for x in ref.simplify(analysis)) > 1
         if fits:
             pairs = ref.expected(ref.choose(ref.simplify(analysis)))
             fits = [(s, c) for s, c, _ in records] == \
@@ -450,11 +580,13 @@ def main(arguments):
     marked_figures()
     compared_figures()
     refusals()
+    lean()
+    sets = choices(seed, 10 * count)
     table_a2()
     ranges()
     spread_limit()
-    print("figures and refusals of document 01, Table A.2's rule and ranges: "
-          "as written")
+    print("figures and refusals of document 01, lean gases, the choice for %d "
+          "sets of components, Table A.2's rule and ranges: as written" % sets)
     cases, worst = partial_limits(seed, 10 * count)
     print("partial numbers: %d of %d systems, farthest from exact %.3f units"
           % (cases, len(ref.SHARES), worst))

@@ -41,8 +41,34 @@ fn main() {
     put_choice(choice::choose([100000, 400000, 300000, 200000]));
     put_choice(choice::choose([100000, 700000, 150000, 50000]));
     put_choice(choice::choose([300000, 50000, 600000, 50000]));
-    // all equally fit
+    // none present
     put_choice(choice::choose([0, 0, 0, 0]));
+    // one
+    put_choice(choice::choose([1000000, 0, 0, 0]));
+    put_choice(choice::choose([0, 1000000, 0, 0]));
+    put_choice(choice::choose([0, 0, 1000000, 0]));
+    put_choice(choice::choose([0, 0, 0, 1000000]));
+    // two
+    put_choice(choice::choose([989796, 10204, 0, 0]));
+    put_choice(choice::choose([994898, 0, 5102, 0]));
+    put_choice(choice::choose([979592, 0, 0, 20408]));
+    put_choice(choice::choose([0, 500000, 500000, 0]));
+    put_choice(choice::choose([0, 500000, 0, 500000]));
+    put_choice(choice::choose([0, 0, 500000, 500000]));
+    // hardly two
+    put_choice(choice::choose([999992, 8, 0, 0]));
+    put_choice(choice::choose([999992, 0, 8, 0]));
+    put_choice(choice::choose([999992, 0, 0, 8]));
+    // three
+    put_choice(choice::choose([900000, 60000, 40000, 0]));
+    put_choice(choice::choose([900000, 60000, 0, 40000]));
+    put_choice(choice::choose([900000, 0, 60000, 40000]));
+    put_choice(choice::choose([0, 300000, 300000, 400000]));
+    put_choice(choice::choose([0, 200000, 500000, 300000]));
+    // three: system 2 fitter than 4, and equally fit
+    put_choice(choice::choose([530000, 210000, 0, 260000]));
+    put_choice(choice::choose([500000, 260000, 0, 240000]));
     // the largest amounts
+    put_choice(choice::choose([4294967295, 4294967295, 0, 0]));
     put_choice(choice::choose([4294967295, 4294967295, 4294967295, 4294967295]));
 }

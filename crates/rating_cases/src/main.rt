@@ -181,6 +181,121 @@ const REMAINDERS_AFTER_METHANE: [u32; CODES] = [
     0,
 ];
 
+// Gases with one component beside methane; butane also from pentanes and hexanes+, and in traces.
+const ETHANE_ALONE: [u32; CODES] = [0, 970000, 10000, 0, 0, 0, 0, 0, 0, 0, 0, 20000, 0, 0, 0, 0];
+
+const PROPANE_ALONE: [u32; CODES] = [0, 975000, 0, 5000, 0, 0, 0, 0, 0, 0, 0, 20000, 0, 0, 0, 0];
+
+const BUTANE_ALONE: [u32; CODES] = [0, 960000, 0, 0, 0, 20000, 0, 0, 0, 0, 0, 20000, 0, 0, 0, 0];
+
+const PENTANES_ALONE: [u32; CODES] = [
+    0,
+    979000,
+    0,
+    0,
+    0,
+    0,
+    0,
+    5000,
+    5000,
+    0,
+    1000,
+    10000,
+    0,
+    0,
+    0,
+    0,
+];
+
+const TRACE_I_BUTANE: [u32; CODES] = [0, 989990, 0, 0, 10, 0, 0, 0, 0, 0, 0, 10000, 0, 0, 0, 0];
+
+const TRACE_NEO_PENTANE: [u32; CODES] = [0, 989990, 0, 0, 0, 0, 10, 0, 0, 0, 0, 10000, 0, 0, 0, 0];
+
+// Gases without one of the four.
+const NO_BUTANE: [u32; CODES] = [
+    0,
+    950000,
+    30000,
+    10000,
+    0,
+    0,
+    0,
+    0,
+    0,
+    0,
+    0,
+    10000,
+    0,
+    0,
+    0,
+    0,
+];
+
+const NO_PROPANE: [u32; CODES] = [
+    0,
+    950000,
+    30000,
+    0,
+    5000,
+    5000,
+    0,
+    0,
+    0,
+    0,
+    0,
+    10000,
+    0,
+    0,
+    0,
+    0,
+];
+
+const NO_ETHANE: [u32; CODES] = [
+    0,
+    950000,
+    0,
+    30000,
+    5000,
+    5000,
+    0,
+    0,
+    0,
+    0,
+    0,
+    10000,
+    0,
+    0,
+    0,
+    0,
+];
+
+// Mix 1 of 000 Table A.10.
+const MIX_1: [u32; CODES] = [0, 835300, 34700, 0, 0, 0, 0, 0, 0, 0, 0, 0, 130000, 0, 0, 0];
+
+// Methane and carbon dioxide; the same with a smaller total; no methane.
+const METHANE_ALONE: [u32; CODES] = [0, 990000, 0, 0, 0, 0, 0, 0, 0, 0, 0, 10000, 0, 0, 0, 0];
+
+const METHANE_ALONE_999899: [u32; CODES] = [
+    0,
+    989899,
+    0,
+    0,
+    0,
+    0,
+    0,
+    0,
+    0,
+    0,
+    0,
+    10000,
+    0,
+    0,
+    0,
+    0,
+];
+
+const NO_METHANE: [u32; CODES] = [0, 0, 100000, 0, 0, 0, 0, 0, 0, 0, 0, 20000, 0, 0, 0, 0];
+
 fn put(text: &[u8]) {
     io::write_all(STDOUT_FILENO, text);
 }
@@ -204,11 +319,16 @@ fn put_search(amounts: [u32; CODES], allowance: u32) {
     put_answer(answer);
 }
 
-// The split that the search finds, put back.
-fn put_back(amounts: [u32; CODES]) {
-    let outcome = rating::rate_by_search(Analysis { amounts }, 4000);
+// A gas with the split that the search finds for another.
+fn put_split_of(other: [u32; CODES], amounts: [u32; CODES]) {
+    let outcome = rating::rate_by_search(Analysis { amounts: other }, 4000);
     let split = outcome.split;
     put_answer(rating::rate_split(Analysis { amounts }, split));
+}
+
+// The split that the search finds, put back.
+fn put_back(amounts: [u32; CODES]) {
+    put_split_of(amounts, amounts);
 }
 
 // A number of parts.
@@ -229,6 +349,13 @@ fn put_mixture(amounts: [u32; CODES]) {
     put(b"\n");
 }
 
+// The mixture, its rating, and the split that was found put back.
+fn put_gas(amounts: [u32; CODES]) {
+    put_mixture(amounts);
+    put_search(amounts, 4000);
+    put_back(amounts);
+}
+
 fn main() {
     // the gas of Table A.1: no rounds, the most rounds, what was found put back
     put_search(GAS, 0);
@@ -242,7 +369,28 @@ fn main() {
     put_mixture(REMAINDERS_AFTER_BUTANE);
     put_mixture(REMAINDERS_AFTER_METHANE);
     // systems 2, 7 and 8
-    put_mixture(BUTANE);
-    put_search(BUTANE, 4000);
-    put_back(BUTANE);
+    put_gas(BUTANE);
+    // lean gases
+    put_gas(ETHANE_ALONE);
+    put_gas(PROPANE_ALONE);
+    put_gas(BUTANE_ALONE);
+    put_gas(PENTANES_ALONE);
+    put_gas(TRACE_I_BUTANE);
+    put_gas(TRACE_NEO_PENTANE);
+    put_gas(NO_BUTANE);
+    put_gas(NO_PROPANE);
+    put_gas(NO_ETHANE);
+    put_gas(MIX_1);
+    // one component present
+    put_mixture(METHANE_ALONE);
+    put_search(METHANE_ALONE, 4000);
+    put_search(METHANE_ALONE, 0);
+    put_search(METHANE_ALONE_999899, 4000);
+    put_search(NO_METHANE, 4000);
+    // six records for three systems, nine for two, both for methane alone
+    put_split_of(ETHANE_ALONE, GAS);
+    put_split_of(GAS, ETHANE_ALONE);
+    put_split_of(ETHANE_ALONE, METHANE_ALONE);
+    put_split_of(GAS, METHANE_ALONE);
+    put_split_of(GAS, METHANE_ALONE_999899);
 }

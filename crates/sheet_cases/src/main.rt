@@ -20,15 +20,17 @@ const BEFORE: u8 = 165;
 const UNUSED: u32 = 2779096485;
 
 // How a writing went.
-const REFUSED_5: u8 = 0;
+const REFUSED_1: u8 = 0;
 
-const REFUSED_6: u8 = 1;
+const REFUSED_5: u8 = 1;
 
-const REFUSED_14: u8 = 2;
+const REFUSED_6: u8 = 2;
 
-const WRITTEN: u8 = 3;
+const REFUSED_14: u8 = 3;
 
-const OTHER: u8 = 4;
+const WRITTEN: u8 = 4;
+
+const OTHER: u8 = 5;
 
 // Bytes of a case of `writings` before the sheet: the amounts, the split count, the records.
 const AMOUNT_BYTES: usize = 64;
@@ -127,6 +129,9 @@ fn begins(space: &[u8; LARGEST], sheet: &[u8]) -> bool {
 
 // How a refusal that changed nothing counts.
 fn refusal(number: u32, code: u32, faults: u16) -> u8 {
+    if number == 1 {
+        return REFUSED_1;
+    }
     if number == 5 {
         return if at_fault(code, faults) {
             REFUSED_5
@@ -184,7 +189,7 @@ fn count(analysis: Analysis, split: Split, sheet: &[u8], faults: u16, so: u8) ->
 // Prints how the writings went, in the order of the constants above.
 fn put_writings(analysis: Analysis, split: Split, sheet: &[u8], faults: u16) {
     put(b"WRITE");
-    let mut so: u8 = REFUSED_5;
+    let mut so: u8 = REFUSED_1;
     while so <= OTHER {
         put_number(count(analysis, split, sheet, faults, so));
         so += 1;
