@@ -3,6 +3,6 @@ pub mod Table
 pub mod CheckedCases
 pub mod Check
 pub mod Packed
-pub mod Ranges
 pub mod Required
+pub mod Ranges
 pub mod Examples

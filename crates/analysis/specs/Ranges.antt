@@ -11,12 +11,13 @@ use lib.Dec.{eqb, leb}
 use lib.ListN.{length, getD, drop, drop-of-length-le}
 use lib.Seq.{drop-cons}
 use borrow.Author.Tests.{eqb-true, eqb-false, leb-true}
-use Rattle.analysis.specs.Register.{CODES, ifElse, statusOf}
+use Rattle.analysis.specs.Register.{CODES, ifElse, register, statusOf}
 use Rattle.analysis.specs.declared.Checked.{Checked}
 use Rattle.analysis.specs.declared.Checked.the-variants.{InRange, Refused}
 use Rattle.analysis.specs.CheckedCases.{numberOf, codeOf}
 use Rattle.analysis.specs.Check.{leastOf, greatestOf, requiredOf, inRange, allInRange, totalOf, totalFits}
-use Rattle.analysis.specs.Check.{refusalBy, refusalOf, answerOf, Checking}
+use Rattle.analysis.specs.Check.{refusalOf, answerOf, Checking}
+use Rattle.analysis.specs.Required.{all-head, refusal-none, all-register, all-from}
 
 -- the number of the check's answer is the analysis's
 pub answer-number : (n code : ℕ) → numberOf (answerOf n code) ≡ n
@@ -85,27 +86,11 @@ module _ (code x : ℕ) (h : inRange code x ≡ true) where
       go false e = inr (range-least (eqb-false x 0 e))
 
 -- each amount of an analysis whose amounts are all in range
-all-head : (t u : Bool) → ifElse t u false ≡ true → (t ≡ true) × (u ≡ true)
-all-head true u h = (refl, h)
-all-head false u h = let z : _≡_ {A = Bool} false true = h in (z, cc)
-
-all-from : (a : List ℕ) (code k : ℕ) → allInRange code a ≡ true → k < length a → inRange (code + k) (getD a k 0) ≡ true
-all-from [] code k h l = absurd (omega arith)
-all-from (x ∷ xs) code zero h l =
-    let e : code + zero ≡ code = omega arith in
-    rw e (all-head (inRange code x) (allInRange (suc code) xs) h .0)
-all-from (x ∷ xs) code (suc k) h l =
-    let e : code + suc k ≡ suc code + k = omega arith in
-    rw e (all-from xs (suc code) k (all-head (inRange code x) (allInRange (suc code) xs) h .1) (omega arith))
-
 pub all-at : (a : List ℕ) (k : ℕ) → allInRange 0 a ≡ true → k < length a → inRange k (getD a k 0) ≡ true
-all-at a k h l = let e : 0 + k ≡ k = omega arith in rw e at (all-from a 0 k h l)
-
--- what it says that an analysis is not refused
-refusal-none : (t u : Bool) → refusalBy t u ≡ 0 → (t ≡ true) × (u ≡ true)
-refusal-none true true h = (refl, refl)
-refusal-none true false h = absurd (omega arith)
-refusal-none false u h = absurd (omega arith)
+unfolding inRange statusOf
+all-at a k h l =
+    let e : 0 + k ≡ k = omega arith in
+    rw e at (all-from register a 0 k (all-register 0 a ∙ h) l)
 
 module _ (a : List ℕ) (h : refusalOf a ≡ 0) where
   pub passed-ranges : allInRange 0 a ≡ true

@@ -47,8 +47,8 @@ const RANGES: [u64; CODES] = [
     1,
 ];
 
-// The code where its amount is out of its range, else the code at fault so far. 0 is in range where the code may be absent:
-// all but 1.
+// The code where its amount is out of its range, else the code at fault so far. 0 is in range where the code may be
+// absent: all but 1.
 fn fault_at(code: usize, amount: u32, range: u64, fault: usize) -> usize
     requires { ⌜ (code < CODES) × (range ≡ rangeOf code) ⌝ }
     ensures { λ r. ⌜ r ≡ ifElse (inRange code amount) fault code ⌝ }

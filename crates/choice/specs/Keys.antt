@@ -1,4 +1,5 @@
--- The keys of the candidates (document 01, "Choice of systems"), which tell the fittest and the chosen systems without marks. Assumes nothing.
+-- The keys of the candidates (document 01, "Choice of systems"; document 02, Five), which tell the system to take and the
+-- chosen ones without marks. Assumes nothing.
 use Prim.Native.Nat.{ℕ, zero, suc, _+_, _<_}
 use mathlib.Core.Path.{_≡_}
 use mathlib.Core.List.{List}
@@ -12,7 +13,7 @@ unfoldable pub weighedTo : List ℕ → ℕ → ℕ → ℕ
 weighedTo mix system zero = 0
 weighedTo mix system (suc c) = weighedTo mix system c + cond (hasOf system c) (weightedOf mix c) 0
 
--- a system's key: 0 where it is chosen, else its fitness and 1
+-- a system's key: 0 where it is chosen, else its standing and 1
 unfoldable pub keyOf : (ℕ → ℕ) → List Bool → ℕ → ℕ
 keyOf fit marks system = cond (isChosen marks system) 0 (fit system + 1)
 

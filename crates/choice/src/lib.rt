@@ -159,8 +159,8 @@ fn keys_of(m: [u32; COMPONENTS], p: u32) -> [u64; KEYS]
     keys
 }
 
-// Component c takes the fittest candidate that contains it and is not chosen, equal fitness to the lower number, where
-// fewer than the wanted number of chosen systems contain c.
+// Component c takes the candidate with the greatest key, equal keys to the lower number, of those that contain it and
+// are not chosen, where fewer than the wanted number of chosen systems contain c.
 fn take(keys: &mut [u64; KEYS], wanted: usize, c: usize)
     requires { ⌜ c < COMPONENTS ⌝ }
     ensures { λ _. ⌜ ((fit : ℕ → ℕ) → (marks : List Bool) → Keyed fit marks (now (keys .entry)) → Keyed fit (takeOf fit candidates wanted marks c) (now (keys .exit))) ⌝ }

@@ -1,5 +1,5 @@
--- Absent components (document 02, Five): no record of one has parts in a split that is rated, and 16 is refused exactly
--- where methane alone is there. Assumes nothing.
+-- Absent components (document 02, Five): no record of one has parts in a split that is rated, and an analysis is
+-- refused 16 exactly where methane alone is there. Assumes nothing.
 use mathlib.Core.Path.{_≡_, refl, sym, ap, _∙_, subst}
 use mathlib.Core.Bool.{Bool, true, false}
 use mathlib.Core.List.{List, [], _∷_}
@@ -8,67 +8,109 @@ use Prim.Native.Nat.{ℕ, _+_, _*_, _<_}
 use native.Mathlib.Omega.{arith}
 use lib.Count.{ones}
 use lib.Dec.{ltb}
-use lib.IntN.{ℤ}
+use lib.IntN.{ℤ, pos}
 use lib.ListN.{getD, length}
 use borrow.Author.Tests.{ltb-true, ltb-false, le-ltb}
 use Rattle.refusal.specs.Register.{TOO_FEW}
+use Rattle.formula.specs.WorkingRule.{worked, rowsOf, horner, coefs, sumAbs}
+use Rattle.formula.specs.Coefficients.{placeIn, keepsRule, isSystem, tableOf}
+use Rattle.formula.specs.Partial.{partialNumber}
 use Rattle.analysis.specs.Register.{CODES, statusOf}
 use Rattle.analysis.specs.Check.{inRange, totalFits, refusalOf}
 use Rattle.sheet.specs.declared.Split.{Split}
 use Rattle.mixture.specs.Simplification.{tenthsOf, amountOf, butaneOf}
-use Rattle.mixture.specs.Inert.{inertFirst}
-use Rattle.mixture.specs.Scaling.{greatestTo, distributed, scaledOf}
+use Rattle.mixture.specs.Inert.{methaneShare, inertFirst}
+use Rattle.mixture.specs.Scaling as scaling
+use Rattle.mixture.specs.Scaling.{distributed, scaledOf}
 use Rattle.mixture.specs.Marked.{methaneEthane, methane-ethane}
 use Rattle.mixture.specs.Bounds.{simplified-methane, simplified-least, simplified-absent}
 use Rattle.systems.specs.Systems.{COMPONENTS, hasOf, memberOf}
 use Rattle.systems.specs.Members.{countTo}
 use Rattle.systems.specs.Choice.{fold, maskFrom, maskOf, inMask, presentAt, presentOf, presentCount, presentIn, keep}
-use Rattle.systems.specs.Choice.{allTo, fitnessOf, standingOf, containingOf, scoreOf, betterOf, fittestOf, takeOf}
-use Rattle.systems.specs.Choice.{passOf, marksOf, listOf, chosenOf, chooseOf}
+use Rattle.systems.specs.Choice as choice
+use Rattle.systems.specs.Choice.{fitnessOf, standingOf, containingOf, scoreOf, betterOf, fittestOf, takeOf}
+use Rattle.systems.specs.Choice.{passOf, marksOf, listOf, chosenOf, chooseOf, paddedOf}
 use Rattle.systems.specs.Presence.{present-count, two-present}
+use Rattle.split.specs.Fold.{sumTo, sumToZ, greatestTo, leastTo, allTo, someTo, table}
 use Rattle.split.specs.Folds.{sum-has}
-use Rattle.split.specs.Split.{cellOf, systemOf, columnOf, componentAt, cellsOf}
+use Rattle.split.specs.Split.{cellOf, systemOf, columnOf, componentAt, cellsOf, partsOf, numberAt, heldOf, rankOf}
+use Rattle.split.specs.Rating.{spreadOf, weightedOf, meanOf, inertNumber, ratingOf, resums, someEmpty, proposedOf}
+use Rattle.split.specs.Fits.{Resums}
+use Rattle.split.specs.Refused.{refused-8-exactly-when}
 use Rattle.split.specs.Clean.{row-held}
 use Rattle.split.specs.Places.{component-lt, component-has, rank-component}
 use Rattle.split.specs.Records.{cells-cell}
 use Rattle.split.specs.Rated.{IsRated, rated-fit}
-use Rattle.split.specs.declared.Answer.the-variants.{Rated}
-use Rattle.rating.specs.Rate.{LIMIT, mixOf, systemsFor, countFor, ratingRefusal, splitAnswer}
-use Rattle.rating.specs.RatedOn.{InRange, enough-on, too-few}
+use Rattle.split.specs.declared.Answer.the-variants.{Rated, Refused}
+use Rattle.rating.specs.Rate.{LIMIT, mixOf, systemsFor, countFor, ratingRefusal, splitAnswer, searchOutcome}
+use Rattle.rating.specs.RatedOn.{InRange, RatedOn, enough-on, too-few}
 use Rattle.rating.specs.Ready.{chosen}
-use Rattle.demand.specs.Answers.{split-rated}
+use Rattle.demand.specs.Answers.{expected-fits, split-by-records, split-fits, split-rated}
+use Rattle.demand.specs.Demand.{Expected, proposal, put-back}
 
 -- ---- the records of an absent component
 
-module _ (a : List ℕ) (p : Split) (code : ℕ) (w : ℤ) (s r : ℕ) (is : splitAnswer a p code ≡ Rated w s r) where
-  cells : List ℕ
-  cells = cellsOf (systemsFor a) (countFor a) (p .amounts)
+-- the cells of a split's amounts, and the cell of the jth record of the ith chosen system
+abbrev cellsIn : List ℕ → Split → List ℕ
+cellsIn a p = cellsOf (systemsFor a) (countFor a) (p .amounts)
 
-  -- a split that is rated re-sums
-  column : (c : ℕ) → c < COMPONENTS → columnOf (countFor a) cells c ≡ getD (mixOf a) c 0
-  unfolding cells
-  column c l =
-      rated-fit LIMIT (systemsFor a) (countFor a) (mixOf a) (cellsOf (systemsFor a) (countFor a) (p .amounts))
-      (inertFirst a) (subst IsRated (sym (split-rated a p code w s r is .1)) tt) .sums c l
+abbrev componentOf : List ℕ → ℕ → ℕ → ℕ
+componentOf a i j = componentAt (systemOf (systemsFor a) i) j
 
-  absent-cell : (i c : ℕ) → i < countFor a → c < COMPONENTS → getD (mixOf a) c 0 ≡ 0 → cellOf cells i c ≡ 0
-  unfolding columnOf
-  absent-cell i c h l e = omega (arith, column c l, sum-has (λ s. cellOf cells s c) (countFor a) i h)
+module _ (a : List ℕ) (on : RatedOn a) (p : Split) (i j : ℕ) (h : i < countFor a) (l : j < 3) where
+  low : componentOf a i j < COMPONENTS
+  low = component-lt (systemOf (systemsFor a) i) (chosen a on .known i h) j l
 
-  -- the jth record of the ith chosen system, where its component is absent
-  pub absent-record : (i j : ℕ) → i < countFor a → j < 3
-      → getD (mixOf a) (componentAt (systemOf (systemsFor a) i) j) 0 ≡ 0 → getD (p .amounts) (3 * i + j) 0 ≡ 0
-  unfolding cells
-  absent-record i j h l e =
-      let cn = chosen a (split-rated a p code w s r is .0) in
+  record-cell : cellOf (cellsIn a p) i (componentOf a i j) ≡ getD (p .amounts) (3 * i + j) 0
+  record-cell =
       let system = systemOf (systemsFor a) i in
-      let known = cn .known i h in
-      let low = component-lt system known j l in
-      sym (
-      cells-cell (systemsFor a) (countFor a) (p .amounts) i (componentAt system j) (omega (arith, cn .most)) low
+      let known = chosen a on .known i h in
+      cells-cell (systemsFor a) (countFor a) (p .amounts) i (componentAt system j) (omega (arith, chosen a on .most))
+      low
       ∙ rw (row-held (systemsFor a) (countFor a) i (componentAt system j) h (component-has system known j l))
-      (ap (λ (n : ℕ). getD (p .amounts) (3 * i + n) 0) (rank-component system known j l)))
-      ∙ absent-cell i (componentAt system j) h low e
+      (ap (λ (n : ℕ). getD (p .amounts) (3 * i + n) 0) (rank-component system known j l))
+
+  -- where the split re-sums and the component is absent, the record has no parts
+  resummed-none : Resums (mixOf a) (countFor a) (cellsIn a p) → getD (mixOf a) (componentOf a i j) 0 ≡ 0
+      → getD (p .amounts) (3 * i + j) 0 ≡ 0
+  unfolding columnOf
+  resummed-none sums e =
+      sym record-cell
+      ∙ omega (
+        arith,
+        sums (componentOf a i j) low,
+        sum-has (λ s. cellOf (cellsIn a p) s (componentOf a i j)) (countFor a) i
+            h,
+        e,
+      )
+
+-- a split that is rated has none,
+pub absent-record : (a : List ℕ) (p : Split) (code : ℕ) (w : ℤ) (s r : ℕ) → splitAnswer a p code ≡ Rated w s r
+    → (i j : ℕ) → i < countFor a → j < 3 → getD (mixOf a) (componentOf a i j) 0 ≡ 0
+    → getD (p .amounts) (3 * i + j) 0 ≡ 0
+absent-record a p code w s r is i j h l e =
+    let (on, rated) = split-rated a p code w s r is in
+    let fit = rated-fit LIMIT (systemsFor a) (countFor a) (mixOf a) (cellsIn a p) (inertFirst a)
+    (subst IsRated (sym rated) tt) in
+    resummed-none a on p i j h l (fit .sums) e
+
+-- so has a split that the search found,
+pub found-absent-record : (a : List ℕ) → length a ≡ CODES → (allowance code : ℕ) (w : ℤ) (s r : ℕ)
+    → searchOutcome a allowance code .answer ≡ Rated w s r
+    → (i j : ℕ) → i < countFor a → j < 3 → getD (mixOf a) (componentOf a i j) 0 ≡ 0
+    → getD (searchOutcome a allowance code .split .amounts) (3 * i + j) 0 ≡ 0
+found-absent-record a long allowance code w s r is =
+    absent-record a (searchOutcome a allowance code .split) code w s 0 (put-back a long allowance code code w s r is)
+
+-- and any other amount in the records expected is 8
+pub absent-unsummed : (a : List ℕ) → RatedOn a → (p : Split) (code : ℕ) → Expected a p
+    → (i j : ℕ) → i < countFor a → j < 3 → getD (mixOf a) (componentOf a i j) 0 ≡ 0
+    → 0 < getD (p .amounts) (3 * i + j) 0 → splitAnswer a p code ≡ Refused 8 0
+absent-unsummed a on p code x i j h l e some =
+    let fits = expected-fits _ _ _ (p .systems) (p .codes) (x .many) (x .systems) (x .codes) in
+    let refused = refused-8-exactly-when LIMIT (systemsFor a) (countFor a) (mixOf a) (cellsIn a p) (inertFirst a) .1 in
+    split-by-records a p code true on fits
+    ∙ refused (λ sums. let z = resummed-none a on p i j h l sums e in omega arith)
 
 -- ---- refusal 16
 
@@ -118,18 +160,45 @@ module _ (a : List ℕ) (long : length a ≡ CODES) (passed : InRange a) where
   pub few-exactly-when : (ratingRefusal a ≡ TOO_FEW) ↔ MethaneAlone a
   few-exactly-when = (few-alone, alone-few)
 
--- ---- worked examples: methane with ethane alone has systems 4 and 8, and methane alone is refused 16
+-- ---- worked examples
+
+-- methane with ethane alone is rated on, and has systems 4 and 8
+pub two-on : ratingRefusal methaneEthane ≡ 0
+unfolding ratingRefusal refusalOf inRange totalFits statusOf scaling.greatestTo distributed scaledOf tenthsOf presentOf
+    maskFrom ones
+two-on = refl
 
 pub two-systems : chooseOf (mixOf methaneEthane) ≡ 4 ∷ 8 ∷ []
 unfolding chooseOf marksOf passOf takeOf containingOf fittestOf betterOf scoreOf chosenOf listOf fold fitnessOf
-    standingOf
-    allTo keep inMask presentOf presentIn maskOf maskFrom ones hasOf memberOf
+    standingOf choice.allTo keep inMask presentOf presentIn maskOf maskFrom ones hasOf memberOf
 two-systems = ap chooseOf methane-ethane
 
+-- with six records, as the search finds them, it has a rating and a spread
+abbrev sixAmounts : List ℕ
+sixAmounts = 331058 ∷ 5102 ∷ 0 ∷ 658738 ∷ 5102 ∷ 0 ∷ []
+
+six-rated : proposedOf LIMIT (paddedOf (4 ∷ 8 ∷ [])) 2 (989796 ∷ 10204 ∷ 0 ∷ 0 ∷ [])
+    (cellsOf (paddedOf (4 ∷ 8 ∷ [])) 2 sixAmounts) 980000 ≡ Rated (pos 974058216) 129517 0
+unfolding worked rowsOf horner coefs sumAbs placeIn keepsRule isSystem tableOf partialNumber memberOf hasOf paddedOf
+    sumTo sumToZ greatestTo leastTo allTo someTo table partsOf columnOf numberAt heldOf rankOf cellsOf spreadOf
+    weightedOf meanOf inertNumber ratingOf resums someEmpty proposedOf
+six-rated = refl
+
+pub two-rated : splitAnswer methaneEthane (proposal methaneEthane sixAmounts) 0 ≡ Rated (pos 974058216) 129517 0
+unfolding methaneShare tenthsOf
+two-rated =
+    split-fits methaneEthane (proposal methaneEthane sixAmounts) 0 two-on refl refl refl
+    ∙ ap (λ (m : List ℕ). proposedOf LIMIT (paddedOf (chooseOf m)) (length (chooseOf m)) m
+    (cellsOf (paddedOf (chooseOf m)) (length (chooseOf m)) sixAmounts) 980000) methane-ethane
+    ∙ ap (λ (l : List ℕ). proposedOf LIMIT (paddedOf l) (length l) (989796 ∷ 10204 ∷ 0 ∷ 0 ∷ [])
+    (cellsOf (paddedOf l) (length l) sixAmounts) 980000) (ap chooseOf (sym methane-ethane) ∙ two-systems)
+    ∙ six-rated
+
+-- methane alone is refused 16
 abbrev alone : List ℕ
 alone = 0 ∷ 990000 ∷ 0 ∷ 0 ∷ 0 ∷ 0 ∷ 0 ∷ 0 ∷ 0 ∷ 0 ∷ 0 ∷ 10000 ∷ 0 ∷ 0 ∷ 0 ∷ 0 ∷ []
 
 pub alone-refused : ratingRefusal alone ≡ TOO_FEW
-unfolding ratingRefusal refusalOf inRange totalFits statusOf greatestTo distributed scaledOf tenthsOf presentOf maskFrom
-    ones
+unfolding ratingRefusal refusalOf inRange totalFits statusOf scaling.greatestTo distributed scaledOf tenthsOf presentOf
+    maskFrom ones
 alone-refused = refl

@@ -6,8 +6,9 @@
 -- that the search found, whatever its allowance, put back as a proposal for the same analysis, gets the same rating and
 -- spread (2). Every rating is less than 0.000004 (40 units) from the exact fraction of the formulas at those amounts
 -- (3). And from the first demand: each accepted sheet ends in a rating or in refusal 11 where it has no split; where it
--- has its own it ends in a rating or in one of 7 to 10, and is rated exactly when; one that is read and has fewer than
--- two components is refused 16; every sheet ends in a rating, in one of 1 to 11 or in 16 (4).
+-- has its own it ends in a rating or in one of 7 to 10, and is rated exactly when; one that is read, with fewer than
+-- two components present after simplification, is refused 16; every sheet ends in a rating, in one of 1 to 11 or in 16
+-- (4).
 --
 -- The public functions `rate_split`, `rate_by_search` and `rate_sheet` promise `splitAnswer`, `searchOutcome` and
 -- `sheetOutcome`, of which these theorems speak. An analysis is its 16 amounts, that of code k at index k. It is in
@@ -54,7 +55,7 @@ use Rattle.rating.specs.Rate.{LIMIT, mixOf, systemsFor, countFor}
 use Rattle.rating.specs.Rate.{outcome, splitAnswer, searchOutcome, sheetOutcome}
 use Rattle.rating.specs.RatedOn.{InRange, RatedOn, on-exactly-when, too-few}
 use Rattle.rating.specs.Ready.{choosable, chosen, room, million, inert-million}
-use Rattle.rating.specs.Ends.{read-passed, split-ends}
+use Rattle.rating.specs.Ends.{read-passed, split-ends, split-few-exactly-when, search-few-exactly-when}
 use Rattle.rating.specs.declared.Outcome.{Outcome}
 use Rattle.demand.specs.Answers.{expected-fit, fits-expected, expected-fits, split-by-records, split-fits}
 use Rattle.demand.specs.Answers.{split-rated, found-back}
@@ -66,6 +67,13 @@ use Rattle.demand.specs.RatedSheets.{analysisIn, splitRated, sheet-split
 -- rated on: in range, and two components at least are present after simplification
 pub rated-on-exactly-when : (a : List ℕ) → RatedOn a ↔ (InRange a × (2 ≤ presentCount (simplifiedOf a)))
 rated-on-exactly-when a = on-exactly-when a
+
+-- 16 is the answer to an analysis in range exactly where they are fewer: to every proposed split, and by the search
+pub few-exactly-when : (a : List ℕ) → InRange a → (p : Split) (allowance code : ℕ)
+    → ((splitAnswer a p code ≡ Refused 16 0) ↔ (presentCount (simplifiedOf a) < 2))
+    × ((searchOutcome a allowance code .answer ≡ Refused 16 0) ↔ (presentCount (simplifiedOf a) < 2))
+few-exactly-when a h p allowance code =
+    (split-few-exactly-when a code h p, search-few-exactly-when a code h allowance)
 
 -- then two components present have two chosen systems, three or four have three
 pub two-or-three : (a : List ℕ) → RatedOn a

@@ -6,7 +6,8 @@
 -- and fitness is the choice by fitness alone, and the answers are the same: to every proposed split, and by the search
 -- with every allowance, rating, spread, rounds and split. `code` is the code that refusal 5 carries.
 use mathlib.Core.Path.{_≡_, refl, sym, ap, _∙_, subst}
-use mathlib.Core.Bool.{Bool, true, false}
+use mathlib.Core.Bool.{Bool, true, false, cond}
+use mathlib.Core.Logic.{_↔_}
 use mathlib.Core.List.{List, [], _∷_}
 use Prim.Native.Nat.{ℕ, zero, suc, _<_}
 use native.Mathlib.Omega.{arith}
@@ -14,13 +15,20 @@ use lib.Dec.{eqb}
 use lib.IntN.{ℤ}
 use lib.ListN.{getD, length}
 use borrow.Author.Tests.{eqb-true}
-use Rattle.analysis.specs.Register.{CODES, ifElse, register}
-use Rattle.analysis.specs.Required.{requiring, refusalIn, requiring-passes, required-present}
+use Rattle.refusal.specs.Keys.{isIn}
+use Rattle.analysis.specs.Register.{CODES, ifElse, register, statusIn}
+use Rattle.analysis.specs.Check.{requiredBy, totalFits}
+use Rattle.analysis.specs.Required.{requiring, refusalIn, requiring-passes, required-present, requiring-exactly-when}
 use Rattle.sheet.specs.Split.{noSplit}
-use Rattle.sheet.specs.Read.{readOf}
+use Rattle.sheet.specs.Components.{codesReading, zeroListed}
+use Rattle.sheet.specs.Sheet.{sectionsOf}
+use Rattle.sheet.specs.Read.{amountsOf, contentOf, readOf}
+use Rattle.sheet.specs.Cases.{read-good, amounts-checked}
+use Rattle.sheet.specs.declared.Sections.the-variants.{Both}
 use Rattle.sheet.specs.declared.Reading.the-variants.{Read}
 use Rattle.sheet.specs.declared.Split.{Split}
 use Rattle.mixture.specs.Simplification.{tenthsOf}
+use Rattle.mixture.specs.Marked.{tableA1, methaneEthane}
 use Rattle.mixture.specs.Bounds.{simplified-methane, simplified-least}
 use Rattle.systems.specs.Systems.{COMPONENTS}
 use Rattle.systems.specs.Choice.{order, fitnessOf, chooseBy, answerOf, choiceOf}
@@ -41,8 +49,30 @@ use Rattle.demand.specs.RatedSheets.{analysisIn}
 -- ---- as it was
 
 -- 5 also where one of 2 to 5 is absent
+abbrev pub requiredBefore : List ℕ
+requiredBefore = 2 ∷ 3 ∷ 4 ∷ 5 ∷ []
+
 abbrev pub refusalBefore : List ℕ → ℕ
-refusalBefore a = refusalIn (requiring (2 ∷ 3 ∷ 4 ∷ 5 ∷ []) register) a
+refusalBefore a = refusalIn (requiring requiredBefore register) a
+
+-- what 5 and 6 let pass then: what is in range, with an amount of each of these
+pub before-exactly-when : (a : List ℕ) → length a ≡ CODES
+    → (refusalBefore a ≡ 0) ↔ (InRange a × ((k : ℕ) → isIn k requiredBefore ≡ true → 0 < getD a k 0))
+before-exactly-when a long =
+    requiring-exactly-when requiredBefore a (λ k e. (omega (arith, long, each k e .0), each k e .1))
+  where
+    each : (k : ℕ) → isIn k requiredBefore ≡ true
+        → (k < 6) × (requiredBy (statusIn (requiring requiredBefore register) k) ≡ true)
+    each k e = go (eqb k 2) (eqb k 3) (eqb k 4) (eqb k 5) refl refl refl refl e
+      where
+        go : (b c d f : Bool) → eqb k 2 ≡ b → eqb k 3 ≡ c → eqb k 4 ≡ d → eqb k 5 ≡ f
+            → cond b true (cond c true (cond d true (cond f true false))) ≡ true
+            → (k < 6) × (requiredBy (statusIn (requiring requiredBefore register) k) ≡ true)
+        go true c d f p q r s e = rw (eqb-true k 2 p) (omega arith, refl)
+        go false true d f p q r s e = rw (eqb-true k 3 q) (omega arith, refl)
+        go false false true f p q r s e = rw (eqb-true k 4 r) (omega arith, refl)
+        go false false false true p q r s e = rw (eqb-true k 5 s) (omega arith, refl)
+        go false false false false p q r s e = let y : _≡_ {A = ℕ} 0 1 = cc in absurd (omega arith)
 
 -- the choice by fitness alone, over all components
 abbrev pub choiceBefore : List ℕ → Choice
@@ -54,12 +84,17 @@ splitBefore a p code = splitAnswerBy (refusalBefore a) (choiceBefore (mixOf a)) 
 unfoldable pub searchBefore : List ℕ → ℕ → ℕ → Outcome
 searchBefore a allowance code = searchOutcomeBy (refusalBefore a) (choiceBefore (mixOf a)) a allowance code
 
+-- the gas of 001 Table A.1 passed; one of methane and ethane alone was refused 5
+pub passed-before : (refusalBefore tableA1 ≡ 0) × (refusalBefore methaneEthane ≡ 5)
+unfolding refusalIn totalFits
+passed-before = (refl, refl)
+
 -- ---- an analysis that 5 and 6 let pass before
 
 module _ (a : List ℕ) (long : length a ≡ CODES) (before : refusalBefore a ≡ 0) where
   -- passes now
   pub passes : InRange a
-  passes = requiring-passes (2 ∷ 3 ∷ 4 ∷ 5 ∷ []) a before
+  passes = requiring-passes requiredBefore a before
 
   -- with ethane, propane and i-butane
   ethane : 0 < getD a 2 0
@@ -135,7 +170,18 @@ search-rated-before a long allowance code is = go (eqb (refusalBefore a) 0) refl
     go true e h = search-kept a long (eqb-true (refusalBefore a) 0 e) allowance code
     go false e h = absurd h
 
--- ---- a sheet whose analysis passed before is answered as before: by the search, or by its own split
+-- ---- a sheet
+
+-- one that was read before is read, with the same contents: two sections with counts of theirs, codes in order, none
+-- listed at 0, and an analysis that 5 and 6 let pass then
+pub sheet-read-kept : (s : List ℕ) (code n m first : ℕ) → sectionsOf s ≡ Both n m first
+    → codesReading n s 1 0 0 ≡ Read → zeroListed n s 1 ≡ false → refusalBefore (amountsOf n s) ≡ 0
+    → readOf s code ≡ contentOf n m first s
+sheet-read-kept s code n m first sections codes none before =
+    read-good s code n m first sections codes
+    (amounts-checked n s none ∙ requiring-passes requiredBefore (amountsOf n s) before)
+
+-- and answered as before: by the search, or by its own split
 
 module _ (s : List ℕ) (code : ℕ) (h : readOf s code .answer ≡ Read)
     (before : refusalBefore (analysisIn s code) ≡ 0) where

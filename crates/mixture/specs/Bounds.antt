@@ -79,7 +79,7 @@ module _ (a : List ℕ) (p : 0 < tenthsTotal a) where
 abbrev pub GREATEST_TENTHS : ℕ
 GREATEST_TENTHS = 10 * 1000100 + 13 * (greatestOf 6 + greatestOf 7 + greatestOf 8) + 43 * greatestOf 10
 
--- the least that a component has that is present after simplification: 100 tenths of a part in the greatest T
+-- a bound of what a component has that is present after simplification: 100 tenths of a part in the greatest T
 abbrev pub LEAST_PARTS : ℕ
 LEAST_PARTS = 8
 
@@ -139,7 +139,7 @@ module _ (a : List ℕ) (l : length a ≡ CODES) (h : refusalOf a ≡ 0) where
       go (inl e) = absurd (omega arith)
       go (inr m) = scaled-least (tenthsOf a) tenths-positive LEAST_PARTS i k (omega (arith, tenths-greatest))
 
-  -- so a component is present after simplification exactly where it was, and then with so many parts
+  -- so a component has no parts after simplification, or so many at least
   pub simplified-or-absent : (i : ℕ) → i < COMPONENTS → NoneOr LEAST_PARTS (getD (simplifiedOf a) i 0)
   simplified-or-absent i k = go (tenths-or-absent i k)
     where

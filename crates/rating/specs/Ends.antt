@@ -1,10 +1,10 @@
 -- How the answers to an analysis end, where it is rated on and where it is in range, and that what was read is in
 -- range. Assumes nothing.
-use mathlib.Core.Path.{_≡_, refl, ap, _∙_}
+use mathlib.Core.Path.{_≡_, refl, ap, _∙_, subst}
 use mathlib.Core.Bool.{Bool, true, false}
-use mathlib.Core.Logic.{_⊎_, inl, inr}
+use mathlib.Core.Logic.{_↔_, _⊎_, inl, inr}
 use mathlib.Core.List.{List}
-use Prim.Native.Nat.{ℕ, zero, suc, _+_, _≤_, min}
+use Prim.Native.Nat.{ℕ, zero, suc, _+_, _≤_, _<_, min}
 use native.Mathlib.Omega.{arith}
 use lib.Dec.{ltb}
 use lib.ListN.{getD, length, length-set}
@@ -21,6 +21,7 @@ use Rattle.sheet.specs.declared.Reading.the-variants as reading
 use Rattle.sheet.specs.declared.Sheet.{Sheet}
 use Rattle.split.specs.Rating.{verdict, proposedOf, ratingOf, resums, someEmpty, spreadOf}
 use Rattle.mixture.specs.Inert.{inertFirst}
+use Rattle.systems.specs.Choice.{presentCount}
 use Rattle.split.specs.Split.{cellsOf, numberAt as partialAt}
 use Rattle.split.specs.AnswerCases.{numberOf}
 use Rattle.split.specs.Rated.{IsRated}
@@ -32,9 +33,10 @@ use Rattle.split.specs.declared.Answer.the-variants.{Rated, Refused}
 use Rattle.split.specs.declared.Search.{Search}
 use Rattle.split.specs.declared.Search.the-variants.{Balanced, Unbalanced, Unfit}
 use Rattle.rating.specs.Records.{fitsOf}
-use Rattle.rating.specs.Rate.{LIMIT, ROUNDS, mixOf, systemsFor, countFor, ratingRefusal, splitBy, splitAnswer}
+use Rattle.rating.specs.Rate.{LIMIT, ROUNDS, FEWEST, mixOf, systemsFor, countFor, ratingRefusal, splitBy}
+use Rattle.rating.specs.Rate.{splitAnswer}
 use Rattle.rating.specs.Rate.{outcome, foundBy, foundOutcome, searched, searchOutcome}
-use Rattle.rating.specs.RatedOn.{InRange, RatedOn, on-or-few}
+use Rattle.rating.specs.RatedOn.{InRange, RatedOn, on-or-few, few-by-count}
 use Rattle.rating.specs.declared.Outcome.{Outcome}
 
 -- a rating, or a refusal with a number from `low` to `high`
@@ -133,6 +135,36 @@ module _ (a : List ℕ) (code : ℕ) (h : InRange a) where
       go : RatedOn a ⊎ (ratingRefusal a ≡ TOO_FEW) → RatedOrFew (splitAnswer a p code)
       go (inl e) = inl (split-wider (splitAnswer a p code) (split-ends a p code e))
       go (inr e) = inr (split-few a p code e)
+
+  -- and 16 exactly where fewer than two components are present
+  never-few : (x : Answer) → RatedOr 7 11 x → x ≡ Refused TOO_FEW 0 → ⊥
+  never-few x (inl r) e = subst IsRated e r
+  never-few x (inr b) e = let z : numberOf x ≡ TOO_FEW = ap numberOf e in omega (arith, b .1)
+
+  pub search-few-exactly-when : (allowance : ℕ)
+      → (searchOutcome a allowance code .answer ≡ Refused TOO_FEW 0) ↔ (presentCount (mixOf a) < FEWEST)
+  search-few-exactly-when allowance = (
+    go (on-or-few a h),
+    λ l. ap (λ (x : Outcome). x .answer) (search-few a allowance code (few-by-count a h .1 l)),
+  )
+    where
+      go : RatedOn a ⊎ (ratingRefusal a ≡ TOO_FEW) → searchOutcome a allowance code .answer ≡ Refused TOO_FEW 0
+          → presentCount (mixOf a) < FEWEST
+      go (inl on) e =
+          absurd
+          (never-few (searchOutcome a allowance code .answer)
+          (search-wider (searchOutcome a allowance code .answer) (search-ends a allowance code on)) e)
+      go (inr f) e = few-by-count a h .0 f
+
+  pub split-few-exactly-when : (p : Split)
+      → (splitAnswer a p code ≡ Refused TOO_FEW 0) ↔ (presentCount (mixOf a) < FEWEST)
+  split-few-exactly-when p = (go (on-or-few a h), λ l. split-few a p code (few-by-count a h .1 l))
+    where
+      go : RatedOn a ⊎ (ratingRefusal a ≡ TOO_FEW) → splitAnswer a p code ≡ Refused TOO_FEW 0
+          → presentCount (mixOf a) < FEWEST
+      go (inl on) e =
+          absurd (never-few (splitAnswer a p code) (split-wider (splitAnswer a p code) (split-ends a p code on)) e)
+      go (inr f) e = few-by-count a h .0 f
 
 -- ---- what was read is an analysis in range
 

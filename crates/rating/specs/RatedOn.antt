@@ -22,6 +22,11 @@ abbrev pub RatedOn : List ℕ → Type 0
 RatedOn a = ratingRefusal a ≡ 0
 
 module _ (a : List ℕ) where
+  -- a refusal of the range test comes first
+  pub range-first : eqb (refusalOf a) 0 ≡ false → ratingRefusal a ≡ refusalOf a
+  unfolding ratingRefusal
+  range-first e = rw e
+
   -- rated on is in range with two components present at least
   pub on-passed : RatedOn a → InRange a × (FEWEST ≤ presentCount (mixOf a))
   unfolding ratingRefusal
@@ -32,11 +37,6 @@ module _ (a : List ℕ) where
       go true true p q h = absurd (omega arith)
       go true false p q h = (eqb-true (refusalOf a) 0 p, ltb-false (presentCount (mixOf a)) FEWEST q)
       go false u p q h = absurd (eqb-false (refusalOf a) 0 p h)
-
-  -- a refusal of the range test comes first
-  pub range-first : eqb (refusalOf a) 0 ≡ false → ratingRefusal a ≡ refusalOf a
-  unfolding ratingRefusal
-  range-first e = rw e
 
   module _ (h : InRange a) where
     pub enough-on : FEWEST ≤ presentCount (mixOf a) → RatedOn a
@@ -54,6 +54,17 @@ module _ (a : List ℕ) where
         go : (b : Bool) → ltb (presentCount (mixOf a)) FEWEST ≡ b → RatedOn a ⊎ (ratingRefusal a ≡ TOO_FEW)
         go true e = inr (too-few (ltb-true (presentCount (mixOf a)) FEWEST e))
         go false e = inl (enough-on (ltb-false (presentCount (mixOf a)) FEWEST e))
+
+    -- it is refused 16 exactly where fewer than two components are present
+    pub few-by-count : (ratingRefusal a ≡ TOO_FEW) ↔ (presentCount (mixOf a) < FEWEST)
+    few-by-count = (go (ltb (presentCount (mixOf a)) FEWEST) refl, too-few)
+      where
+        go : (b : Bool) → ltb (presentCount (mixOf a)) FEWEST ≡ b → ratingRefusal a ≡ TOO_FEW
+            → presentCount (mixOf a) < FEWEST
+        go true e f = ltb-true (presentCount (mixOf a)) FEWEST e
+        go false e f =
+            let z = enough-on (ltb-false (presentCount (mixOf a)) FEWEST e) in
+            absurd (omega (arith, z, f))
 
   pub on-exactly-when : RatedOn a ↔ (InRange a × (FEWEST ≤ presentCount (mixOf a)))
   on-exactly-when = (on-passed, λ h. enough-on (h .0) (h .1))

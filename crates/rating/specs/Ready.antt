@@ -20,7 +20,7 @@ use Rattle.systems.specs.Systems.{COMPONENTS, hasOf}
 use Rattle.systems.specs.Members.{countTo}
 use Rattle.systems.specs.Choice.{presentAt, presentOf, presentCount}
 use Rattle.systems.specs.Presence.{present-is, Supply, supply}
-use Rattle.systems.specs.Chosen.{numberOf, Choosable, choice-choosable}
+use Rattle.systems.specs.Chosen.{chosenCount, Choosable, choice-choosable}
 use Rattle.split.specs.Fold.{sumTo}
 use Rattle.split.specs.Split.{RECORDS, systemOf, Chosen}
 use Rattle.split.specs.Sums.{totalOf}
@@ -32,10 +32,10 @@ use Rattle.rating.specs.Rate.{mixOf, systemsFor, countFor, ratingRefusal
 use Rattle.rating.specs.RatedOn.{RatedOn, on-passed}
 
 -- two or three systems are chosen
-number-few : (n : ℕ) → (1 ≤ numberOf n) × (numberOf n ≤ 3)
-number-few n = go (eqb n 2)
+two-or-three : (n : ℕ) → (2 ≤ chosenCount n) × (chosenCount n ≤ 3)
+two-or-three n = go (eqb n 2)
   where
-    go : (b : Bool) → (1 ≤ elim b [ true ↦ 2 | false ↦ 3 ]) × (elim b [ true ↦ 2 | false ↦ 3 ] ≤ 3)
+    go : (b : Bool) → (2 ≤ elim b [ true ↦ 2 | false ↦ 3 ]) × (elim b [ true ↦ 2 | false ↦ 3 ] ≤ 3)
     go true = (omega arith, omega arith)
     go false = (omega arith, omega arith)
 
@@ -59,15 +59,15 @@ module _ (a : List ℕ) (on : RatedOn a) where
   pub choosable : Choosable (presentOf (mixOf a)) (systemsFor a) (countFor a)
   choosable = choice-choosable (mixOf a) (on-passed a on .1)
 
-  few : (1 ≤ countFor a) × (countFor a ≤ 3)
-  few = rw (choosable .number) (number-few (presentCount (mixOf a)))
+  counted : (2 ≤ countFor a) × (countFor a ≤ 3)
+  counted = rw (choosable .number) (two-or-three (presentCount (mixOf a)))
 
   -- two or three systems, each a candidate
   pub chosen : Chosen (systemsFor a) (countFor a)
-  chosen = record { some = omega (arith, few .0); most = omega (arith, few .1); known = choosable .known }
+  chosen = record { some = omega (arith, counted .0); most = omega (arith, counted .1); known = choosable .known }
 
   pub room : 3 * countFor a ≤ RECORDS
-  room = omega (arith, few .1)
+  room = omega (arith, counted .1)
 
   -- each component is absent or in a chosen system
   pub shared : (c : ℕ) → c < COMPONENTS → Shared (mixOf a) (systemsFor a) (countFor a) c
@@ -102,7 +102,7 @@ module _ (a : List ℕ) (long : length a ≡ CODES) (on : RatedOn a) where
       enough : (y : Supply (mixOf a) (systemOf (systemsFor a) s))
           → NoneOr LEAST_PARTS (getD (mixOf a) (y .component) 0) → countFor a ≤ getD (mixOf a) (y .component) 0
       enough y (inl e) = absurd (omega (arith, y .some))
-      enough y (inr l) = omega (arith, few a on .1)
+      enough y (inr l) = omega (arith, counted a on .1)
 
   -- the search can begin: its start leaves no system empty
   pub input : SearchInput (mixOf a) (systemsFor a) (countFor a) LEVEL

@@ -182,13 +182,13 @@ const REMAINDERS_AFTER_METHANE: [u32; CODES] = [
 ];
 
 // Gases with one component beside methane; butane also from pentanes and hexanes+, and in traces.
-const ETHANE_ALONE: [u32; CODES] = [0, 970000, 10000, 0, 0, 0, 0, 0, 0, 0, 0, 20000, 0, 0, 0, 0];
+const WITH_ETHANE: [u32; CODES] = [0, 970000, 10000, 0, 0, 0, 0, 0, 0, 0, 0, 20000, 0, 0, 0, 0];
 
-const PROPANE_ALONE: [u32; CODES] = [0, 975000, 0, 5000, 0, 0, 0, 0, 0, 0, 0, 20000, 0, 0, 0, 0];
+const WITH_PROPANE: [u32; CODES] = [0, 975000, 0, 5000, 0, 0, 0, 0, 0, 0, 0, 20000, 0, 0, 0, 0];
 
-const BUTANE_ALONE: [u32; CODES] = [0, 960000, 0, 0, 0, 20000, 0, 0, 0, 0, 0, 20000, 0, 0, 0, 0];
+const WITH_BUTANE: [u32; CODES] = [0, 960000, 0, 0, 0, 20000, 0, 0, 0, 0, 0, 20000, 0, 0, 0, 0];
 
-const PENTANES_ALONE: [u32; CODES] = [
+const WITH_PENTANES: [u32; CODES] = [
     0,
     979000,
     0,
@@ -371,10 +371,10 @@ fn main() {
     // systems 2, 7 and 8
     put_gas(BUTANE);
     // lean gases
-    put_gas(ETHANE_ALONE);
-    put_gas(PROPANE_ALONE);
-    put_gas(BUTANE_ALONE);
-    put_gas(PENTANES_ALONE);
+    put_gas(WITH_ETHANE);
+    put_gas(WITH_PROPANE);
+    put_gas(WITH_BUTANE);
+    put_gas(WITH_PENTANES);
     put_gas(TRACE_I_BUTANE);
     put_gas(TRACE_NEO_PENTANE);
     put_gas(NO_BUTANE);
@@ -388,9 +388,9 @@ fn main() {
     put_search(METHANE_ALONE_999899, 4000);
     put_search(NO_METHANE, 4000);
     // six records for three systems, nine for two, both for methane alone
-    put_split_of(ETHANE_ALONE, GAS);
-    put_split_of(GAS, ETHANE_ALONE);
-    put_split_of(ETHANE_ALONE, METHANE_ALONE);
+    put_split_of(WITH_ETHANE, GAS);
+    put_split_of(GAS, WITH_ETHANE);
+    put_split_of(WITH_ETHANE, METHANE_ALONE);
     put_split_of(GAS, METHANE_ALONE);
     put_split_of(GAS, METHANE_ALONE_999899);
 }

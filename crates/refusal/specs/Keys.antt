@@ -1,5 +1,5 @@
 -- The keys of a register, as a list: component codes, system numbers and refusal numbers are registers. A key that was
--- given is never given again, so none may stand twice; a new one comes above all others, so they rise. Assumes nothing.
+-- given is never given again, so none may stand twice; they stand by number, so they rise. Assumes nothing.
 use mathlib.Core.Bool.{Bool, true, false, cond}
 use mathlib.Core.List.{List, [], _∷_}
 use Prim.Native.Nat.{ℕ}

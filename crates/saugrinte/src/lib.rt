@@ -22,7 +22,7 @@ use c_reply::Reply;
 use controller::ControllerRecord;
 use sheet::RECORDS;
 
-// The version, 1.1.0: 10000, 100 and 1 times its three figures.
+// The version, 1.2.0: 10000, 100 and 1 times its three figures.
 const VERSION: u32 = 10200;
 
 // The library's version.

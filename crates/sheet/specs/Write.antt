@@ -1,4 +1,5 @@
--- Writing a sheet (document 01, "Writer, display, controller", "What is turned away", 5, 6, 14). Assumes nothing.
+-- Writing a sheet (document 01, "Writer, display, controller", "What is turned away", 5, 6, 14; document 02, Five, 1).
+-- Assumes nothing.
 use Prim.Native.Nat.{ℕ}
 use mathlib.Core.Path.{_≡_}
 use mathlib.Core.List.{List, _++_}

@@ -61,7 +61,7 @@ pub enum Written {
     Refused { number: u32, code: u32 },
 }
 
-// May a split have so many records? None, or three for each of so many systems.
+// May a split have so many records? None, or three for each of two or three systems.
 pub fn allowed_count(count: usize) -> bool
     ensures { λ r. ⌜ r ≡ allowedCount count ⌝ }
 {

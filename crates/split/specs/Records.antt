@@ -1,5 +1,5 @@
 -- The records of a split and its cells say the same: cells to records and back, records to cells and back
--- (document 01, "The split and the rating", the nine records). Assumes nothing.
+-- (document 01, "The split and the rating", three records for each system). Assumes nothing.
 use mathlib.Core.Path.{_≡_, refl, sym, ap, ap₂, _∙_}
 use mathlib.Core.Bool.{Bool, true, false, cond}
 use mathlib.Core.List.{List}

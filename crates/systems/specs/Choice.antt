@@ -1,5 +1,5 @@
--- The choice of systems (document 01, "Choice of systems"; 000 A.3.2), for any list of candidates, any order of the
--- components and any key that says which system goes before another. Assumes nothing.
+-- The choice of systems (document 01, "Choice of systems"; 000 A.3.2; document 02, Five), for any list of candidates,
+-- any order of the components and any key that says which system goes before another. Assumes nothing.
 use Prim.Native.Nat.{ℕ, zero, suc, _+_, _*_, _-_, _/_, _%_, _^_}
 use mathlib.Core.List.{List, [], _∷_, _++_}
 use mathlib.Core.Bool.{Bool, true, false, not, cond, _&&_}
@@ -110,7 +110,7 @@ scoreOf key marks c system = elim (openOf marks c system) [ true ↦ key system 
 unfoldable pub betterOf : (ℕ → ℕ) → List Bool → ℕ → ℕ → ℕ → ℕ
 betterOf key marks c best system = elim (ltb (scoreOf key marks c best) (scoreOf key marks c system)) [ true ↦ system | false ↦ best ]
 
--- the fittest system that contains component c and is not chosen
+-- the fittest by that key of the systems that contain component c and are not chosen
 unfoldable pub fittestOf : (ℕ → ℕ) → List ℕ → List Bool → ℕ → ℕ
 fittestOf key systems marks c = fold (betterOf key marks c) systems 0
 

@@ -147,18 +147,18 @@ module _ (key rank : ℕ → ℕ) (systems : List ℕ) (r : T (rises 0 systems))
 -- ---- the theorems
 
 -- how many systems are chosen where so many components are present: two for two, three for three and for four
-abbrev pub numberOf : ℕ → ℕ
-numberOf n = elim (eqb n 2) [ true ↦ 2 | false ↦ 3 ]
+abbrev pub chosenCount : ℕ → ℕ
+chosenCount n = elim (eqb n 2) [ true ↦ 2 | false ↦ 3 ]
 
-pub two-chosen : (n : ℕ) → n ≡ 2 → numberOf n ≡ 2
-two-chosen n e = rw (numberOf, eq-eqb n 2 e)
+pub two-chosen : (n : ℕ) → n ≡ 2 → chosenCount n ≡ 2
+two-chosen n e = rw (chosenCount, eq-eqb n 2 e)
 
-pub three-chosen : (n : ℕ) → 3 ≤ n → numberOf n ≡ 3
-three-chosen n l = rw (numberOf, ne-eqb n 2 (λ e. omega arith))
+pub three-chosen : (n : ℕ) → 3 ≤ n → chosenCount n ≡ 3
+three-chosen n l = rw (chosenCount, ne-eqb n 2 (λ e. omega arith))
 
 -- what holds of k chosen systems `ch`, where the components of a mask are present
 pub record Choosable (present : ℕ) (ch : List ℕ) (k : ℕ) : Type 0 where
-  pub number : k ≡ numberOf (ones present)
+  pub number : k ≡ chosenCount (ones present)
   pub known : (i : ℕ) → i < k → Candidate (getD ch i 0)
   pub rising : (i j : ℕ) → i < j → j < k → getD ch i 0 < getD ch j 0
   pub twice : (c : ℕ) → c < COMPONENTS → inMask present c ≡ true → 2 ≤ countTo (λ i. hasOf (getD ch i 0) c) k
@@ -179,7 +179,7 @@ filledAt present ch i = leb 2 (presentIn present (getD ch i 0))
 
 choosable : ℕ → List ℕ → ℕ → Bool
 choosable present ch k =
-    eqb k (numberOf (ones present))
+    eqb k (chosenCount (ones present))
     && (everyTo (knownAt ch) k
     && (everyTo (λ i. everyTo (risesAt ch i) k) k
     && (everyTo (twiceAt present ch k) COMPONENTS
@@ -196,10 +196,10 @@ of-test : (present : ℕ) (ch : List ℕ) (k : ℕ) → T (choosable present ch 
 unfolding choosable knownAt risesAt twiceAt filledAt
 of-test present ch k t =
     let (number, known, rises, twice, filled) =
-    five (eqb k (numberOf (ones present))) (everyTo (knownAt ch) k) (everyTo (λ i. everyTo (risesAt ch i) k) k)
+    five (eqb k (chosenCount (ones present))) (everyTo (knownAt ch) k) (everyTo (λ i. everyTo (risesAt ch i) k) k)
     (everyTo (twiceAt present ch k) COMPONENTS) (everyTo (filledAt present ch) k) t in
     record {
-      number = eqb→eq k (numberOf (ones present)) number;
+      number = eqb→eq k (chosenCount (ones present)) number;
       known = λ i h. record { listed = to-true (knownAt ch i) (eachTo (knownAt ch) k known i h) };
       rising = λ i j h l.
           let row = eachTo (λ i. everyTo (risesAt ch i) k) k rises i (omega arith) in

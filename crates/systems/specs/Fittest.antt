@@ -1,5 +1,5 @@
--- The system that a component takes is the fittest that contains it and is not chosen, equal fitness to the lower number
--- (document 01, "Choice of systems"). Assumes nothing.
+-- The system that a component takes is the one with the greatest key that contains it and is not chosen, equal keys to
+-- the lower number (document 01, "Choice of systems"; document 02, Five). Assumes nothing.
 use Prim.Native.Nat.{ℕ, _+_, _≤_, _<_}
 use mathlib.Core.Path.{_≡_, refl, sym, ap, _∙_}
 use mathlib.Core.List.{List, [], _∷_}

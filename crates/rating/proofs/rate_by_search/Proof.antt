@@ -2,6 +2,7 @@
 use Rattle.analysis.specs.Register.{CODES}
 use Rattle.rating.proofs.CallCases.{in-range, turned-away, search-away-is, count-few, count-enough, given-proposal, found-fit, search-in, search-not-five}
 use mathlib.Core.Path.{_≡_}
+use native.Mathlib.Omega.{arith}
 use lib.ListN.{length}
 use borrow.Author.Needs.{needs}
 use Rattle.rating.proofs.rate_by_search.Statement.{statement}
@@ -31,7 +32,7 @@ returns c = let b = c .before .before .before .before .before .before .before in
     let l : length a ≡ CODES = search needs in
     let s = b .simplify .ensures in
     let p = in-range _ _ (record { answer = s .0; code = s .1 .0 }) (c .before .before .before .enum-told .given .1) in
-    search-away-is _ _ _ _ _ (count-few a l p _ _ (s .1 .1 .0) (c .before .before .present-count .ensures) (c .before .if1 .taken)) (c .refused2 .ensures)
+    search-away-is _ _ _ _ _ (count-few a l p _ _ (s .1 .1 .0) (c .before .before .present-count .ensures) (omega (arith, c .before .if1 .taken))) (c .refused2 .ensures)
 
 choose-requires : tie.Need-choose-requires
 choose-requires c κs = search needs
@@ -48,7 +49,7 @@ found-outcome-requires c κs = let b = c .before .before .before .before .before
     let l : length a ≡ CODES = search needs in
     let s = b .simplify .ensures in
     let p = in-range _ _ (record { answer = s .0; code = s .1 .0 }) (c .before .before .before .before .before .enum-told .given .1) in
-    let on = count-enough a l p _ _ (s .1 .1 .0) (c .before .before .before .before .present-count .ensures) (c .before .before .before .if1 .left) in (
+    let on = count-enough a l p _ _ (s .1 .1 .0) (c .before .before .before .before .present-count .ensures) (omega (arith, c .before .before .before .if1 .left)) in (
       given-proposal a l p on _ _ _ (s .1 .1 .0) (c .before .before .choose .ensures) (s .1 .1 .1),
       found-fit a l p on _ _ _ (s .1 .1 .0) (c .before .before .choose .ensures) (s .1 .1 .1) (b .before .args .allowance) _ (c .before .at-most .ensures) _ (c .find .ensures),
     )
@@ -63,7 +64,7 @@ returns-3 c = let b = c .before .before .before .before .before .before .before 
     let l : length a ≡ CODES = search needs in
     let s = b .simplify .ensures in
     let p = in-range _ _ (record { answer = s .0; code = s .1 .0 }) (c .before .before .before .before .before .before .enum-told .given .1) in
-    let on = count-enough a l p _ _ (s .1 .1 .0) (c .before .before .before .before .before .present-count .ensures) (c .before .before .before .before .if1 .left) in
+    let on = count-enough a l p _ _ (s .1 .1 .0) (c .before .before .before .before .before .present-count .ensures) (omega (arith, c .before .before .before .before .if1 .left)) in
     let e = search-in a l p on _ _ _ (s .1 .1 .0) (c .before .before .before .choose .ensures) (s .1 .1 .1) (b .before .args .allowance) _ (c .before .before .at-most .ensures) _ (c .before .find .ensures) _ (c .found-outcome .ensures) in
     (e, λ z. absurd (search-not-five a l p _ _ _ e z))
 

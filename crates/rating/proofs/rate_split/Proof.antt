@@ -2,6 +2,7 @@
 use Rattle.analysis.specs.Register.{CODES}
 use Rattle.rating.proofs.CallCases.{in-range, turned-away, split-away, count-few, count-enough, given-proposal, given-room, split-in, split-not-five}
 use mathlib.Core.Path.{_≡_}
+use native.Mathlib.Omega.{arith}
 use lib.ListN.{length}
 use borrow.Author.Needs.{needs}
 use Rattle.rating.proofs.rate_split.Statement.{statement}
@@ -25,7 +26,7 @@ returns c = let b = c .before .before .before .before .before .before in
     let l : length a ≡ CODES = search needs in
     let s = b .simplify .ensures in
     let p = in-range _ _ (record { answer = s .0; code = s .1 .0 }) (c .before .before .enum-told .given .1) in
-    let t = count-few a l p _ _ (s .1 .1 .0) (c .before .present-count .ensures) (c .if1 .taken) in
+    let t = count-few a l p _ _ (s .1 .1 .0) (c .before .present-count .ensures) (omega (arith, c .if1 .taken)) in
     (split-away _ _ _ _ t, t .fault)
 
 choose-requires : tie.Need-choose-requires
@@ -37,7 +38,7 @@ split-by-requires c κs = let b = c .before .before .before .before .before .bef
     let l : length a ≡ CODES = search needs in
     let s = b .simplify .ensures in
     let p = in-range _ _ (record { answer = s .0; code = s .1 .0 }) (c .before .before .before .enum-told .given .1) in
-    let on = count-enough a l p _ _ (s .1 .1 .0) (c .before .before .present-count .ensures) (c .before .if1 .left) in (
+    let on = count-enough a l p _ _ (s .1 .1 .0) (c .before .before .present-count .ensures) (omega (arith, c .before .if1 .left)) in (
       given-proposal a l p on _ _ _ (s .1 .1 .0) (c .choose .ensures) (s .1 .1 .1),
       given-room a l p on _ _ _ (s .1 .1 .0) (c .choose .ensures) (s .1 .1 .1),
     )
@@ -53,7 +54,7 @@ returns-3 c = let b = c .before .before .before .before .before .before .before 
     let l : length a ≡ CODES = search needs in
     let s = b .simplify .ensures in
     let p = in-range _ _ (record { answer = s .0; code = s .1 .0 }) (c .before .before .before .before .enum-told .given .1) in
-    let on = count-enough a l p _ _ (s .1 .1 .0) (c .before .before .before .present-count .ensures) (c .before .before .if1 .left) in
+    let on = count-enough a l p _ _ (s .1 .1 .0) (c .before .before .before .present-count .ensures) (omega (arith, c .before .before .if1 .left)) in
     let e = split-in a l p on _ _ _ (s .1 .1 .0) (c .before .choose .ensures) (s .1 .1 .1) _ _ (c .split-by .ensures) in
     (e, λ z. absurd (split-not-five a l p _ _ _ e z))
 

@@ -39,13 +39,13 @@ returns : tie.Need-returns
 returns c = sym (none _ (c .if1 .taken))
 
 returns-2 : tie.Need-returns-2
-returns-2 c = sym (low _ (c .before .if1 .left) (c .if2 .taken))
+returns-2 c = sym (low _ (c .before .if1 .left) (omega (arith, c .if2 .taken)))
 
 returns-3 : tie.Need-returns-3
-returns-3 c = sym (high _ (c .if3 .taken))
+returns-3 c = sym (high _ (omega (arith, c .if3 .taken)))
 
 returns-4 : tie.Need-returns-4
-returns-4 c = between _ (c .before .if2 .left) (c .if3 .left)
+returns-4 c = between _ (omega (arith, c .before .if2 .left)) (omega (arith, c .if3 .left))
 
 pub allowed-count-spec : {M : Type 1} → statement M
 allowed-count-spec = tie.close (tie.spec returns returns-2 returns-3 returns-4)
