@@ -10,7 +10,7 @@ and 001 solve for equal partial numbers, document 01 stops at 0.05.
 Differences of 1 or more, a changed refusal or a wrong choice fail, as does a
 figure on the way that is farther away than stands beside it.  Mix 1 of 000
 Table A.10 is 2.64 away, for document 02's choice takes systems 4 and 8 where
-000 took 1 and 4; with these it comes to the published number, and is shown so.
+000 took 1 and 4; with these it comes to 89.99, and is shown so.
 """
 
 import contextlib
