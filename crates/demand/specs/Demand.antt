@@ -75,7 +75,7 @@ pub few-exactly-when : (a : List ℕ) → InRange a → (p : Split) (allowance c
 few-exactly-when a h p allowance code =
     (split-few-exactly-when a code h p, search-few-exactly-when a code h allowance)
 
--- then two components present have two chosen systems, three or four have three
+-- rated on, two components present have two chosen systems, three or four have three
 pub two-or-three : (a : List ℕ) → RatedOn a
     → (presentCount (simplifiedOf a) ≡ 2 → countFor a ≡ 2) × (3 ≤ presentCount (simplifiedOf a) → countFor a ≡ 3)
 two-or-three a on =
