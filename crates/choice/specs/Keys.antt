@@ -1,5 +1,5 @@
--- The keys of the candidates (document 01, "Choice of systems"; document 02, Five), which tell the system to take and the
--- chosen ones without marks. Assumes nothing.
+-- The keys of the candidates (document 01, "Choice of systems"; document 02, Five), which tell the system to take and
+-- the chosen ones without marks. Assumes nothing.
 use Prim.Native.Nat.{ℕ, zero, suc, _+_, _<_}
 use mathlib.Core.Path.{_≡_}
 use mathlib.Core.List.{List}

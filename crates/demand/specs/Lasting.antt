@@ -28,7 +28,9 @@ same-found a long passed few many le s r is =
     let fits = input-fits (mixOf a) (systemsFor a) (countFor a) LEVEL (input a long passed) in
     let u = find-search (mixOf a) (systemsFor a) (countFor a) LEVEL LIMIT (min few ROUNDS) fits in
     let v = find-search (mixOf a) (systemsFor a) (countFor a) LEVEL LIMIT (min many ROUNDS) fits in
-    v ∙ find-larger (mixOf a) (systemsFor a) (countFor a) LIMIT LEVEL (min few ROUNDS) (min many ROUNDS) (omega arith) s r (ap (λ (f : Found). f .search) (sym u) ∙ is) ∙ sym u
+    v
+    ∙ find-larger (mixOf a) (systemsFor a) (countFor a) LIMIT LEVEL (min few ROUNDS) (min many ROUNDS) (omega arith)
+    s r (ap (λ (f : Found). f .search) (sym u) ∙ is) ∙ sym u
 
 pub larger-allowance : (a : List ℕ) → length a ≡ CODES → (few many code : ℕ) → few ≤ many → (w : ℤ) (s r : ℕ)
     → searchOutcome a few code .answer ≡ Rated w s r → searchOutcome a many code ≡ searchOutcome a few code
@@ -45,7 +47,8 @@ pub proposed-small : (a : List ℕ) → length a ≡ CODES → (p : Split) (code
 proposed-small a long p code w s r is =
     let (passed, e) = split-rated a p code w s r is in
     let cells = cellsOf (systemsFor a) (countFor a) (p .amounts) in (
-      rated-small (systemsFor a) (countFor a) (mixOf a) cells (chosen a passed) LIMIT (inertFirst a) w s r e (omega (arith, million a long passed)),
+      rated-small (systemsFor a) (countFor a) (mixOf a) cells (chosen a passed) LIMIT (inertFirst a) w s r e
+          (omega (arith, million a long passed)),
       rated-spread-small (systemsFor a) (countFor a) (mixOf a) cells (chosen a passed) LIMIT (inertFirst a) w s r e,
     )
 
@@ -53,4 +56,5 @@ pub found-small : (a : List ℕ) → length a ≡ CODES → (allowance code : �
     → searchOutcome a allowance code .answer ≡ Rated w s r
     → (natAbs w < 9007199254740992) × (s < 9007199254740992)
 found-small a long allowance code w s r is =
-    proposed-small a long (searchOutcome a allowance code .split) code w s 0 (found-back a long allowance code code w s r is)
+    proposed-small a long (searchOutcome a allowance code .split) code w s 0
+    (found-back a long allowance code code w s r is)
