@@ -15,14 +15,14 @@ weighedTo mix system (suc c) = weighedTo mix system c + cond (hasOf system c) (w
 
 -- a system's key: 0 where it is chosen, else its standing and 1
 unfoldable pub keyOf : (ℕ → ℕ) → List Bool → ℕ → ℕ
-keyOf fit marks system = cond (isChosen marks system) 0 (fit system + 1)
+keyOf standing marks system = cond (isChosen marks system) 0 (standing system + 1)
 
 -- room for a key of each candidate, and for that of none
 abbrev pub KEYS : ℕ
 KEYS = 5
 
 -- a list has the key of each candidate in its place
-pub record Keyed (fit : ℕ → ℕ) (marks : List Bool) (keys : List ℕ) : Type 0 where
+pub record Keyed (standing : ℕ → ℕ) (marks : List Bool) (keys : List ℕ) : Type 0 where
   pub marked : length marks ≡ NUMBERS
   pub long : length keys ≡ KEYS
-  pub at : (i : ℕ) → i < length candidates → getD keys i 0 ≡ keyOf fit marks (getD candidates i 0)
+  pub at : (i : ℕ) → i < length candidates → getD keys i 0 ≡ keyOf standing marks (getD candidates i 0)

@@ -163,7 +163,8 @@ fn keys_of(m: [u32; COMPONENTS], p: u32) -> [u64; KEYS]
 // are not chosen, where fewer than the wanted number of chosen systems contain c.
 fn take(keys: &mut [u64; KEYS], wanted: usize, c: usize)
     requires { ⌜ c < COMPONENTS ⌝ }
-    ensures { λ _. ⌜ ((fit : ℕ → ℕ) → (marks : List Bool) → Keyed fit marks (now (keys .entry)) → Keyed fit (takeOf fit candidates wanted marks c) (now (keys .exit))) ⌝ }
+    ensures { λ _. ⌜ ((standing : ℕ → ℕ) → (marks : List Bool) → Keyed standing marks (now (keys .entry))
+        → Keyed standing (takeOf standing candidates wanted marks c) (now (keys .exit))) ⌝ }
 {
     let mut count: usize = 0;
     let mut best: u64 = 0;
@@ -188,7 +189,8 @@ fn take(keys: &mut [u64; KEYS], wanted: usize, c: usize)
 
 // The components present do so, one after the other, for one system each and then for two.
 fn turns(keys: &mut [u64; KEYS], p: u32)
-    ensures { λ _. ⌜ ((fit : ℕ → ℕ) → Keyed fit (replicate NUMBERS false) (now (keys .entry)) → Keyed fit (marksOf fit candidates (keep p order)) (now (keys .exit))) ⌝ }
+    ensures { λ _. ⌜ ((standing : ℕ → ℕ) → Keyed standing (replicate NUMBERS false) (now (keys .entry))
+        → Keyed standing (marksOf standing candidates (keep p order)) (now (keys .exit))) ⌝ }
 {
     let mut i: usize = 0;
     while i < 2 * COMPONENTS {
@@ -202,7 +204,8 @@ fn turns(keys: &mut [u64; KEYS], p: u32)
 
 // The chosen systems, in the order of the candidates.
 fn listed(keys: [u64; KEYS]) -> Choice
-    ensures { λ r. ⌜ ((fit : ℕ → ℕ) → (marks : List Bool) → Keyed fit marks keys → r ≡ answerOf (chosenOf candidates marks)) ⌝ }
+    ensures { λ r. ⌜ ((standing : ℕ → ℕ) → (marks : List Bool) → Keyed standing marks keys
+        → r ≡ answerOf (chosenOf candidates marks)) ⌝ }
 {
     let mut count: usize = 0;
     let mut systems = [0u8; SYSTEMS];

@@ -6,16 +6,16 @@
 -- and fitness is the choice by fitness alone, and the answers are the same: to every proposed split, and by the search
 -- with every allowance, rating, spread, rounds and split. `code` is the code that refusal 5 carries.
 use mathlib.Core.Path.{_≡_, refl, sym, ap, _∙_, subst}
-use mathlib.Core.Bool.{Bool, true, false, cond}
+use mathlib.Core.Bool.{Bool, true, false}
 use mathlib.Core.Logic.{_↔_}
 use mathlib.Core.List.{List, [], _∷_}
-use Prim.Native.Nat.{ℕ, zero, suc, _<_}
+use Prim.Native.Nat.{ℕ, zero, suc, _≤_, _<_}
 use native.Mathlib.Omega.{arith}
-use lib.Dec.{eqb}
+use lib.Dec.{eqb, leb}
 use lib.IntN.{ℤ}
 use lib.ListN.{getD, length}
-use borrow.Author.Tests.{eqb-true}
-use Rattle.refusal.specs.Keys.{isIn}
+use borrow.Author.Tests.{eqb-true, leb-true}
+use Rattle.refusal.specs.Keys.{isIn, each-passes}
 use Rattle.analysis.specs.Register.{CODES, ifElse, register, statusIn}
 use Rattle.analysis.specs.Check.{requiredBy, totalFits}
 use Rattle.analysis.specs.Required.{requiring, refusalIn, requiring-passes, required-present, requiring-exactly-when}
@@ -59,20 +59,15 @@ refusalBefore a = refusalIn (requiring requiredBefore register) a
 pub before-exactly-when : (a : List ℕ) → length a ≡ CODES
     → (refusalBefore a ≡ 0) ↔ (InRange a × ((k : ℕ) → isIn k requiredBefore ≡ true → 0 < getD a k 0))
 before-exactly-when a long =
-    requiring-exactly-when requiredBefore a (λ k e. (omega (arith, long, each k e .0), each k e .1))
+    requiring-exactly-when requiredBefore a (λ k e. (omega (arith, long, below k e), required k e))
   where
-    each : (k : ℕ) → isIn k requiredBefore ≡ true
-        → (k < 6) × (requiredBy (statusIn (requiring requiredBefore register) k) ≡ true)
-    each k e = go (eqb k 2) (eqb k 3) (eqb k 4) (eqb k 5) refl refl refl refl e
-      where
-        go : (b c d f : Bool) → eqb k 2 ≡ b → eqb k 3 ≡ c → eqb k 4 ≡ d → eqb k 5 ≡ f
-            → cond b true (cond c true (cond d true (cond f true false))) ≡ true
-            → (k < 6) × (requiredBy (statusIn (requiring requiredBefore register) k) ≡ true)
-        go true c d f p q r s e = rw (eqb-true k 2 p) (omega arith, refl)
-        go false true d f p q r s e = rw (eqb-true k 3 q) (omega arith, refl)
-        go false false true f p q r s e = rw (eqb-true k 4 r) (omega arith, refl)
-        go false false false true p q r s e = rw (eqb-true k 5 s) (omega arith, refl)
-        go false false false false p q r s e = let y : _≡_ {A = ℕ} 0 1 = cc in absurd (omega arith)
+    below : (k : ℕ) → isIn k requiredBefore ≡ true → k ≤ 5
+    below k e = leb-true k 5 (each-passes (λ k. leb k 5) k requiredBefore refl e)
+
+    required : (k : ℕ) → isIn k requiredBefore ≡ true
+        → requiredBy (statusIn (requiring requiredBefore register) k) ≡ true
+    required k e =
+        each-passes (λ k. requiredBy (statusIn (requiring requiredBefore register) k)) k requiredBefore refl e
 
 -- the choice by fitness alone, over all components
 abbrev pub choiceBefore : List ℕ → Choice

@@ -1,13 +1,13 @@
 -- The cases of the definitions, by the tests that lead to each, and back. Assumes nothing.
 use mathlib.Core.Path.{_≡_, refl, ap, sym, _∙_, subst}
 use mathlib.Core.List.{List, [], _∷_, _++_}
-use mathlib.Core.Bool.{Bool, true, false, cond}
+use mathlib.Core.Bool.{Bool, true, false}
 use Prim.Native.Nat.{ℕ, zero, suc, _+_, _-_, _*_, _≤_, _<_}
 use native.Mathlib.Omega.{arith}
 use lib.ListN.{length, getD, drop, length-append}
 use lib.Dec.{eqb, leb}
 use borrow.Author.Tests.{eq-eqb, ne-eqb, le-leb, lt-leb, le-ltb, leb-true, leb-false, ltb-false, eqb-true, eqb-false}
-use Rattle.refusal.specs.Keys.{isIn}
+use Rattle.refusal.specs.Keys.{each-passes}
 use Rattle.analysis.specs.Register.{CODES, unknown, register, statusIn, statusOf, ifElse}
 use Rattle.analysis.specs.Check.{refusalOf}
 use Rattle.section.specs.declared.Section.{Section}
@@ -36,25 +36,10 @@ pub both-true : (t x : Bool) → ifElse t x false ≡ true → (t ≡ true) × (
 both-true true x h = (refl, h)
 both-true false x h = (h, cc)
 
--- a number of a list in which none is above a bound
-abbrev noneAbove : ℕ → List ℕ → Bool
-noneAbove most [] = true
-noneAbove most (y ∷ ys) = cond (leb y most) (noneAbove most ys) false
-
-in-most : (x : ℕ) (ys : List ℕ) (most : ℕ) → noneAbove most ys ≡ true → isIn x ys ≡ true → x ≤ most
-in-most x [] most t h = absurd (never (ap (λ (b : Bool). ifElse b 0 1) (sym h)))
-in-most x (y ∷ ys) most t h = go (eqb x y) (leb y most) refl refl (λ u i. in-most x ys most u i) t h
-  where
-    go : (b l : Bool) → eqb x y ≡ b → leb y most ≡ l → (noneAbove most ys ≡ true → isIn x ys ≡ true → x ≤ most)
-        → cond l (noneAbove most ys) false ≡ true → cond b true (isIn x ys) ≡ true → x ≤ most
-    go b false e f rest t h = absurd (never (ap (λ (b : Bool). ifElse b 0 1) (sym t)))
-    go true true e f rest t h = let z = eqb-true x y e in omega (arith, leb-true y most f)
-    go false true e f rest t h = rest t h
-
 -- a count that is allowed is at most the most
 pub allowed-most : (m : ℕ) → allowedCount m ≡ true → m ≤ LONGEST_SPLIT
 unfolding allowedCount
-allowed-most m h = in-most m splitCounts LONGEST_SPLIT refl h
+allowed-most m h = leb-true m LONGEST_SPLIT (each-passes (λ x. leb x LONGEST_SPLIT) m splitCounts refl h)
 
 -- and there is room for its records
 pub allowed-room : (m : ℕ) → allowedCount m ≡ true → m ≤ RECORDS
