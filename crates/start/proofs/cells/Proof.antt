@@ -1,15 +1,16 @@
 -- `start::cells` meets its contract. Assumes nothing.
 use borrow.Author.Needs.{needs}
 use Prim.Native.Nat.{_-_, _/_}
+use Rattle.systems.specs.Systems.{COMPONENTS}
 use Rattle.start.proofs.Columns.{Done, done-none, done-more, done-all, done-length}
 use Rattle.start.proofs.cells.Statement.{statement}
 use Rattle.start.proofs.cells.Tie as tie
 
 abbrev Inv-loop : tie.InvT-loop
-Inv-loop mix ch end a₀ c₀ a c = Done mix ch (end / 4) a c
+Inv-loop mix ch end a₀ c₀ a c = Done mix ch (end / COMPONENTS) a c
 
 abbrev μ-loop : tie.MeasureT-loop
-μ-loop mix ch end a₀ c₀ a c = 4 - c
+μ-loop mix ch end a₀ c₀ a c = COMPONENTS - c
 
 loop-holds : tie.Need-loop-holds Inv-loop μ-loop
 loop-holds c = done-none _ _ _
