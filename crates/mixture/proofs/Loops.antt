@@ -38,10 +38,10 @@ tenths-each a w x y z u hw hx hy hz hu = (
   record {
     long = refl;
     small =
-        limited-next w _ (omega (arith, hw .1))
-        (limited-next x _ (omega (arith, hx .1))
-        (limited-next y _ (omega (arith, hy .1))
-        (limited-next z _ (hz .1)
+        limited-next w (x ∷ y ∷ z ∷ u ∷ []) (omega (arith, hw .1))
+        (limited-next x (y ∷ z ∷ u ∷ []) (omega (arith, hx .1))
+        (limited-next y (z ∷ u ∷ []) (omega (arith, hy .1))
+        (limited-next z (u ∷ []) (hz .1)
         (limited-next u [] (omega (arith, hu .1)) (λ i. omega arith)))));
   },
 )

@@ -147,11 +147,14 @@ fn sum(x: &[u64; COMPONENTS]) -> u64
     t
 }
 
-// An amount scaled to 1000000 / total of itself, rounded down.
+// An amount scaled to 1000000 / total of itself, rounded down; nothing where it is absent.
 fn quotient(x: u64, total: u64) -> u32
     requires { ⌜ (x ≤ LIMIT) × (x ≤ total) × (0 < total) ⌝ }
     ensures { λ r. ⌜ r ≡ quotientOf total x ⌝ }
 {
+    if x == 0 {
+        return 0;
+    }
     (WIDE_WHOLE * x / total) as u32
 }
 
