@@ -82,14 +82,18 @@ module _ (mix other : List ℕ) (same : (c : ℕ) → getD mix c 0 ≡ getD othe
   all-same zero = refl
   all-same (suc n) = ap₂ (λ (all x : ℕ). all + getD weights n 0 * x) (all-same n) (same n)
 
-  fitness-same : (s : ℕ) → fitnessOf mix s ≡ fitnessOf other s
+  pub fitness-same : (s : ℕ) → fitnessOf mix s ≡ fitnessOf other s
   unfolding fitnessOf
   fitness-same s = λ j.
       getD weights (memberOf s 0) 0 * same (memberOf s 0) j + getD weights (memberOf s 1) 0 * same (memberOf s 1) j
       + getD weights (memberOf s 2) 0 * same (memberOf s 2) j
 
-  -- have the same choice
-  before-same : chooseBefore mix ≡ chooseBefore other
+  -- have the same components present
+  pub present-same : (n : ℕ) → presentTo n mix ≡ presentTo n other
+  present-same n = λ j. maskFrom (λ c. ltb 0 (same c j)) n 0
+
+  -- and the same choice
+  pub before-same : chooseBefore mix ≡ chooseBefore other
   before-same = λ j.
       let present = maskFrom (λ c. ltb 0 (same c j)) HYDROCARBONS 0 in
       chooseBy (λ s. presentIn present s * (all-same HYDROCARBONS j + 1) + fitness-same s j) hydrocarbonSystems
