@@ -326,8 +326,8 @@ def seldom_cases(cases, exact, seed):
 
 
 # Counts of a split's records; the large ones have the last binary digits of 6, 9 and 15.
-COUNTS = (0, 1, 3, 5, 6, 7, 8, 9, 10, 12, 14, 15, 16, 18, 20, 21, 22, 24, 255, 256 + 6, 256 + 9, 256 + 15, U32 + 6, U32 + 9,
-          U32 + 15, U64 - 1)
+COUNTS = (0, 1, 3, 5, 6, 7, 8, 9, 10, 12, 14, 15, 16, 18, 20, 21, 22, 24, 255, 256 + 6, 256 + 9, 256 + 15,
+          U32 + 6, U32 + 9, U32 + 15, U64 - 1)
 
 COMPONENTS = 'methane', 'ethane', 'propane', 'butane', 'hydrogen'
 BUTANE_FROM = {'butanes': (4, 5), 'pentanes': (6, 7, 8), 'hexanes+': (10,), 'all': gases.BUTANE_CODES}
@@ -486,7 +486,7 @@ def listed_cases(cases, exact, draw):
 
 
 def length_cases(cases, exact, draw):
-    """Sheets of 112 to 189 bytes: whole ones of every length that there is, and the longest cut short and made longer."""
+    """Sheets of 112 to 189 bytes: whole ones of many lengths, and the longest cut short and made longer."""
     analysis = full_blend(draw)
     right = gases.start_split(analysis)
     longest = ref.layout(analysis, cut_to(right, 21))
@@ -514,7 +514,8 @@ def length_cases(cases, exact, draw):
 
 
 def blend_split_cases(cases, draw, analysis):
-    """A blend's split without its last system, with another system in the place of one, with hydrogen before its place."""
+    """A blend's split without its last system, with another system for one of its own, with hydrogen before its
+    place."""
     right = gases.start_split(analysis)
     systems = sorted({s for s, _, _ in right})
     split_sheet_cases(cases, '12 records, five systems', analysis, right[:12])
@@ -528,7 +529,7 @@ def blend_split_cases(cases, draw, analysis):
 
 
 def blend_cases(cases, exact, seed):
-    """Hydrogen: the ends of its range, its code, ties of the choice, splits and sheets longer than those of other gases."""
+    """Hydrogen: the ends of its range, its code, ties of the choice, splits and sheets longer than other gases have."""
     draw = gases.Draw(seed + 5)
     for amount in HYDROGEN_ENDS:
         for _ in range(4):

@@ -373,8 +373,8 @@ static int present(const mixture *m)
     return count;
 }
 
-/* A system with more of its components present goes before a fitter one; absent components choose none, and systems with
-   hydrogen are no candidates where there is none. The number of systems. */
+/* A system with more of its components present goes before a fitter one; absent components choose none, and systems
+   with hydrogen are no candidates where there is none. The number of systems. */
 static int choose(const mixture *m, int systems[CHOSEN])
 {
     static const uint64_t weights[COMPONENTS] = { 48, 75, 80, 100, 96 };
