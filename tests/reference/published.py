@@ -1,9 +1,10 @@
 """The published examples through the reference.
 
-published.py          prints the tables; compares tests/data/published.txt and
-                      published-answers.txt with what is made here
+published.py          prints the tables; compares tests/data/published.txt,
+                      published-answers.txt and the table in README.md with
+                      what is made here
 published.py --brief  the same, and prints the last line only
-published.py --write  writes the two data files
+published.py --write  writes the two data files, and prints README's table
 
 A small difference from a published number is shown, and is no failure: 000
 and 001 solve for equal partial numbers, document 01 stops at 0.05.
@@ -23,6 +24,7 @@ from fractions import Fraction
 import saugrinte as ref
 
 DATA = os.path.join(os.path.dirname(os.path.abspath(__file__)), "..", "data")
+README = os.path.join(DATA, "..", "..", "README.md")
 GASES_FILE = os.path.join(DATA, "published.txt")
 ANSWERS_FILE = os.path.join(DATA, "published-answers.txt")
 
@@ -373,12 +375,38 @@ def answers_text():
     return "\n".join(lines) + "\n"
 
 
+def readme_name(name):
+    """000's examples and mixes, 001's gases, by the words of the papers."""
+    kind, *rest = name.split("-")
+    if kind == "example":
+        return "EN 16726 example " + rest[0]
+    if kind == "A10":
+        return "EN 16726 mix " + rest[1] + (", ethane 8.70" if rest[2:] else "")
+    return "GOST draft, Table A.1, %s" % rest[0] if kind == "A1" else \
+        "GOST draft, Table A.6, gas " + rest[0]
+
+
+def readme_table():
+    """README's rows: every gas with a published number that is rated."""
+    lines = []
+    for name, analysis, number, _ in gases():
+        got = ref.search(analysis) if number != "-" else None
+        if isinstance(got, ref.Rating):
+            ours = Decimal(got.rating) / ref.UNITS
+            systems = sorted({s for s, _, _ in got.split})
+            lines.append("| %s | %s | %.4f | %+.4f | %s |\n" % (
+                readme_name(name), number, ours, ours - Decimal(number),
+                ", ".join(map(str, systems))))
+    return "".join(lines)
+
+
 def main(arguments):
     files = ((GASES_FILE, gases_text()), (ANSWERS_FILE, answers_text()))
     if arguments == ["--write"]:
         for path, text in files:
             with open(path, "w") as f:
                 f.write(text)
+        print(readme_table(), end="")
         return
     tables = io.StringIO()
     with contextlib.redirect_stdout(tables):
@@ -389,6 +417,9 @@ def main(arguments):
     for path, text in files:
         with open(path) as f:
             assert f.read() == text, "data file differs: " + path
+    with open(README) as f:
+        assert "|---|\n" + readme_table() + "\n" in f.read(), \
+            "README.md has another table of published numbers"
     print("reference: %d published numbers, at most %.2f away but mix 1, %s by "
           "other systems; %d figures on the way; %d gases as in tests/data"
           % (numbers, largest, OTHER_SYSTEMS["A10-mix-1"][1], steps,

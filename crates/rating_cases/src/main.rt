@@ -577,11 +577,14 @@ fn put_back(amounts: [u32; CODES]) {
 fn put_cut(amounts: [u32; CODES], count: usize) {
     let outcome = rating::rate_by_search(Analysis { amounts }, 4000);
     let found = outcome.split;
+    let systems = found.systems;
+    let codes = found.codes;
+    let parts = found.amounts;
     let split = Split {
         count,
-        systems: found.systems,
-        codes: found.codes,
-        amounts: found.amounts,
+        systems,
+        codes,
+        amounts: parts,
     };
     put_answer(rating::rate_split(Analysis { amounts }, split));
 }
