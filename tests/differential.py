@@ -534,7 +534,7 @@ def blend_cases(cases, exact, seed):
     for amount in HYDROGEN_ENDS:
         for _ in range(4):
             both_cases(cases, exact, 'hydrogen %d' % amount, with_hydrogen(draw, amount))
-    for _ in range(4):
+    for _ in range(8):
         both_cases(cases, exact, 'fitness tie of a blend', gases.fitness_tie_blend(draw))
     listed_cases(cases, exact, draw)
     length_cases(cases, exact, draw)

@@ -269,26 +269,30 @@ def tie_blend(draw):
 
 
 def fitness_tie_blend(draw):
-    """Of systems 1, 5 and 6 two or all equally fit: 75 times ethane, 80 times
-    propane, 100 times butane.  T is 8000000, and all amounts are multiples of
-    4, so that the simplified ones are exactly 5/4 of these."""
+    """Systems that differ in one component are equally fit: two or more of
+    ethane, propane, butane and hydrogen add as much to the fitness.  T is
+    8000000, and all amounts are multiples of 4, so that the simplified ones
+    are exactly 5/4 of these."""
     while True:
         a = [0] * ref.CODES
-        k = draw.between(2, 900)
-        equal = draw.pick(((2, 3), (2, 4), (3, 4), (2, 3, 4)))
-        for code, weight in ((2, 64), (3, 60), (4, 48)):
-            a[code] = weight * k if code in equal else \
+        k = draw.between(2, 500)
+        equal = draw.between(3, 15)     # a bit for each of the four
+        if equal in (4, 8):
+            continue
+        for bit, (code, share) in enumerate(((2, 128), (3, 120), (4, 96),
+                                             (15, 100))):
+            a[code] = share * k if equal >> bit & 1 else \
                 4 * (amount_small(draw, code) // 4)
         a[4], a[5] = a[4] // 2, a[4] - a[4] // 2
-        a[15] = 4 * draw.between(3, 25000)
         a[1] = 800000 - sum(a)
         a[11] = draw.between(50000, 100000)
         a[12] = 200000 - a[11]
         if not ref.check(a):
             amounts = ref.simplify(a)
-            fit = ref.fitness(amounts)
-            same = [fit[{2: 1, 3: 5, 4: 6}[code]] for code in equal]
-            assert len(set(same)) == 1
+            same = {ref.FITNESS_WEIGHT[c] * amounts[c]
+                    for bit, c in enumerate((ref.E, ref.P, ref.B, ref.H))
+                    if equal >> bit & 1}
+            assert len(same) == 1
             return tuple(a)
 
 
