@@ -19,7 +19,7 @@ abbrev ranges : List ℕ
 ranges =
     range 0 1 ∷ range 999700 400000 ∷ range 150000 100 ∷ range 60000 100 ∷ range 40000 10 ∷ range 40000 10 ∷ range 500 10 ∷
     range 20000 10 ∷ range 20000 10 ∷ range 0 1 ∷ range 15000 10 ∷ range 100000 50 ∷ range 150000 50 ∷ range 0 1 ∷
-    range 0 1 ∷ range 0 1 ∷ []
+    range 0 1 ∷ range 100000 10 ∷ []
 
 pub range-at : (k : ℕ) → k < CODES → getD ranges k 0 ≡ rangeOf k
 unfolding statusOf

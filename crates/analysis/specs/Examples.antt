@@ -1,6 +1,6 @@
 -- Worked examples (document 01, "Gases and their figures": run and compared). Assumes nothing.
 use mathlib.Core.Path.{_≡_, refl}
-use mathlib.Core.List.{List, _∷_, _++_}
+use mathlib.Core.List.{List, [], _∷_, _++_}
 use Prim.Native.Nat.{ℕ, _-_}
 use lib.ListN.{replicate}
 use Rattle.analysis.specs.Register.{CODES, statusOf}
@@ -44,3 +44,12 @@ methane-alone = refl
 methane-absent : refusalOf (gas 0 20000) ≡ 5
 unfolding refusalOf inRange statusOf
 methane-absent = refl
+
+-- hydrogen 10 and 100000 pass, 9 and 100001 are 5
+abbrev blend : ℕ → ℕ → List ℕ
+blend methane hydrogen = 0 ∷ methane ∷ replicate (CODES - 3) 0 ++ (hydrogen ∷ [])
+
+hydrogen-ends : (refusalOf (blend 999700 10) ≡ 6) × (refusalOf (blend 900000 100000) ≡ 0)
+    × (refusalOf (blend 999700 9) ≡ 5) × (refusalOf (blend 899999 100001) ≡ 5)
+unfolding refusalOf inRange totalFits statusOf
+hydrogen-ends = (refl, refl, refl, refl)

@@ -135,7 +135,8 @@ pub record WithinRanges (a : List ℕ) : Type 0 where
   pub nitrogen-greatest : getD a 12 0 ≤ 150000
   pub retired-thirteen : getD a 13 0 ≡ 0
   pub splits-fourteen : getD a 14 0 ≡ 0
-  pub unknown-fifteen : getD a 15 0 ≡ 0
+  pub hydrogen-least : NoneOr 10 (getD a 15 0)
+  pub hydrogen-greatest : getD a 15 0 ≤ 100000
   pub total-least : 999900 ≤ totalOf a
   pub total-greatest : totalOf a ≤ 1000100
 
@@ -205,7 +206,8 @@ module _ (a : List ℕ) (l : length a ≡ CODES) where
           nitrogen-greatest = at-most 12 (omega arith);
           retired-thirteen = let z = at-most 13 (omega arith) in omega arith;
           splits-fourteen = let z = at-most 14 (omega arith) in omega arith;
-          unknown-fifteen = let z = at-most 15 (omega arith) in omega arith;
+          hydrogen-least = or-absent 15 (omega arith);
+          hydrogen-greatest = at-most 15 (omega arith);
           total-least = passed-least a h;
           total-greatest = passed-greatest a h;
         }

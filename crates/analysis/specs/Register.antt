@@ -54,6 +54,8 @@ register =
     entry 13 retired ∷
     -- butanes of the simplified mixture
     entry 14 splitsOnly ∷
+    -- hydrogen (document 02, Seven)
+    entry 15 (live 10 100000 false) ∷
     []
 
 -- the indices of an analysis: room for every code below 16. What is not live, or no key at all, has no legal amount.
@@ -104,8 +106,15 @@ retired-for-ever = (refl, refl)
 pub none-else-retired : retiredIn register ≡ 9 ∷ 13 ∷ []
 none-else-retired = refl
 
--- the first fourteen are document 01's for ever, 14 in splits only: a request adds to them
-pub keys-kept : (take 14 (keysOf register) ≡ 1 ∷ 2 ∷ 3 ∷ 4 ∷ 5 ∷ 6 ∷ 7 ∷ 8 ∷ 9 ∷ 10 ∷ 11 ∷ 12 ∷ 13 ∷ 14 ∷ [])
+-- document 01's keys stay for ever, the first fourteen, 14 in splits only; and so does hydrogen's: a request adds to them
+abbrev pub BASE : ℕ
+BASE = 14
+
+pub keys-kept : (take BASE (keysOf register) ≡ 1 ∷ 2 ∷ 3 ∷ 4 ∷ 5 ∷ 6 ∷ 7 ∷ 8 ∷ 9 ∷ 10 ∷ 11 ∷ 12 ∷ 13 ∷ 14 ∷ [])
     × (statusOf 14 ≡ splitsOnly)
 unfolding statusOf
 keys-kept = (refl, refl)
+
+pub hydrogen-kept : statusOf 15 ≡ live 10 100000 false
+unfolding statusOf
+hydrogen-kept = refl

@@ -100,11 +100,12 @@ refusal-none true true h = (refl, refl)
 refusal-none true false h = absurd (omega arith)
 refusal-none false u h = absurd (omega arith)
 
-pub requiring-passes : (codes : List ℕ) (a : List ℕ) → refusalIn (requiring codes register) a ≡ 0 → refusalOf a ≡ 0
+pub requiring-passes : (codes : List ℕ) (es : List Entry) (a : List ℕ) → refusalIn (requiring codes es) a ≡ 0
+    → refusalIn es a ≡ 0
 unfolding refusalIn
-requiring-passes codes a h =
-    let (t, u) = refusal-none (allInRangeIn (requiring codes register) 0 a) (totalFits (totalOf a)) h in
-    sym (refusal-register a) ∙ rw (all-passes codes register 0 a t, u)
+requiring-passes codes es a h =
+    let (t, u) = refusal-none (allInRangeIn (requiring codes es) 0 a) (totalFits (totalOf a)) h in
+    rw (all-passes codes es 0 a t, u)
 
 -- ---- and what must be present is
 
@@ -179,20 +180,20 @@ all-required codes es code (x ∷ xs) h p =
     (λ k l i. p (suc k) (omega arith) (ap (λ (n : ℕ). isIn n codes) (omega arith) ∙ i)) in
     rw (first, rest)
 
-required-passes : (codes a : List ℕ) → refusalOf a ≡ 0 → ((k : ℕ) → isIn k codes ≡ true → 0 < getD a k 0)
-    → refusalIn (requiring codes register) a ≡ 0
+required-passes : (codes : List ℕ) (es : List Entry) (a : List ℕ) → refusalIn es a ≡ 0
+    → ((k : ℕ) → isIn k codes ≡ true → 0 < getD a k 0) → refusalIn (requiring codes es) a ≡ 0
 unfolding refusalIn
-required-passes codes a passed p =
-    let (t, u) = refusal-none (allInRangeIn register 0 a) (totalFits (totalOf a)) (refusal-register a ∙ passed) in
+required-passes codes es a passed p =
+    let (t, u) = refusal-none (allInRangeIn es 0 a) (totalFits (totalOf a)) passed in
     let same : (k : ℕ) → 0 + k ≡ k = λ k. omega arith in
-    rw (all-required codes register 0 a t (λ k l i. p k (ap (λ (n : ℕ). isIn n codes) (sym (same k)) ∙ i)), u)
+    rw (all-required codes es 0 a t (λ k l i. p k (ap (λ (n : ℕ). isIn n codes) (sym (same k)) ∙ i)), u)
 
 -- what passes where the codes of a list must be present: what passes, with an amount of each of them
-pub requiring-exactly-when : (codes a : List ℕ)
-    → ((k : ℕ) → isIn k codes ≡ true → (k < length a) × (requiredBy (statusIn (requiring codes register) k) ≡ true))
-    → (refusalIn (requiring codes register) a ≡ 0)
-    ↔ ((refusalOf a ≡ 0) × ((k : ℕ) → isIn k codes ≡ true → 0 < getD a k 0))
-requiring-exactly-when codes a each = (
-  λ h. (requiring-passes codes a h, λ k i. required-present _ a k h (each k i .0) (each k i .1)),
-  λ h. required-passes codes a (h .0) (h .1),
+pub requiring-exactly-when : (codes : List ℕ) (es : List Entry) (a : List ℕ)
+    → ((k : ℕ) → isIn k codes ≡ true → (k < length a) × (requiredBy (statusIn (requiring codes es) k) ≡ true))
+    → (refusalIn (requiring codes es) a ≡ 0)
+    ↔ ((refusalIn es a ≡ 0) × ((k : ℕ) → isIn k codes ≡ true → 0 < getD a k 0))
+requiring-exactly-when codes es a each = (
+  λ h. (requiring-passes codes es a h, λ k i. required-present _ a k h (each k i .0) (each k i .1)),
+  λ h. required-passes codes es a (h .0) (h .1),
 )

@@ -10,7 +10,7 @@ ghost use Rattle.analysis.specs.Check.{inRange, totalFits, refusalBy, re
 use refusal::OUT_OF_RANGE;
 use refusal::TOTAL;
 
-// Indices of an analysis: room for every code below 16. At 0, 9 and 13 to 15 no amount is legal.
+// Indices of an analysis: room for every code below 16. At 0, 9, 13 and 14 no amount is legal.
 pub const CODES: usize = 16;
 
 // The amount in parts of code k stands at index k, 0 where it is absent.
@@ -44,7 +44,7 @@ const RANGES: [u64; CODES] = [
     150000 * ABOVE + 50,
     1,
     1,
-    1,
+    100000 * ABOVE + 10,
 ];
 
 // The code where its amount is out of its range, else the code at fault so far. 0 is in range where the code may be

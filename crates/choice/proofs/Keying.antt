@@ -8,19 +8,19 @@ use native.Mathlib.Nat.{add-zero, add-assoc, mul-le-mul}
 use native.Mathlib.Numerals.{add-one}
 use lib.Bits.{bitAnd, and-le-l}
 use lib.Count.{ones, ones-le}
-use lib.Dec.{eqb, ltb}
+use lib.Dec.{T, eqb, ltb}
 use lib.Pow.{pow-mono}
 use lib.ListN.{getD, set, length, drop, replicate, length-set, getD-replicate}
 use lib.Seq.{getD-set-same, getD-set-other}
 use borrow.Author.Tests.{lt-ltb, le-ltb, eqb-true, eqb-false, eq-eqb, ne-eqb}
 use Rattle.systems.specs.Systems.{COMPONENTS, memberOf, hasOf, elem, candidates}
-use Rattle.systems.specs.Choice.{NUMBERS, order, fold, weightedOf, fitnessOf, allTo, maskFrom, maskOf, inMask, presentOf, presentIn, standingOf, keep, isChosen, oneIf, countOf, containingOf, scoreOf, betterOf, fittestOf, takeOf, passOf, marksOf}
-use Rattle.systems.specs.Table.{none-has, to-true, eachTo}
+use Rattle.systems.specs.Choice.{NUMBERS, order, fold, weightedOf, fitnessOf, allTo, maskFrom, maskOf, inMask, presentOf, presentIn, standingOf, candidatesFor, keep, isChosen, oneIf, countOf, containingOf, scoreOf, betterOf, fittestOf, takeOf, passOf, marksOf}
+use Rattle.systems.specs.Table.{none-has, to-true, everyTo, eachTo}
 use Rattle.systems.specs.Presence.{Every, every-elem, mask-lt}
 use Rattle.systems.specs.Scores.{better-next, better-before}
 use Rattle.choice.specs.Keys.{KEYS, weighedTo, keyOf, Keyed}
 use Rattle.choice.proofs.Loops.{next, done}
-use Rattle.choice.proofs.Packed.{candidate-lt, candidates-apart}
+use Rattle.choice.proofs.Packed.{offered-few, offered-past, candidate-lt, candidates-apart}
 
 -- ---- the fitness of a candidate
 
@@ -31,14 +31,24 @@ weighed-next mix system c k x e w = rw (add-one c) (omega (arith, e, w))
 -- the components that a candidate contains are its members
 fitness-at : (mix : List ℕ) (s : ℕ) → elem s candidates ≡ true → weighedTo mix s COMPONENTS ≡ fitnessOf mix s
 unfolding Every weighedTo fitnessOf hasOf memberOf
-fitness-at mix = every-elem (λ s. weighedTo mix s COMPONENTS ≡ fitnessOf mix s) candidates (omega arith, (omega arith, (omega arith, (omega arith, omega arith))))
+fitness-at mix =
+    every-elem (λ s. weighedTo mix s COMPONENTS ≡ fitnessOf mix s) candidates
+    (omega arith, (omega arith, (omega arith, (omega arith, (omega arith, (omega arith, (omega arith, omega arith)))))))
 
-listedAt : ℕ → Bool
-listedAt i = elem (getD candidates i 0) candidates
+listedAt : Bool → ℕ → Bool
+listedAt hy i = elem (getD (candidatesFor hy) i 0) candidates
 
-pub fitness-is : (mix : List ℕ) (i : ℕ) → i < length candidates → weighedTo mix (getD candidates i 0) COMPONENTS ≡ fitnessOf mix (getD candidates i 0)
+listed-all : (hy : Bool) → T (everyTo (listedAt hy) (length (candidatesFor hy)))
 unfolding listedAt elem
-fitness-is mix i h = fitness-at mix (getD candidates i 0) (to-true (listedAt i) (eachTo listedAt (length candidates) tt i h))
+listed-all true = tt
+listed-all false = tt
+
+pub fitness-is : (hy : Bool) (mix : List ℕ) (i : ℕ) → i < length (candidatesFor hy)
+    → weighedTo mix (getD (candidatesFor hy) i 0) COMPONENTS ≡ fitnessOf mix (getD (candidatesFor hy) i 0)
+unfolding listedAt
+fitness-is hy mix i h =
+    fitness-at mix (getD (candidatesFor hy) i 0)
+    (to-true (listedAt hy i) (eachTo (listedAt hy) (length (candidatesFor hy)) (listed-all hy) i h))
 
 -- ---- the number present, and the standing
 
@@ -74,12 +84,12 @@ pub count-is-present : (p system m n : ℕ) → m ≡ maskOf n → n ≡ system 
 unfolding presentIn
 count-is-present p system m n e f = rw (e, f) (refl, present-le p system)
 
-pub standing-is : (mix : List ℕ) (i p top n f : ℕ) → i < length candidates → p ≡ presentOf mix → top ≡ allTo mix COMPONENTS + 1 → n ≡ presentIn p (getD candidates i 0)
-    → f ≡ weighedTo mix (getD candidates i 0) COMPONENTS + 1 → n * top + f ≡ standingOf mix (getD candidates i 0) + 1
+pub standing-is : (hy : Bool) (mix : List ℕ) (i p top n f : ℕ) → i < length (candidatesFor hy) → p ≡ presentOf mix → top ≡ allTo mix COMPONENTS + 1 → n ≡ presentIn p (getD (candidatesFor hy) i 0)
+    → f ≡ weighedTo mix (getD (candidatesFor hy) i 0) COMPONENTS + 1 → n * top + f ≡ standingOf mix (getD (candidatesFor hy) i 0) + 1
 unfolding standingOf
-standing-is mix i p top n f h e t q w =
-    let g : f ≡ fitnessOf mix (getD candidates i 0) + 1 = w ∙ ap (λ (x : ℕ). x + 1) (fitness-is mix i h) in
-    rw (q, e, t, g) (sym (add-assoc (presentIn (presentOf mix) (getD candidates i 0) * (allTo mix COMPONENTS + 1)) (fitnessOf mix (getD candidates i 0)) 1))
+standing-is hy mix i p top n f h e t q w =
+    let g : f ≡ fitnessOf mix (getD (candidatesFor hy) i 0) + 1 = w ∙ ap (λ (x : ℕ). x + 1) (fitness-is hy mix i h) in
+    rw (q, e, t, g) (sym (add-assoc (presentIn (presentOf mix) (getD (candidatesFor hy) i 0) * (allTo mix COMPONENTS + 1)) (fitnessOf mix (getD (candidatesFor hy) i 0)) 1))
 
 -- the product fits
 pub standing-fits : (n top : ℕ) → n ≤ COMPONENTS → top ≤ 429496729500 * COMPONENTS + 1 → n * top ≤ COMPONENTS * (429496729500 * COMPONENTS + 1)
@@ -122,66 +132,72 @@ module _ (fit : ℕ → ℕ) (marks : List Bool) (s : ℕ) where
 -- ---- the keys before a system is chosen
 
 -- the keys of the candidates in the first i places
-pub record Fresh (mix : List ℕ) (keys : List ℕ) (i : ℕ) : Type 0 where
-  pub most : i ≤ length candidates
+pub record Fresh (hy : Bool) (mix : List ℕ) (keys : List ℕ) (i : ℕ) : Type 0 where
+  pub most : i ≤ length (candidatesFor hy)
   pub long : length keys ≡ KEYS
-  pub at : (j : ℕ) → j < i → getD keys j 0 ≡ standingOf mix (getD candidates j 0) + 1
+  pub at : (j : ℕ) → j < i → getD keys j 0 ≡ standingOf mix (getD (candidatesFor hy) j 0) + 1
 
-pub fresh-none : (mix : List ℕ) → Fresh mix (replicate KEYS 0) 0
-fresh-none mix = record { most = omega arith; long = refl; at = λ j h. absurd (omega arith) }
+pub fresh-none : (hy : Bool) (mix : List ℕ) → Fresh hy mix (replicate KEYS 0) 0
+fresh-none hy mix = record { most = omega arith; long = refl; at = λ j h. absurd (omega arith) }
 
-pub fresh-next : (mix keys : List ℕ) (i k : ℕ) → Fresh mix keys i → i < length candidates → k ≡ standingOf mix (getD candidates i 0) + 1 → Fresh mix (set keys i k) (i + 1)
-fresh-next mix keys i k f h e = record { most = omega arith; long = length-set keys i k ∙ f .long; at = λ j l. go j l (eqb j i) refl }
+pub fresh-next : (hy : Bool) (mix keys : List ℕ) (i k : ℕ) → Fresh hy mix keys i → i < length (candidatesFor hy) → k ≡ standingOf mix (getD (candidatesFor hy) i 0) + 1 → Fresh hy mix (set keys i k) (i + 1)
+fresh-next hy mix keys i k f h e = record { most = omega arith; long = length-set keys i k ∙ f .long; at = λ j l. go j l (eqb j i) refl }
   where
-    go : (j : ℕ) → j < i + 1 → (b : Bool) → eqb j i ≡ b → getD (set keys i k) j 0 ≡ standingOf mix (getD candidates j 0) + 1
+    go : (j : ℕ) → j < i + 1 → (b : Bool) → eqb j i ≡ b → getD (set keys i k) j 0 ≡ standingOf mix (getD (candidatesFor hy) j 0) + 1
     go j l true q =
-        rw (eqb-true j i q) (getD-set-same keys i k 0 (omega (arith, f .long)) ∙ e)
+        rw (eqb-true j i q) (getD-set-same keys i k 0 (omega (arith, f .long, offered-few hy)) ∙ e)
     go j l false q =
         let d : j ≡ i → ⊥ = eqb-false j i q in
         rw (getD-set-other keys i j k 0 d) (f .at j (omega arith))
 
-pub fresh-all : (mix keys : List ℕ) (i : ℕ) → Fresh mix keys i → length candidates ≤ i → Keyed (standingOf mix) (replicate NUMBERS false) keys
-fresh-all mix keys i k h =
+pub fresh-all : (hy : Bool) (mix keys : List ℕ) (i : ℕ) → Fresh hy mix keys i → length (candidatesFor hy) ≤ i → Keyed hy (standingOf mix) (replicate NUMBERS false) keys
+fresh-all hy mix keys i k h =
     record {
       marked = refl;
       long = k .long;
       at = λ j l. k .at j (omega arith)
-          ∙ sym (key-open (standingOf mix) (replicate NUMBERS false) (getD candidates j 0) (getD-replicate NUMBERS (getD candidates j 0) false false (candidate-lt j (omega arith))));
+          ∙ sym (key-open (standingOf mix) (replicate NUMBERS false) (getD (candidatesFor hy) j 0) (getD-replicate NUMBERS (getD (candidatesFor hy) j 0) false false (candidate-lt hy j (omega arith))));
     }
 
 -- ---- how many chosen systems contain c, and the fittest that is not chosen
 
 -- the count and the best of the candidates from place i on come to those of all, from the count and the best so far
-pub record Told (fit : ℕ → ℕ) (marks : List Bool) (c i count best system : ℕ) : Type 0 where
-  pub counted : fold (countOf marks c) (drop i candidates) count ≡ containingOf candidates marks c
+pub record Told (hy : Bool) (fit : ℕ → ℕ) (marks : List Bool) (c i count best system : ℕ) : Type 0 where
+  pub counted : fold (countOf marks c) (drop i (candidatesFor hy)) count ≡ containingOf (candidatesFor hy) marks c
   pub scored : best ≡ scoreOf fit marks c system
-  pub rest : fold (betterOf fit marks c) (drop i candidates) system ≡ fittestOf fit candidates marks c
+  pub rest : fold (betterOf fit marks c) (drop i (candidatesFor hy)) system ≡ fittestOf fit (candidatesFor hy) marks c
 
-pub record Tally (keys : List ℕ) (c i count best at : ℕ) : Type 0 where
-  pub most : i ≤ length candidates
+pub record Tally (hy : Bool) (keys : List ℕ) (c i count best at : ℕ) : Type 0 where
+  pub most : i ≤ length (candidatesFor hy)
   pub few : count ≤ i
-  pub place : at ≤ length candidates
-  pub told : (fit : ℕ → ℕ) → (marks : List Bool) → Keyed fit marks keys → Told fit marks c i count best (getD candidates at 0)
+  pub place : at ≤ length (candidatesFor hy)
+  pub told : (fit : ℕ → ℕ) → (marks : List Bool) → Keyed hy fit marks keys → Told hy fit marks c i count best (getD (candidatesFor hy) at 0)
 
-pub tally-none : (keys : List ℕ) (c : ℕ) → c < COMPONENTS → Tally keys c 0 0 0 (length candidates)
+pub tally-none : (hy : Bool) (keys : List ℕ) (c : ℕ) → c < COMPONENTS → Tally hy keys c 0 0 0 (length (candidatesFor hy))
 unfolding containingOf fittestOf
-tally-none keys c h =
+tally-none hy keys c h =
     record {
       most = omega arith;
       few = omega arith;
       place = omega arith;
-      told = λ fit marks k. record { counted = refl; scored = sym (score-lacks fit marks 0 c (none-has c h)); rest = refl };
+      told = λ fit marks k.
+          let e = offered-past hy in
+          record {
+            counted = refl;
+            scored = sym (ap (scoreOf fit marks c) e ∙ score-lacks fit marks 0 c (none-has c h));
+            rest = ap (fold (betterOf fit marks c) (candidatesFor hy)) e;
+          };
     }
 
-module _ (keys : List ℕ) (c i count best at : ℕ) (k : Tally keys c i count best at) (h : i < length candidates) where
+module _ (hy : Bool) (keys : List ℕ) (c i count best at : ℕ) (k : Tally hy keys c i count best at) (h : i < length (candidatesFor hy)) where
   abbrev next-is : ℕ → ℕ → ℕ → (ℕ → ℕ) → List Bool → Type 0
   next-is count′ best′ at′ fit marks =
-      (count′ ≡ countOf marks c count (getD candidates i 0)) × (best′ ≡ scoreOf fit marks c (getD candidates at′ 0))
-      × (getD candidates at′ 0 ≡ betterOf fit marks c (getD candidates at 0) (getD candidates i 0))
+      (count′ ≡ countOf marks c count (getD (candidatesFor hy) i 0)) × (best′ ≡ scoreOf fit marks c (getD (candidatesFor hy) at′ 0))
+      × (getD (candidatesFor hy) at′ 0 ≡ betterOf fit marks c (getD (candidatesFor hy) at 0) (getD (candidatesFor hy) i 0))
 
-  tally-next : (count′ best′ at′ : ℕ) → count′ ≤ i + 1 → at′ ≤ length candidates
-      → ((fit : ℕ → ℕ) → (marks : List Bool) → getD keys i 0 ≡ keyOf fit marks (getD candidates i 0) → best ≡ scoreOf fit marks c (getD candidates at 0) → next-is count′ best′ at′ fit marks)
-      → Tally keys c (i + 1) count′ best′ at′
+  tally-next : (count′ best′ at′ : ℕ) → count′ ≤ i + 1 → at′ ≤ length (candidatesFor hy)
+      → ((fit : ℕ → ℕ) → (marks : List Bool) → getD keys i 0 ≡ keyOf fit marks (getD (candidatesFor hy) i 0) → best ≡ scoreOf fit marks c (getD (candidatesFor hy) at 0) → next-is count′ best′ at′ fit marks)
+      → Tally hy keys c (i + 1) count′ best′ at′
   tally-next count′ best′ at′ few place f =
       record {
         most = omega arith;
@@ -191,129 +207,129 @@ module _ (keys : List ℕ) (c i count best at : ℕ) (k : Tally keys c i count b
             let t = k .told fit marks d in
             let r = f fit marks (d .at i h) (t .scored) in
             record {
-              counted = next (countOf marks c) candidates i (getD candidates i 0) count count′ (containingOf candidates marks c) h refl (r .0) (t .counted);
+              counted = next (countOf marks c) (candidatesFor hy) i (getD (candidatesFor hy) i 0) count count′ (containingOf (candidatesFor hy) marks c) h refl (r .0) (t .counted);
               scored = r .1;
-              rest = next (betterOf fit marks c) candidates i (getD candidates i 0) (getD candidates at 0) (getD candidates at′ 0) (fittestOf fit candidates marks c) h refl (r .2) (t .rest);
+              rest = next (betterOf fit marks c) (candidatesFor hy) i (getD (candidatesFor hy) i 0) (getD (candidatesFor hy) at 0) (getD (candidatesFor hy) at′ 0) (fittestOf fit (candidatesFor hy) marks c) h refl (r .2) (t .rest);
             };
       }
 
   module _ (count′ best′ at′ : ℕ) where
     -- the best stays, where the next scores no more
-    stays : (fit : ℕ → ℕ) (marks : List Bool) → best ≡ scoreOf fit marks c (getD candidates at 0) → scoreOf fit marks c (getD candidates i 0) ≤ best → best′ ≡ best → at′ ≡ at
-        → (best′ ≡ scoreOf fit marks c (getD candidates at′ 0)) × (getD candidates at′ 0 ≡ betterOf fit marks c (getD candidates at 0) (getD candidates i 0))
+    stays : (fit : ℕ → ℕ) (marks : List Bool) → best ≡ scoreOf fit marks c (getD (candidatesFor hy) at 0) → scoreOf fit marks c (getD (candidatesFor hy) i 0) ≤ best → best′ ≡ best → at′ ≡ at
+        → (best′ ≡ scoreOf fit marks c (getD (candidatesFor hy) at′ 0)) × (getD (candidatesFor hy) at′ 0 ≡ betterOf fit marks c (getD (candidatesFor hy) at 0) (getD (candidatesFor hy) i 0))
     stays fit marks b l q r =
-        let e = ap (λ (x : ℕ). getD candidates x 0) r in
-        (q ∙ b ∙ ap (scoreOf fit marks c) (sym e), e ∙ sym (better-before fit marks c (getD candidates at 0) (getD candidates i 0) (omega arith)))
+        let e = ap (λ (x : ℕ). getD (candidatesFor hy) x 0) r in
+        (q ∙ b ∙ ap (scoreOf fit marks c) (sym e), e ∙ sym (better-before fit marks c (getD (candidatesFor hy) at 0) (getD (candidatesFor hy) i 0) (omega arith)))
 
-    pub tally-chosen : hasOf (getD candidates i 0) c ≡ true → getD keys i 0 ≡ 0 → count′ ≡ count + 1 → best′ ≡ best → at′ ≡ at → Tally keys c (i + 1) count′ best′ at′
+    pub tally-chosen : hasOf (getD (candidatesFor hy) i 0) c ≡ true → getD keys i 0 ≡ 0 → count′ ≡ count + 1 → best′ ≡ best → at′ ≡ at → Tally hy keys c (i + 1) count′ best′ at′
     tally-chosen t z p q r =
         tally-next count′ best′ at′ (omega (arith, k .few)) (omega (arith, k .place))
         (λ fit marks a b.
-        let s : keyOf fit marks (getD candidates i 0) ≡ scoreOf fit marks c (getD candidates i 0) = score-key fit marks (getD candidates i 0) c t in
+        let s : keyOf fit marks (getD (candidatesFor hy) i 0) ≡ scoreOf fit marks c (getD (candidatesFor hy) i 0) = score-key fit marks (getD (candidatesFor hy) i 0) c t in
         let s′ = stays fit marks b (omega arith) q r in
-        (p ∙ rw (chosen-of-key fit marks (getD candidates i 0) (sym a ∙ z), t), s′ .0, s′ .1))
+        (p ∙ rw (chosen-of-key fit marks (getD (candidatesFor hy) i 0) (sym a ∙ z), t), s′ .0, s′ .1))
 
-    pub tally-lacks : hasOf (getD candidates i 0) c ≡ false → count′ ≡ count → best′ ≡ best → at′ ≡ at → Tally keys c (i + 1) count′ best′ at′
+    pub tally-lacks : hasOf (getD (candidatesFor hy) i 0) c ≡ false → count′ ≡ count → best′ ≡ best → at′ ≡ at → Tally hy keys c (i + 1) count′ best′ at′
     tally-lacks t p q r =
         tally-next count′ best′ at′ (omega (arith, k .few)) (omega (arith, k .place))
         (λ fit marks a b.
-        let s = score-lacks fit marks (getD candidates i 0) c t in
+        let s = score-lacks fit marks (getD (candidatesFor hy) i 0) c t in
         let s′ = stays fit marks b (omega arith) q r in
-        (p ∙ none (isChosen marks (getD candidates i 0)), s′ .0, s′ .1))
+        (p ∙ none (isChosen marks (getD (candidatesFor hy) i 0)), s′ .0, s′ .1))
       where
-        none : (b : Bool) → count ≡ count + oneIf (b && hasOf (getD candidates i 0) c)
+        none : (b : Bool) → count ≡ count + oneIf (b && hasOf (getD (candidatesFor hy) i 0) c)
         none true = rw t (sym (add-zero count))
         none false = sym (add-zero count)
 
-    module _ (t : hasOf (getD candidates i 0) c ≡ true) (z : getD keys i 0 ≡ 0 → ⊥) (p : count′ ≡ count) where
-      open-one : (fit : ℕ → ℕ) (marks : List Bool) → getD keys i 0 ≡ keyOf fit marks (getD candidates i 0) → count′ ≡ countOf marks c count (getD candidates i 0)
-      open-one fit marks a = p ∙ rw (open-of-key fit marks (getD candidates i 0) (λ w. z (a ∙ w))) (sym (add-zero count))
+    module _ (t : hasOf (getD (candidatesFor hy) i 0) c ≡ true) (z : getD keys i 0 ≡ 0 → ⊥) (p : count′ ≡ count) where
+      open-one : (fit : ℕ → ℕ) (marks : List Bool) → getD keys i 0 ≡ keyOf fit marks (getD (candidatesFor hy) i 0) → count′ ≡ countOf marks c count (getD (candidatesFor hy) i 0)
+      open-one fit marks a = p ∙ rw (open-of-key fit marks (getD (candidatesFor hy) i 0) (λ w. z (a ∙ w))) (sym (add-zero count))
 
-      pub tally-less : getD keys i 0 ≤ best → best′ ≡ best → at′ ≡ at → Tally keys c (i + 1) count′ best′ at′
+      pub tally-less : getD keys i 0 ≤ best → best′ ≡ best → at′ ≡ at → Tally hy keys c (i + 1) count′ best′ at′
       tally-less l q r =
           tally-next count′ best′ at′ (omega (arith, k .few)) (omega (arith, k .place))
           (λ fit marks a b.
-          let s = score-key fit marks (getD candidates i 0) c t in
+          let s = score-key fit marks (getD (candidatesFor hy) i 0) c t in
           let s′ = stays fit marks b (omega arith) q r in
           (open-one fit marks a, s′ .0, s′ .1))
 
-      pub tally-more : best < getD keys i 0 → best′ ≡ getD keys i 0 → at′ ≡ i → Tally keys c (i + 1) count′ best′ at′
+      pub tally-more : best < getD keys i 0 → best′ ≡ getD keys i 0 → at′ ≡ i → Tally hy keys c (i + 1) count′ best′ at′
       tally-more l q r =
           tally-next count′ best′ at′ (omega (arith, k .few)) (omega arith)
           (λ fit marks a b.
-          let e = ap (λ (x : ℕ). getD candidates x 0) r in
-          let s : getD keys i 0 ≡ scoreOf fit marks c (getD candidates i 0) = a ∙ score-key fit marks (getD candidates i 0) c t in
-          (open-one fit marks a, q ∙ s ∙ ap (scoreOf fit marks c) (sym e), e ∙ sym (better-next fit marks c (getD candidates at 0) (getD candidates i 0) (omega arith))))
+          let e = ap (λ (x : ℕ). getD (candidatesFor hy) x 0) r in
+          let s : getD keys i 0 ≡ scoreOf fit marks c (getD (candidatesFor hy) i 0) = a ∙ score-key fit marks (getD (candidatesFor hy) i 0) c t in
+          (open-one fit marks a, q ∙ s ∙ ap (scoreOf fit marks c) (sym e), e ∙ sym (better-next fit marks c (getD (candidatesFor hy) at 0) (getD (candidatesFor hy) i 0) (omega arith))))
 
 -- ---- what a component takes
 
-keyed-set : (fit : ℕ → ℕ) (marks : List Bool) (keys : List ℕ) (at : ℕ) → Keyed fit marks keys → at ≤ length candidates → Keyed fit (set marks (getD candidates at 0) true) (set keys at 0)
+keyed-set : (hy : Bool) (fit : ℕ → ℕ) (marks : List Bool) (keys : List ℕ) (at : ℕ) → Keyed hy fit marks keys → at ≤ length (candidatesFor hy) → Keyed hy fit (set marks (getD (candidatesFor hy) at 0) true) (set keys at 0)
 unfolding keyOf
-keyed-set fit marks keys at k l =
+keyed-set hy fit marks keys at k l =
     record {
-      marked = length-set marks (getD candidates at 0) true ∙ k .marked;
+      marked = length-set marks (getD (candidatesFor hy) at 0) true ∙ k .marked;
       long = length-set keys at 0 ∙ k .long;
       at = λ i h. go i h (eqb i at) refl;
     }
   where
-    go : (i : ℕ) → i < length candidates → (b : Bool) → eqb i at ≡ b → getD (set keys at 0) i 0 ≡ keyOf fit (set marks (getD candidates at 0) true) (getD candidates i 0)
+    go : (i : ℕ) → i < length (candidatesFor hy) → (b : Bool) → eqb i at ≡ b → getD (set keys at 0) i 0 ≡ keyOf fit (set marks (getD (candidatesFor hy) at 0) true) (getD (candidatesFor hy) i 0)
     go i h true p =
-        rw (eqb-true i at p, getD-set-same keys at 0 0 (omega (arith, k .long)), getD-set-same marks (getD candidates at 0) true false (omega (arith, k .marked, candidate-lt at l)))
+        rw (eqb-true i at p, getD-set-same keys at 0 0 (omega (arith, k .long, offered-few hy)), getD-set-same marks (getD (candidatesFor hy) at 0) true false (omega (arith, k .marked, candidate-lt hy at l)))
     go i h false p =
         let d : i ≡ at → ⊥ = eqb-false i at p in
-        let e = candidates-apart i at (omega arith) l d in
-        rw (getD-set-other keys at i 0 0 d, getD-set-other marks (getD candidates at 0) (getD candidates i 0) true false e) (k .at i h)
+        let e = candidates-apart hy i at (omega arith) l d in
+        rw (getD-set-other keys at i 0 0 d, getD-set-other marks (getD (candidatesFor hy) at 0) (getD (candidatesFor hy) i 0) true false e) (k .at i h)
 
-module _ (keys : List ℕ) (c i count best at : ℕ) (k : Tally keys c i count best at) (h : length candidates ≤ i) (wanted : ℕ) (fit : ℕ → ℕ) (marks : List Bool) (d : Keyed fit marks keys) where
-  count-is : count ≡ containingOf candidates marks c
-  count-is = done (countOf marks c) candidates i count (containingOf candidates marks c) h (k .told fit marks d .counted)
+module _ (hy : Bool) (keys : List ℕ) (c i count best at : ℕ) (k : Tally hy keys c i count best at) (h : length (candidatesFor hy) ≤ i) (wanted : ℕ) (fit : ℕ → ℕ) (marks : List Bool) (d : Keyed hy fit marks keys) where
+  count-is : count ≡ containingOf (candidatesFor hy) marks c
+  count-is = done (countOf marks c) (candidatesFor hy) i count (containingOf (candidatesFor hy) marks c) h (k .told fit marks d .counted)
 
-  pub take-none : wanted ≤ count → Keyed fit (takeOf fit candidates wanted marks c) keys
+  pub take-none : wanted ≤ count → Keyed hy fit (takeOf fit (candidatesFor hy) wanted marks c) keys
   unfolding takeOf
-  take-none l = rw (le-ltb (containingOf candidates marks c) wanted (rw (← count-is) l), takeOf) d
+  take-none l = rw (le-ltb (containingOf (candidatesFor hy) marks c) wanted (rw (← count-is) l), takeOf) d
 
-  pub take-one : count < wanted → Keyed fit (takeOf fit candidates wanted marks c) (set keys at 0)
+  pub take-one : count < wanted → Keyed hy fit (takeOf fit (candidatesFor hy) wanted marks c) (set keys at 0)
   unfolding takeOf
   take-one l =
-      let f : getD candidates at 0 ≡ fittestOf fit candidates marks c = done (betterOf fit marks c) candidates i (getD candidates at 0) (fittestOf fit candidates marks c) h (k .told fit marks d .rest) in
-      rw (lt-ltb (containingOf candidates marks c) wanted (rw (← count-is) l), ← f, takeOf) (keyed-set fit marks keys at d (k .place))
+      let f : getD (candidatesFor hy) at 0 ≡ fittestOf fit (candidatesFor hy) marks c = done (betterOf fit marks c) (candidatesFor hy) i (getD (candidatesFor hy) at 0) (fittestOf fit (candidatesFor hy) marks c) h (k .told fit marks d .rest) in
+      rw (lt-ltb (containingOf (candidatesFor hy) marks c) wanted (rw (← count-is) l), ← f, takeOf) (keyed-set hy fit marks keys at d (k .place))
 
 -- ---- each component in turn, and again
 
 -- a component takes its turn where it is present
-unfoldable pub turnOf : (ℕ → ℕ) → ℕ → ℕ → List Bool → ℕ → List Bool
-turnOf fit p wanted marks c = elim (inMask p c) [ true ↦ takeOf fit candidates wanted marks c | false ↦ marks ]
+unfoldable pub turnOf : Bool → (ℕ → ℕ) → ℕ → ℕ → List Bool → ℕ → List Bool
+turnOf hy fit p wanted marks c = elim (inMask p c) [ true ↦ takeOf fit (candidatesFor hy) wanted marks c | false ↦ marks ]
 
-pub turn-takes : (fit : ℕ → ℕ) (p wanted : ℕ) (marks : List Bool) (c : ℕ) → p / 2 ^ c % 2 ≡ 1 → turnOf fit p wanted marks c ≡ takeOf fit candidates wanted marks c
+pub turn-takes : (hy : Bool) (fit : ℕ → ℕ) (p wanted : ℕ) (marks : List Bool) (c : ℕ) → p / 2 ^ c % 2 ≡ 1 → turnOf hy fit p wanted marks c ≡ takeOf fit (candidatesFor hy) wanted marks c
 unfolding turnOf inMask
-turn-takes fit p wanted marks c e = rw (eq-eqb (p / 2 ^ c % 2) 1 e, turnOf)
+turn-takes hy fit p wanted marks c e = rw (eq-eqb (p / 2 ^ c % 2) 1 e, turnOf)
 
-pub turn-over : (fit : ℕ → ℕ) (p wanted : ℕ) (marks : List Bool) (c : ℕ) → (p / 2 ^ c % 2 ≡ 1 → ⊥) → turnOf fit p wanted marks c ≡ marks
+pub turn-over : (hy : Bool) (fit : ℕ → ℕ) (p wanted : ℕ) (marks : List Bool) (c : ℕ) → (p / 2 ^ c % 2 ≡ 1 → ⊥) → turnOf hy fit p wanted marks c ≡ marks
 unfolding turnOf inMask
-turn-over fit p wanted marks c e = rw (ne-eqb (p / 2 ^ c % 2) 1 e, turnOf)
+turn-over hy fit p wanted marks c e = rw (ne-eqb (p / 2 ^ c % 2) 1 e, turnOf)
 
-pub turn-is : (fit : ℕ → ℕ) (p wanted : ℕ) (components : List ℕ) (marks : List Bool)
-    → fold (turnOf fit p wanted) components marks ≡ passOf fit candidates (keep p components) wanted marks
+pub turn-is : (hy : Bool) (fit : ℕ → ℕ) (p wanted : ℕ) (components : List ℕ) (marks : List Bool)
+    → fold (turnOf hy fit p wanted) components marks ≡ passOf fit (candidatesFor hy) (keep p components) wanted marks
 unfolding turnOf passOf keep fold
-turn-is fit p wanted [] marks = refl
-turn-is fit p wanted (c ∷ components) marks = go (inMask p c) refl (turn-is fit p wanted components)
+turn-is hy fit p wanted [] marks = refl
+turn-is hy fit p wanted (c ∷ components) marks = go (inMask p c) refl (turn-is hy fit p wanted components)
   where
-    go : (b : Bool) → inMask p c ≡ b → ((marks : List Bool) → fold (turnOf fit p wanted) components marks ≡ passOf fit candidates (keep p components) wanted marks)
-        → fold (turnOf fit p wanted) (c ∷ components) marks ≡ passOf fit candidates (keep p (c ∷ components)) wanted marks
-    go true e f = rw (e, turnOf, keep) (f (takeOf fit candidates wanted marks c))
+    go : (b : Bool) → inMask p c ≡ b → ((marks : List Bool) → fold (turnOf hy fit p wanted) components marks ≡ passOf fit (candidatesFor hy) (keep p components) wanted marks)
+        → fold (turnOf hy fit p wanted) (c ∷ components) marks ≡ passOf fit (candidatesFor hy) (keep p (c ∷ components)) wanted marks
+    go true e f = rw (e, turnOf, keep) (f (takeOf fit (candidatesFor hy) wanted marks c))
     go false e f = rw (e, turnOf, keep) (f marks)
 
 -- the marks after i turns
-unfoldable pub marksAfter : (ℕ → ℕ) → ℕ → ℕ → List Bool
-marksAfter fit p zero = replicate NUMBERS false
-marksAfter fit p (suc i) = turnOf fit p (1 + i / COMPONENTS) (marksAfter fit p i) (getD order (i % COMPONENTS) 0)
+unfoldable pub marksAfter : Bool → (ℕ → ℕ) → ℕ → ℕ → List Bool
+marksAfter hy fit p zero = replicate NUMBERS false
+marksAfter hy fit p (suc i) = turnOf hy fit p (1 + i / COMPONENTS) (marksAfter hy fit p i) (getD order (i % COMPONENTS) 0)
 
-after-folds : (fit : ℕ → ℕ) (p : ℕ) → marksAfter fit p 8 ≡ fold (turnOf fit p 2) order (fold (turnOf fit p 1) order (replicate NUMBERS false))
+after-folds : (hy : Bool) (fit : ℕ → ℕ) (p : ℕ) → marksAfter hy fit p (2 * COMPONENTS) ≡ fold (turnOf hy fit p 2) order (fold (turnOf hy fit p 1) order (replicate NUMBERS false))
 unfolding marksAfter fold
-after-folds fit p = refl
+after-folds hy fit p = refl
 
-pub after-all : (fit : ℕ → ℕ) (p : ℕ) → marksAfter fit p 8 ≡ marksOf fit candidates (keep p order)
+pub after-all : (hy : Bool) (fit : ℕ → ℕ) (p : ℕ) → marksAfter hy fit p (2 * COMPONENTS) ≡ marksOf fit (candidatesFor hy) (keep p order)
 unfolding marksOf
-after-all fit p =
-    after-folds fit p ∙ turn-is fit p 2 order (fold (turnOf fit p 1) order (replicate NUMBERS false))
-    ∙ ap (passOf fit candidates (keep p order) 2) (turn-is fit p 1 order (replicate NUMBERS false))
+after-all hy fit p =
+    after-folds hy fit p ∙ turn-is hy fit p 2 order (fold (turnOf hy fit p 1) order (replicate NUMBERS false))
+    ∙ ap (passOf fit (candidatesFor hy) (keep p order) 2) (turn-is hy fit p 1 order (replicate NUMBERS false))

@@ -1,5 +1,5 @@
 -- The list of chosen systems as it grows in an array of 8 places. Assumes nothing.
-use Prim.Native.Nat.{ℕ, suc, _+_, _-_, _/_, _%_, _^_, _≤_, _<_}
+use Prim.Native.Nat.{ℕ, suc, _+_, _*_, _-_, _/_, _%_, _^_, _≤_, _<_}
 use mathlib.Core.Path.{_≡_, refl, sym, ap, _∙_}
 use mathlib.Core.Bool.{Bool, true, false}
 use mathlib.Core.List.{List, [], _∷_, _++_}
@@ -7,11 +7,13 @@ use native.Mathlib.Numerals.{add-one}
 use native.Mathlib.Omega.{arith}
 use lib.ListN.{getD, set, length, drop, replicate, length-append}
 use lib.Seq.{set-at, append-snoc}
-use Rattle.systems.specs.Systems.{COMPONENTS, candidates}
-use Rattle.systems.specs.Choice.{NUMBERS, SYSTEMS, order, takeOf, marksOf, fold, isChosen, keep, presentOf, standingOf, listOf, chosenOf, chooseOf, paddedOf, answerOf, choiceOf}
+use Rattle.systems.specs.Systems.{COMPONENTS, HYDROGEN}
+use Rattle.systems.specs.Choice.{NUMBERS, SYSTEMS, order, takeOf, marksOf, fold, isChosen, keep, inMask, presentOf, standingOf, candidatesFor, candidatesOf}
+use Rattle.systems.specs.Choice.{listOf, chosenOf, chooseBy, chooseOf, paddedOf, answerOf, choiceOf}
 use Rattle.choice.specs.Keys.{Keyed}
 use Rattle.systems.specs.declared.Choice.{Choice}
 use Rattle.choice.proofs.Loops.{next, done}
+use Rattle.choice.proofs.Packed.{offered-few}
 use Rattle.choice.proofs.Keying.{chosen-of-key, open-of-key, turn-takes, turn-over, marksAfter, after-all}
 
 -- one more system at the end
@@ -23,33 +25,33 @@ padded-set l s h =
     rw (e, f) (set-at l 0 (replicate (SYSTEMS - (length l + 1)) 0) s (length l) refl ∙ sym (append-snoc l s (replicate (SYSTEMS - (length l + 1)) 0)))
 
 -- so many systems are listed after i candidates, and what is left comes to the whole list
-pub record Listed (marks : List Bool) (count : ℕ) (systems : List ℕ) (i : ℕ) : Type 0 where
+pub record Listed (hy : Bool) (marks : List Bool) (count : ℕ) (systems : List ℕ) (i : ℕ) : Type 0 where
   pub sofar : List ℕ
   pub counted : count ≡ length sofar
   pub padded : systems ≡ paddedOf sofar
   pub few : length sofar ≤ i
-  pub most : i ≤ length candidates
-  pub rest : fold (listOf marks) (drop i candidates) sofar ≡ chosenOf candidates marks
+  pub most : i ≤ length (candidatesFor hy)
+  pub rest : fold (listOf marks) (drop i (candidatesFor hy)) sofar ≡ chosenOf (candidatesFor hy) marks
 
-module _ (marks : List Bool) where
-  pub listed-none : Listed marks 0 (replicate SYSTEMS 0) 0
+module _ (hy : Bool) (marks : List Bool) where
+  pub listed-none : Listed hy marks 0 (replicate SYSTEMS 0) 0
   unfolding chosenOf paddedOf
   listed-none = record { sofar = []; counted = refl; padded = refl; few = omega arith; most = omega arith; rest = refl }
 
-  module _ (count : ℕ) (systems : List ℕ) (i s : ℕ) (k : Listed marks count systems i) (h : i < length candidates) (e : s ≡ getD candidates i 0) where
-    pub listed-more : isChosen marks s ≡ true → Listed marks (count + 1) (set systems count s) (i + 1)
+  module _ (count : ℕ) (systems : List ℕ) (i s : ℕ) (k : Listed hy marks count systems i) (h : i < length (candidatesFor hy)) (e : s ≡ getD (candidatesFor hy) i 0) where
+    pub listed-more : isChosen marks s ≡ true → Listed hy marks (count + 1) (set systems count s) (i + 1)
     unfolding listOf
     listed-more t =
         record {
           sofar = k .sofar ++ (s ∷ []);
           counted = omega (arith, length-append (k .sofar) (s ∷ []), k .counted);
-          padded = rw (k .padded, k .counted) (padded-set (k .sofar) s (omega (arith, k .few)));
+          padded = rw (k .padded, k .counted) (padded-set (k .sofar) s (omega (arith, k .few, offered-few hy)));
           few = omega (arith, length-append (k .sofar) (s ∷ []), k .few);
           most = omega arith;
-          rest = next (listOf marks) candidates i s (k .sofar) (k .sofar ++ (s ∷ [])) (chosenOf candidates marks) h e (rw (t, listOf)) (k .rest);
+          rest = next (listOf marks) (candidatesFor hy) i s (k .sofar) (k .sofar ++ (s ∷ [])) (chosenOf (candidatesFor hy) marks) h e (rw (t, listOf)) (k .rest);
         }
 
-    pub listed-same : isChosen marks s ≡ false → Listed marks count systems (i + 1)
+    pub listed-same : isChosen marks s ≡ false → Listed hy marks count systems (i + 1)
     unfolding listOf
     listed-same t =
         record {
@@ -58,65 +60,74 @@ module _ (marks : List Bool) where
           padded = k .padded;
           few = omega (arith, k .few);
           most = omega arith;
-          rest = next (listOf marks) candidates i s (k .sofar) (k .sofar) (chosenOf candidates marks) h e (rw (t, listOf)) (k .rest);
+          rest = next (listOf marks) (candidatesFor hy) i s (k .sofar) (k .sofar) (chosenOf (candidatesFor hy) marks) h e (rw (t, listOf)) (k .rest);
         }
 
-  pub listed-all : (count : ℕ) (systems : List ℕ) (i : ℕ) → Listed marks count systems i → length candidates ≤ i
-      → _≡_ {A = Choice} (record { count = count; systems = systems }) (answerOf (chosenOf candidates marks))
+  pub listed-all : (count : ℕ) (systems : List ℕ) (i : ℕ) → Listed hy marks count systems i → length (candidatesFor hy) ≤ i
+      → _≡_ {A = Choice} (record { count = count; systems = systems }) (answerOf (chosenOf (candidatesFor hy) marks))
   listed-all count systems i k h =
-      let e : k .sofar ≡ chosenOf candidates marks = done (listOf marks) candidates i (k .sofar) (chosenOf candidates marks) h (k .rest) in
+      let e : k .sofar ≡ chosenOf (candidatesFor hy) marks = done (listOf marks) (candidatesFor hy) i (k .sofar) (chosenOf (candidatesFor hy) marks) h (k .rest) in
       λ j. record { count = (k .counted ∙ ap length e) j; systems = (k .padded ∙ ap paddedOf e) j }
 
 -- ---- from the keys
 
-abbrev pub Lists : List ℕ → ℕ → List ℕ → ℕ → Type 0
-Lists keys count systems i = (fit : ℕ → ℕ) → (marks : List Bool) → Keyed fit marks keys → Listed marks count systems i
+abbrev pub Lists : Bool → List ℕ → ℕ → List ℕ → ℕ → Type 0
+Lists hy keys count systems i = (fit : ℕ → ℕ) → (marks : List Bool) → Keyed hy fit marks keys → Listed hy marks count systems i
 
-pub lists-none : (keys : List ℕ) → Lists keys 0 (replicate SYSTEMS 0) 0
-lists-none keys fit marks k = listed-none marks
+pub lists-none : (hy : Bool) (keys : List ℕ) → Lists hy keys 0 (replicate SYSTEMS 0) 0
+lists-none hy keys fit marks k = listed-none hy marks
 
-module _ (keys : List ℕ) (count : ℕ) (systems : List ℕ) (i : ℕ) (k : Lists keys count systems i) (h : i < length candidates) where
-  pub lists-more : (s : ℕ) → s ≡ getD candidates i 0 → getD keys i 0 ≡ 0 → Lists keys (count + 1) (set systems count s) (i + 1)
+module _ (hy : Bool) (keys : List ℕ) (count : ℕ) (systems : List ℕ) (i : ℕ) (k : Lists hy keys count systems i) (h : i < length (candidatesFor hy)) where
+  pub lists-more : (s : ℕ) → s ≡ getD (candidatesFor hy) i 0 → getD keys i 0 ≡ 0 → Lists hy keys (count + 1) (set systems count s) (i + 1)
   lists-more s e z fit marks d =
-      listed-more marks count systems i s (k fit marks d) h e (rw e (chosen-of-key fit marks (getD candidates i 0) (sym (d .at i h) ∙ z)))
+      listed-more hy marks count systems i s (k fit marks d) h e (rw e (chosen-of-key fit marks (getD (candidatesFor hy) i 0) (sym (d .at i h) ∙ z)))
 
-  pub lists-same : (getD keys i 0 ≡ 0 → ⊥) → Lists keys count systems (i + 1)
+  pub lists-same : (getD keys i 0 ≡ 0 → ⊥) → Lists hy keys count systems (i + 1)
   lists-same z fit marks d =
-      listed-same marks count systems i (getD candidates i 0) (k fit marks d) h refl (open-of-key fit marks (getD candidates i 0) (λ w. z (d .at i h ∙ w)))
+      listed-same hy marks count systems i (getD (candidatesFor hy) i 0) (k fit marks d) h refl (open-of-key fit marks (getD (candidatesFor hy) i 0) (λ w. z (d .at i h ∙ w)))
 
-pub lists-all : (keys : List ℕ) (count : ℕ) (systems : List ℕ) (i : ℕ) → Lists keys count systems i → length candidates ≤ i
-    → (fit : ℕ → ℕ) → (marks : List Bool) → Keyed fit marks keys → _≡_ {A = Choice} (record { count = count; systems = systems }) (answerOf (chosenOf candidates marks))
-lists-all keys count systems i k h fit marks d = listed-all marks count systems i (k fit marks d) h
+pub lists-all : (hy : Bool) (keys : List ℕ) (count : ℕ) (systems : List ℕ) (i : ℕ) → Lists hy keys count systems i → length (candidatesFor hy) ≤ i
+    → (fit : ℕ → ℕ) → (marks : List Bool) → Keyed hy fit marks keys → _≡_ {A = Choice} (record { count = count; systems = systems }) (answerOf (chosenOf (candidatesFor hy) marks))
+lists-all hy keys count systems i k h fit marks d = listed-all hy marks count systems i (k fit marks d) h
 
 -- ---- the turns of the components
 
-abbrev pub Turns : ℕ → List ℕ → List ℕ → ℕ → Type 0
-Turns p fresh keys i = (fit : ℕ → ℕ) → Keyed fit (replicate NUMBERS false) fresh → Keyed fit (marksAfter fit p i) keys
+abbrev pub Turns : Bool → ℕ → List ℕ → List ℕ → ℕ → Type 0
+Turns hy p fresh keys i = (fit : ℕ → ℕ) → Keyed hy fit (replicate NUMBERS false) fresh → Keyed hy fit (marksAfter hy fit p i) keys
 
-pub turns-none : (p : ℕ) (fit : ℕ → ℕ) (keys : List ℕ) → Keyed fit (replicate NUMBERS false) keys → Keyed fit (marksAfter fit p 0) keys
+pub turns-none : (hy : Bool) (p : ℕ) (fit : ℕ → ℕ) (keys : List ℕ) → Keyed hy fit (replicate NUMBERS false) keys → Keyed hy fit (marksAfter hy fit p 0) keys
 unfolding marksAfter
-turns-none p fit keys k = k
+turns-none hy p fit keys k = k
 
 -- a component that is present takes its turn
-pub turns-next : (p : ℕ) (fresh keys later : List ℕ) (i c : ℕ) → Turns p fresh keys i → c ≡ getD order (i % COMPONENTS) 0 → p / 2 ^ c % 2 ≡ 1
-    → ((fit : ℕ → ℕ) → (marks : List Bool) → Keyed fit marks keys → Keyed fit (takeOf fit candidates (1 + i / COMPONENTS) marks c) later)
-    → Turns p fresh later (i + 1)
+pub turns-next : (hy : Bool) (p : ℕ) (fresh keys later : List ℕ) (i c : ℕ) → Turns hy p fresh keys i → c ≡ getD order (i % COMPONENTS) 0 → p / 2 ^ c % 2 ≡ 1
+    → ((fit : ℕ → ℕ) → (marks : List Bool) → Keyed hy fit marks keys → Keyed hy fit (takeOf fit (candidatesFor hy) (1 + i / COMPONENTS) marks c) later)
+    → Turns hy p fresh later (i + 1)
 unfolding marksAfter
-turns-next p fresh keys later i c k e q t fit f = rw (add-one, ← e, turn-takes fit p (1 + i / COMPONENTS) (marksAfter fit p i) c q) (t fit (marksAfter fit p i) (k fit f))
+turns-next hy p fresh keys later i c k e q t fit f = rw (add-one, ← e, turn-takes hy fit p (1 + i / COMPONENTS) (marksAfter hy fit p i) c q) (t fit (marksAfter hy fit p i) (k fit f))
 
 -- one that is absent is passed over
-pub turns-over : (p : ℕ) (fresh keys : List ℕ) (i c : ℕ) → Turns p fresh keys i → c ≡ getD order (i % COMPONENTS) 0 → (p / 2 ^ c % 2 ≡ 1 → ⊥) → Turns p fresh keys (i + 1)
+pub turns-over : (hy : Bool) (p : ℕ) (fresh keys : List ℕ) (i c : ℕ) → Turns hy p fresh keys i → c ≡ getD order (i % COMPONENTS) 0 → (p / 2 ^ c % 2 ≡ 1 → ⊥) → Turns hy p fresh keys (i + 1)
 unfolding marksAfter
-turns-over p fresh keys i c k e q fit f = rw (add-one, ← e, turn-over fit p (1 + i / COMPONENTS) (marksAfter fit p i) c q) (k fit f)
+turns-over hy p fresh keys i c k e q fit f = rw (add-one, ← e, turn-over hy fit p (1 + i / COMPONENTS) (marksAfter hy fit p i) c q) (k fit f)
 
-pub turns-all : (p : ℕ) (fresh keys : List ℕ) (i : ℕ) → Turns p fresh keys i → i ≤ 8 → 8 ≤ i
-    → (fit : ℕ → ℕ) → Keyed fit (replicate NUMBERS false) fresh → Keyed fit (marksOf fit candidates (keep p order)) keys
-turns-all p fresh keys i k h l fit f =
-    let e : i ≡ 8 = omega arith in
-    rw (ap (marksAfter fit p) e ∙ after-all fit p) at (k fit f)
+pub turns-all : (hy : Bool) (p : ℕ) (fresh keys : List ℕ) (i : ℕ) → Turns hy p fresh keys i → i ≤ 2 * COMPONENTS → 2 * COMPONENTS ≤ i
+    → (fit : ℕ → ℕ) → Keyed hy fit (replicate NUMBERS false) fresh → Keyed hy fit (marksOf fit (candidatesFor hy) (keep p order)) keys
+turns-all hy p fresh keys i k h l fit f =
+    let e : i ≡ 2 * COMPONENTS = omega arith in
+    rw (ap (marksAfter hy fit p) e ∙ after-all hy fit p) at (k fit f)
 
 -- the turns and the list make the choice
-pub choice-is : (mix keys : List ℕ) (p : ℕ) (r : Choice) → p ≡ presentOf mix → Keyed (standingOf mix) (marksOf (standingOf mix) candidates (keep p order)) keys
-    → ((fit : ℕ → ℕ) → (marks : List Bool) → Keyed fit marks keys → r ≡ answerOf (chosenOf candidates marks)) → r ≡ choiceOf mix
-unfolding chooseOf
-choice-is mix keys p r e k t = t (standingOf mix) (marksOf (standingOf mix) candidates (keep (presentOf mix) order)) (rw e at k)
+pub choice-is : (hy : Bool) (mix keys : List ℕ) (p : ℕ) (r : Choice)
+    → Keyed hy (standingOf mix) (marksOf (standingOf mix) (candidatesFor hy) (keep p order)) keys
+    → ((fit : ℕ → ℕ) → (marks : List Bool) → Keyed hy fit marks keys → r ≡ answerOf (chosenOf (candidatesFor hy) marks))
+    → r ≡ answerOf (chooseBy (standingOf mix) (candidatesFor hy) (keep p order))
+choice-is hy mix keys p r k t = t (standingOf mix) (marksOf (standingOf mix) (candidatesFor hy) (keep p order)) k
+
+-- among the candidates that there are
+pub offered-choice : (hy : Bool) (mix : List ℕ) (p : ℕ) (r : Choice) → p ≡ presentOf mix → inMask p HYDROGEN ≡ hy
+    → r ≡ answerOf (chooseBy (standingOf mix) (candidatesFor hy) (keep p order)) → r ≡ choiceOf mix
+unfolding chooseOf candidatesOf standingOf presentOf
+offered-choice hy mix p r e h f =
+    f ∙ ap (λ b. answerOf (chooseBy (standingOf mix) (candidatesFor b) (keep p order))) (sym h)
+    ∙ ap (λ q. answerOf (chooseBy (standingOf mix) (candidatesOf q) (keep q order))) e

@@ -7,37 +7,65 @@ use native.Mathlib.Omega.{arith}
 use lib.Dec.{T, eqb, leb, leb→le}
 use lib.ListN.{getD, length}
 use borrow.Author.Tests.{eq-eqb, ne-eqb}
-use Rattle.systems.specs.Systems.{COMPONENTS, candidates}
-use Rattle.systems.specs.Choice.{NUMBERS, weights, order}
+use Rattle.systems.specs.Systems.{COMPONENTS}
+use Rattle.systems.specs.Choice.{NUMBERS, weights, order, candidatesFor}
 use Rattle.systems.specs.Table.{of-true, everyTo, eachTo, agree, agree-at}
+use Rattle.choice.specs.Keys.{KEYS}
 
 -- ---- the candidates
 
 abbrev pub numberAt : ℕ → ℕ → ℕ
 numberAt table i = table / 2 ^ (i * 4) % 16
 
-pub candidate-is : (table : ℕ) → T (agree (numberAt table) (λ i. getD candidates i 0) (length candidates)) → (i : ℕ) → i < length candidates → numberAt table i ≡ getD candidates i 0
-candidate-is table t = agree-at (numberAt table) (λ i. getD candidates i 0) (length candidates) t
+-- with room for one more
+pub offered-few : (hy : Bool) → length (candidatesFor hy) < KEYS
+offered-few true = omega arith
+offered-few false = omega arith
 
-low : ℕ → Bool
-low i = leb (getD candidates i 0 + 1) NUMBERS
+-- a place past them has 0, which stands for none
+pub offered-past : (hy : Bool) → getD (candidatesFor hy) (length (candidatesFor hy)) 0 ≡ 0
+offered-past true = refl
+offered-past false = refl
 
-pub candidate-lt : (i : ℕ) → i ≤ length candidates → getD candidates i 0 < NUMBERS
+pub offered-is : (hy b : Bool) (n : ℕ) → n ≡ length (candidatesFor b) → hy ≡ b → (n ≡ length (candidatesFor hy)) × (n < KEYS)
+offered-is hy b n e f = rw f (e, omega (arith, e, offered-few b))
+
+pub candidate-is : (table : ℕ) (hy b : Bool) → T (agree (numberAt table) (λ i. getD (candidatesFor b) i 0) (length (candidatesFor b))) → hy ≡ b
+    → (i : ℕ) → i < length (candidatesFor hy) → numberAt table i ≡ getD (candidatesFor hy) i 0
+candidate-is table hy b t e i h =
+    rw e (agree-at (numberAt table) (λ i. getD (candidatesFor b) i 0) (length (candidatesFor b)) t i (rw e at h))
+
+low : Bool → ℕ → Bool
+low hy i = leb (getD (candidatesFor hy) i 0 + 1) NUMBERS
+
+low-all : (hy : Bool) → T (everyTo (low hy) KEYS)
 unfolding low
-candidate-lt i h = let l = leb→le (getD candidates i 0 + 1) NUMBERS (eachTo low 5 tt i (omega arith)) in omega arith
+low-all true = tt
+low-all false = tt
+
+pub candidate-lt : (hy : Bool) (i : ℕ) → i ≤ length (candidatesFor hy) → getD (candidatesFor hy) i 0 < NUMBERS
+unfolding low
+candidate-lt hy i h =
+    let l = leb→le (getD (candidatesFor hy) i 0 + 1) NUMBERS (eachTo (low hy) KEYS (low-all hy) i (omega (arith, offered-few hy))) in
+    omega arith
 
 -- the candidates differ, and from 0, which stands for none
-apartAt : ℕ → ℕ → Bool
-apartAt i j = eqb i j || not (eqb (getD candidates i 0) (getD candidates j 0))
+apartAt : Bool → ℕ → ℕ → Bool
+apartAt hy i j = eqb i j || not (eqb (getD (candidatesFor hy) i 0) (getD (candidatesFor hy) j 0))
 
-apart : ℕ → Bool
-apart i = everyTo (apartAt i) 5
+apart : Bool → ℕ → Bool
+apart hy i = everyTo (apartAt hy i) (length (candidatesFor hy) + 1)
 
-pub candidates-apart : (i j : ℕ) → i ≤ length candidates → j ≤ length candidates → (i ≡ j → ⊥) → getD candidates i 0 ≡ getD candidates j 0 → ⊥
+apart-all : (hy : Bool) → T (everyTo (apart hy) (length (candidatesFor hy) + 1))
 unfolding apart apartAt
-candidates-apart i j h l n e =
-    go (eqb i j) (eqb (getD candidates i 0) (getD candidates j 0)) (ne-eqb i j n) (eq-eqb (getD candidates i 0) (getD candidates j 0) e)
-    (eachTo (apartAt i) 5 (eachTo apart 5 tt i (omega arith)) j (omega arith))
+apart-all true = tt
+apart-all false = tt
+
+pub candidates-apart : (hy : Bool) (i j : ℕ) → i ≤ length (candidatesFor hy) → j ≤ length (candidatesFor hy) → (i ≡ j → ⊥) → getD (candidatesFor hy) i 0 ≡ getD (candidatesFor hy) j 0 → ⊥
+unfolding apart apartAt
+candidates-apart hy i j h l n e =
+    go (eqb i j) (eqb (getD (candidatesFor hy) i 0) (getD (candidatesFor hy) j 0)) (ne-eqb i j n) (eq-eqb (getD (candidatesFor hy) i 0) (getD (candidatesFor hy) j 0) e)
+    (eachTo (apartAt hy i) (length (candidatesFor hy) + 1) (eachTo (apart hy) (length (candidatesFor hy) + 1) (apart-all hy) i (omega arith)) j (omega arith))
   where
     go : (a b : Bool) → a ≡ false → b ≡ true → T (a || not b) → ⊥
     go true b p q t = of-true false (sym p)

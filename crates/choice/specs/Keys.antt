@@ -1,12 +1,12 @@
--- The keys of the candidates (document 01, "Choice of systems"; document 02, Five), which tell the system to take and
--- the chosen ones without marks. Assumes nothing.
+-- The keys of the candidates (document 01, "Choice of systems"; document 02, Five and Seven), which tell the system to
+-- take and the chosen ones without marks. Assumes nothing.
 use Prim.Native.Nat.{ℕ, zero, suc, _+_, _<_}
 use mathlib.Core.Path.{_≡_}
 use mathlib.Core.List.{List}
 use mathlib.Core.Bool.{Bool, cond}
 use lib.ListN.{getD, length}
-use Rattle.systems.specs.Systems.{hasOf, candidates}
-use Rattle.systems.specs.Choice.{NUMBERS, weightedOf, isChosen}
+use Rattle.systems.specs.Systems.{hasOf}
+use Rattle.systems.specs.Choice.{NUMBERS, weightedOf, candidatesFor, isChosen}
 
 -- the weighted parts of the components below c that a system contains
 unfoldable pub weighedTo : List ℕ → ℕ → ℕ → ℕ
@@ -19,10 +19,11 @@ keyOf standing marks system = cond (isChosen marks system) 0 (standing system + 
 
 -- room for a key of each candidate, and for that of none
 abbrev pub KEYS : ℕ
-KEYS = 5
+KEYS = 8
 
--- a list has the key of each candidate in its place
-pub record Keyed (standing : ℕ → ℕ) (marks : List Bool) (keys : List ℕ) : Type 0 where
+-- a list has the key of each candidate in its place, where hydrogen is present or not
+pub record Keyed (hydrogen : Bool) (standing : ℕ → ℕ) (marks : List Bool) (keys : List ℕ) : Type 0 where
   pub marked : length marks ≡ NUMBERS
   pub long : length keys ≡ KEYS
-  pub at : (i : ℕ) → i < length candidates → getD keys i 0 ≡ keyOf standing marks (getD candidates i 0)
+  pub at : (i : ℕ) → i < length (candidatesFor hydrogen)
+      → getD keys i 0 ≡ keyOf standing marks (getD (candidatesFor hydrogen) i 0)

@@ -1,38 +1,59 @@
 // The choice of systems. No public function has a `requires`.
 ghost use mathlib.Core.Path.{_≡_};
-ghost use mathlib.Core.Bool.{Bool, false, cond};
+ghost use mathlib.Core.Bool.{Bool, true, false, cond};
 ghost use lib.Dec.{ltb};
 ghost use Prim.Native.Nat.{ℕ, _+_, _*_, _<_, _≤_};
 ghost use mathlib.Core.List.{List};
 ghost use lib.ListN.{getD, length, replicate};
-ghost use Rattle.systems.specs.Systems.{COMPONENTS, hasOf, candidates};
+ghost use Rattle.systems.specs.Systems.{COMPONENTS, hasOf};
 ghost use Rattle.systems.specs.Choice.{NUMBERS, weights, order, allTo, presentOf, presentCount, presentIn};
-ghost use Rattle.systems.specs.Choice.{standingOf, keep, takeOf, marksOf, answerOf, chosenOf, choiceOf};
-ghost use Rattle.choice.specs.Keys.{Keyed, weighedTo};
+ghost use Rattle.systems.specs.Choice.{standingOf, candidatesFor, keep, takeOf, marksOf, answerOf, chosenOf, chooseBy};
+ghost use Rattle.systems.specs.Choice.{choiceOf};
+ghost use Rattle.choice.specs.Keys.{KEYS, Keyed, weighedTo};
 use systems::COMPONENTS;
 use systems::Choice;
+use systems::HYDROGEN;
 use systems::SYSTEMS;
 
 // The weights of the components in the fitness, times 480: two hexadecimal digits each, from the right.
-const WEIGHTS: u64 = 0x64504B30;
+const WEIGHTS: u64 = 0x6064504B30;
 
-// The order in which components take systems: propane, ethane, butane, methane, an octal digit each, from the right.
-const ORDER: u64 = 0o0312;
+// The order in which components take systems: hydrogen, propane, ethane, butane, methane, an octal digit each, from the
+// right.
+const ORDER: u64 = 0o03124;
 
 // The systems that can be chosen, a hexadecimal digit each, from the right, and how many there are.
-const SYSTEM_NUMBERS: u64 = 0x8742;
+const SYSTEM_NUMBERS: u64 = 0x8765421;
 
-const CANDIDATES: usize = 4;
+const CANDIDATES: usize = 7;
+
+// The same where hydrogen is absent.
+const HYDROCARBON_NUMBERS: u64 = 0x8742;
+
+const HYDROCARBON_CANDIDATES: usize = 4;
 
 // Room for a key of each candidate, and for that of none.
-const KEYS: usize = 5;
+const KEYS: usize = 8;
+
+// How many candidates there are, where hydrogen is present or not.
+fn candidates(hydrogen: bool) -> usize
+    ensures { λ r. ⌜ (r ≡ length (candidatesFor hydrogen)) × (r < KEYS) ⌝ }
+{
+    if hydrogen {
+        return CANDIDATES;
+    }
+    HYDROCARBON_CANDIDATES
+}
 
 // The number of the candidate in place i.
-fn number(i: usize) -> u8
-    requires { ⌜ i < length candidates ⌝ }
-    ensures { λ r. ⌜ r ≡ getD candidates i 0 ⌝ }
+fn number(hydrogen: bool, i: usize) -> u8
+    requires { ⌜ i < length (candidatesFor hydrogen) ⌝ }
+    ensures { λ r. ⌜ r ≡ getD (candidatesFor hydrogen) i 0 ⌝ }
 {
-    ((SYSTEM_NUMBERS >> (i * 4)) % 16) as u8
+    if hydrogen {
+        return ((SYSTEM_NUMBERS >> (i * 4)) % 16) as u8;
+    }
+    ((HYDROCARBON_NUMBERS >> (i * 4)) % 16) as u8
 }
 
 // The component in place i of the order.
@@ -44,11 +65,11 @@ fn ordered(i: usize) -> usize
 }
 
 // Whether the candidate in place i contains component c.
-fn contains(i: usize, c: usize) -> bool
-    requires { ⌜ (i < length candidates) × (c < COMPONENTS) ⌝ }
-    ensures { λ r. ⌜ r ≡ hasOf (getD candidates i 0) c ⌝ }
+fn contains(hydrogen: bool, i: usize, c: usize) -> bool
+    requires { ⌜ (i < length (candidatesFor hydrogen)) × (c < COMPONENTS) ⌝ }
+    ensures { λ r. ⌜ r ≡ hasOf (getD (candidatesFor hydrogen) i 0) c ⌝ }
 {
-    systems::has(number(i), c)
+    systems::has(number(hydrogen, i), c)
 }
 
 // The weight of component c times its parts x.
@@ -60,25 +81,27 @@ fn weigh(c: usize, x: u32) -> u64
 }
 
 // The same where the candidate in place i contains it.
-fn weighted(i: usize, c: usize, x: u32) -> u64
-    requires { ⌜ (i < length candidates) × (c < COMPONENTS) ⌝ }
-    ensures { λ r. ⌜ (r ≡ cond (hasOf (getD candidates i 0) c) (getD weights c 0 * x) 0) × (r ≤ 429496729500) ⌝ }
+fn weighted(hydrogen: bool, i: usize, c: usize, x: u32) -> u64
+    requires { ⌜ (i < length (candidatesFor hydrogen)) × (c < COMPONENTS) ⌝ }
+    ensures { λ r. ⌜ (r ≡ cond (hasOf (getD (candidatesFor hydrogen) i 0) c) (getD weights c 0 * x) 0)
+        × (r ≤ 429496729500) ⌝ }
 {
-    if contains(i, c) {
+    if contains(hydrogen, i, c) {
         return weigh(c, x);
     }
     0
 }
 
 // The fitness of the candidate in place i times 480, and 1.
-fn fitness(m: [u32; COMPONENTS], i: usize) -> u64
-    requires { ⌜ i < length candidates ⌝ }
-    ensures { λ r. ⌜ (r ≡ weighedTo m (getD candidates i 0) COMPONENTS + 1) × (r ≤ 429496729500 * COMPONENTS + 1) ⌝ }
+fn fitness(m: [u32; COMPONENTS], hydrogen: bool, i: usize) -> u64
+    requires { ⌜ i < length (candidatesFor hydrogen) ⌝ }
+    ensures { λ r. ⌜ (r ≡ weighedTo m (getD (candidatesFor hydrogen) i 0) COMPONENTS + 1)
+        × (r ≤ 429496729500 * COMPONENTS + 1) ⌝ }
 {
     let mut k: u64 = 1;
     let mut c: usize = 0;
     while c < COMPONENTS {
-        k += weighted(i, c, m[c]);
+        k += weighted(hydrogen, i, c, m[c]);
         c += 1;
     }
     k
@@ -128,32 +151,33 @@ pub fn present_count(m: [u32; COMPONENTS]) -> u32
 }
 
 // How many components of the candidate in place i are present.
-fn count(p: u32, i: usize) -> u32
-    requires { ⌜ i < length candidates ⌝ }
-    ensures { λ r. ⌜ (r ≡ presentIn p (getD candidates i 0)) × (r ≤ COMPONENTS) ⌝ }
+fn count(p: u32, hydrogen: bool, i: usize) -> u32
+    requires { ⌜ i < length (candidatesFor hydrogen) ⌝ }
+    ensures { λ r. ⌜ (r ≡ presentIn p (getD (candidatesFor hydrogen) i 0)) × (r ≤ COMPONENTS) ⌝ }
 {
-    u32::count_ones(systems::mask(number(i)) & p)
+    u32::count_ones(systems::mask(number(hydrogen, i)) & p)
 }
 
 // The key of the candidate in place i before it is chosen: the number present goes before the fitness.
-fn key(m: [u32; COMPONENTS], p: u32, top: u64, i: usize) -> u64
-    requires { ⌜ (i < length candidates) × (p ≡ presentOf m) ⌝ }
+fn key(m: [u32; COMPONENTS], p: u32, top: u64, hydrogen: bool, i: usize) -> u64
+    requires { ⌜ (i < length (candidatesFor hydrogen)) × (p ≡ presentOf m) ⌝ }
     requires { ⌜ (top ≡ allTo m COMPONENTS + 1) × (top ≤ 429496729500 * COMPONENTS + 1) ⌝ }
-    ensures { λ r. ⌜ r ≡ standingOf m (getD candidates i 0) + 1 ⌝ }
+    ensures { λ r. ⌜ r ≡ standingOf m (getD (candidatesFor hydrogen) i 0) + 1 ⌝ }
 {
-    count(p, i) as u64 * top + fitness(m, i)
+    count(p, hydrogen, i) as u64 * top + fitness(m, hydrogen, i)
 }
 
 // The keys of the candidates before one is chosen.
-fn keys_of(m: [u32; COMPONENTS], p: u32) -> [u64; KEYS]
+fn keys_of(m: [u32; COMPONENTS], p: u32, hydrogen: bool) -> [u64; KEYS]
     requires { ⌜ p ≡ presentOf m ⌝ }
-    ensures { λ r. ⌜ Keyed (standingOf m) (replicate NUMBERS false) r ⌝ }
+    ensures { λ r. ⌜ Keyed hydrogen (standingOf m) (replicate NUMBERS false) r ⌝ }
 {
     let top = above(m);
+    let n = candidates(hydrogen);
     let mut keys = [0u64; KEYS];
     let mut i: usize = 0;
-    while i < CANDIDATES {
-        keys[i] = key(m, p, top, i);
+    while i < n {
+        keys[i] = key(m, p, top, hydrogen, i);
         i += 1;
     }
     keys
@@ -161,17 +185,18 @@ fn keys_of(m: [u32; COMPONENTS], p: u32) -> [u64; KEYS]
 
 // Component c takes the candidate with the greatest key, equal keys to the lower number, of those that contain it and
 // are not chosen, where fewer than the wanted number of chosen systems contain c.
-fn take(keys: &mut [u64; KEYS], wanted: usize, c: usize)
+fn take(keys: &mut [u64; KEYS], hydrogen: bool, wanted: usize, c: usize)
     requires { ⌜ c < COMPONENTS ⌝ }
-    ensures { λ _. ⌜ ((standing : ℕ → ℕ) → (marks : List Bool) → Keyed standing marks (now (keys .entry))
-        → Keyed standing (takeOf standing candidates wanted marks c) (now (keys .exit))) ⌝ }
+    ensures { λ _. ⌜ ((standing : ℕ → ℕ) → (marks : List Bool) → Keyed hydrogen standing marks (now (keys .entry))
+        → Keyed hydrogen standing (takeOf standing (candidatesFor hydrogen) wanted marks c) (now (keys .exit))) ⌝ }
 {
+    let n = candidates(hydrogen);
     let mut count: usize = 0;
     let mut best: u64 = 0;
-    let mut at = CANDIDATES;
+    let mut at = n;
     let mut i: usize = 0;
-    while i < CANDIDATES {
-        if contains(i, c) {
+    while i < n {
+        if contains(hydrogen, i, c) {
             let key = keys[i];
             if key == 0 {
                 count += 1;
@@ -188,31 +213,32 @@ fn take(keys: &mut [u64; KEYS], wanted: usize, c: usize)
 }
 
 // The components present do so, one after the other, for one system each and then for two.
-fn turns(keys: &mut [u64; KEYS], p: u32)
-    ensures { λ _. ⌜ ((standing : ℕ → ℕ) → Keyed standing (replicate NUMBERS false) (now (keys .entry))
-        → Keyed standing (marksOf standing candidates (keep p order)) (now (keys .exit))) ⌝ }
+fn turns(keys: &mut [u64; KEYS], p: u32, hydrogen: bool)
+    ensures { λ _. ⌜ ((standing : ℕ → ℕ) → Keyed hydrogen standing (replicate NUMBERS false) (now (keys .entry))
+        → Keyed hydrogen standing (marksOf standing (candidatesFor hydrogen) (keep p order)) (now (keys .exit))) ⌝ }
 {
     let mut i: usize = 0;
     while i < 2 * COMPONENTS {
         let c = ordered(i % COMPONENTS);
         if (p >> c) % 2 == 1 {
-            take(keys, 1 + i / COMPONENTS, c);
+            take(keys, hydrogen, 1 + i / COMPONENTS, c);
         }
         i += 1;
     }
 }
 
 // The chosen systems, in the order of the candidates.
-fn listed(keys: [u64; KEYS]) -> Choice
-    ensures { λ r. ⌜ ((standing : ℕ → ℕ) → (marks : List Bool) → Keyed standing marks keys
-        → r ≡ answerOf (chosenOf candidates marks)) ⌝ }
+fn listed(keys: [u64; KEYS], hydrogen: bool) -> Choice
+    ensures { λ r. ⌜ ((standing : ℕ → ℕ) → (marks : List Bool) → Keyed hydrogen standing marks keys
+        → r ≡ answerOf (chosenOf (candidatesFor hydrogen) marks)) ⌝ }
 {
+    let n = candidates(hydrogen);
     let mut count: usize = 0;
     let mut systems = [0u8; SYSTEMS];
     let mut i: usize = 0;
-    while i < CANDIDATES {
+    while i < n {
         if keys[i] == 0 {
-            systems[count] = number(i);
+            systems[count] = number(hydrogen, i);
             count += 1;
         }
         i += 1;
@@ -220,12 +246,33 @@ fn listed(keys: [u64; KEYS]) -> Choice
     Choice { count, systems }
 }
 
+// The choice among all candidates.
+fn among_all(m: [u32; COMPONENTS], p: u32) -> Choice
+    requires { ⌜ p ≡ presentOf m ⌝ }
+    ensures { λ r. ⌜ r ≡ answerOf (chooseBy (standingOf m) (candidatesFor true) (keep p order)) ⌝ }
+{
+    let mut keys = keys_of(m, p, true);
+    turns(&mut keys, p, true);
+    listed(keys, true)
+}
+
+// The same among those of hydrocarbons. Of its own, so that each has its number of candidates as a constant.
+fn among_hydrocarbons(m: [u32; COMPONENTS], p: u32) -> Choice
+    requires { ⌜ p ≡ presentOf m ⌝ }
+    ensures { λ r. ⌜ r ≡ answerOf (chooseBy (standingOf m) (candidatesFor false) (keep p order)) ⌝ }
+{
+    let mut keys = keys_of(m, p, false);
+    turns(&mut keys, p, false);
+    listed(keys, false)
+}
+
 // The systems chosen for a mixture of so many parts of each component.
 pub fn choose(m: [u32; COMPONENTS]) -> Choice
     ensures { λ r. ⌜ r ≡ choiceOf m ⌝ }
 {
     let p = present(m);
-    let mut keys = keys_of(m, p);
-    turns(&mut keys, p);
-    listed(keys)
+    if (p >> HYDROGEN) % 2 == 1 {
+        return among_all(m, p);
+    }
+    among_hydrocarbons(m, p)
 }

@@ -1,4 +1,4 @@
--- Absent components (document 02, Five): no record of one has parts in a split that is rated, and an analysis is
+-- Absent components (document 02, Five and Seven): no record of one has parts in a split that is rated, and an analysis is
 -- refused 16 exactly where methane alone is there. Assumes nothing.
 use mathlib.Core.Path.{_≡_, refl, sym, ap, _∙_, subst}
 use mathlib.Core.Bool.{Bool, true, false}
@@ -114,25 +114,25 @@ absent-unsummed a on p code x i j h l e some =
 
 -- ---- refusal 16
 
--- ethane, propane and all that makes butane are absent
+-- ethane, propane, all that makes butane, and hydrogen are absent
 abbrev pub MethaneAlone : List ℕ → Type 0
-MethaneAlone a = (amountOf a 2 ≡ 0) × ((amountOf a 3 ≡ 0) × (butaneOf a ≡ 0))
+MethaneAlone a = (amountOf a 2 ≡ 0) × ((amountOf a 3 ≡ 0) × ((butaneOf a ≡ 0) × (amountOf a 15 ≡ 0)))
 
 module _ (a : List ℕ) (long : length a ≡ CODES) (passed : InRange a) where
   alone-few : MethaneAlone a → ratingRefusal a ≡ TOO_FEW
   unfolding tenthsOf countTo
-  alone-few (e, (f, g)) =
+  alone-few (e, (f, (g, h))) =
       too-few a passed
       (few (presentAt (mixOf a) 0) refl (absent 1 (omega arith) (omega arith)) (absent 2 (omega arith) (omega arith))
-      (absent 3 (omega arith) g))
+      (absent 3 (omega arith) g) (absent 4 (omega arith) (omega arith)))
     where
       absent : (i : ℕ) → i < COMPONENTS → getD (tenthsOf a) i 0 ≡ 0 → presentAt (mixOf a) i ≡ false
       absent i l z = le-ltb 0 (getD (mixOf a) i 0) (omega (arith, simplified-absent a long passed i l z))
 
       few : (t : Bool) → presentAt (mixOf a) 0 ≡ t → presentAt (mixOf a) 1 ≡ false → presentAt (mixOf a) 2 ≡ false
-          → presentAt (mixOf a) 3 ≡ false → presentCount (mixOf a) < 2
-      few true p q r s = rw (present-count (mixOf a)) (rw (p, q, r, s) (omega arith))
-      few false p q r s = rw (present-count (mixOf a)) (rw (p, q, r, s) (omega arith))
+          → presentAt (mixOf a) 3 ≡ false → presentAt (mixOf a) 4 ≡ false → presentCount (mixOf a) < 2
+      few true p q r s t = rw (present-count (mixOf a)) (rw (p, q, r, s, t) (omega arith))
+      few false p q r s t = rw (present-count (mixOf a)) (rw (p, q, r, s, t) (omega arith))
 
   -- two are present where another than methane is
   other-on : (i : ℕ) → 0 < i → i < COMPONENTS → 0 < getD (tenthsOf a) i 0 → ratingRefusal a ≡ TOO_FEW → ⊥
@@ -153,7 +153,10 @@ module _ (a : List ℕ) (long : length a ≡ CODES) (passed : InRange a) where
   unfolding tenthsOf
   few-alone e = (
     omega (arith, none-other 1 (omega arith) (omega arith) e),
-    (omega (arith, none-other 2 (omega arith) (omega arith) e), none-other 3 (omega arith) (omega arith) e),
+    (
+      omega (arith, none-other 2 (omega arith) (omega arith) e),
+      (none-other 3 (omega arith) (omega arith) e, omega (arith, none-other 4 (omega arith) (omega arith) e)),
+    ),
   )
 
   -- an analysis in range is refused 16 exactly where methane alone is there
@@ -177,7 +180,7 @@ two-systems = ap chooseOf methane-ethane
 abbrev sixAmounts : List ℕ
 sixAmounts = 331058 ∷ 5102 ∷ 0 ∷ 658738 ∷ 5102 ∷ 0 ∷ []
 
-six-rated : proposedOf LIMIT (paddedOf (4 ∷ 8 ∷ [])) 2 (989796 ∷ 10204 ∷ 0 ∷ 0 ∷ [])
+six-rated : proposedOf LIMIT (paddedOf (4 ∷ 8 ∷ [])) 2 (989796 ∷ 10204 ∷ 0 ∷ 0 ∷ 0 ∷ [])
     (cellsOf (paddedOf (4 ∷ 8 ∷ [])) 2 sixAmounts) 980000 ≡ Rated (pos 974058216) 129517 0
 unfolding worked rowsOf horner coefs sumAbs placeIn keepsRule isSystem tableOf partialNumber memberOf hasOf paddedOf
     sumTo sumToZ greatestTo leastTo allTo someTo table partsOf columnOf numberAt heldOf rankOf cellsOf spreadOf
@@ -190,7 +193,7 @@ two-rated =
     split-fits methaneEthane (proposal methaneEthane sixAmounts) 0 two-on refl refl refl
     ∙ ap (λ (m : List ℕ). proposedOf LIMIT (paddedOf (chooseOf m)) (length (chooseOf m)) m
     (cellsOf (paddedOf (chooseOf m)) (length (chooseOf m)) sixAmounts) 980000) methane-ethane
-    ∙ ap (λ (l : List ℕ). proposedOf LIMIT (paddedOf l) (length l) (989796 ∷ 10204 ∷ 0 ∷ 0 ∷ [])
+    ∙ ap (λ (l : List ℕ). proposedOf LIMIT (paddedOf l) (length l) (989796 ∷ 10204 ∷ 0 ∷ 0 ∷ 0 ∷ [])
     (cellsOf (paddedOf l) (length l) sixAmounts) 980000) (ap chooseOf (sym methane-ethane) ∙ two-systems)
     ∙ six-rated
 

@@ -1,7 +1,7 @@
 -- THE THIRD DEMAND, in the customer's words and order. Assumes nothing.
 --
--- For any analysis with amounts and total in range that refusal 16 lets pass, with two systems as with three: whatever
--- amounts are proposed as a split of its chosen systems, they are rated exactly when they re-sum to the simplified
+-- For any analysis with amounts and total in range that refusal 16 lets pass, a blend too, with two to five systems:
+-- whatever amounts are proposed as a split of its chosen systems, they are rated exactly when they re-sum to the simplified
 -- mixture, no chosen system is empty and every two partial numbers, as worked out, lie at most 0.05 apart (1). A split
 -- that the search found, whatever its allowance, put back as a proposal for the same analysis, gets the same rating and
 -- spread (2). Every rating is less than 0.000004 (40 units) from the exact fraction of the formulas at those amounts
@@ -37,7 +37,7 @@ use Rattle.systems.specs.Systems.{COMPONENTS, memberOf, hasOf}
 use Rattle.systems.specs.Members.{countTo}
 use Rattle.systems.specs.Choice.{presentAt, presentCount}
 use Rattle.systems.specs.Presence.{present-is, present-in-is}
-use Rattle.systems.specs.Chosen.{two-chosen, three-chosen}
+use Rattle.systems.specs.Chosen.{two-chosen, three-chosen, five-chosen}
 use Rattle.split.specs.Fold.{sumTo}
 use Rattle.split.specs.Split.{cellOf, systemOf, componentAt, cellsOf, partsOf, columnOf, numberAt}
 use Rattle.split.specs.Rating.{spreadOf, ratingOf}
@@ -54,7 +54,7 @@ use Rattle.rating.specs.Records.{systemAt, codeAt, systemsOf, codesOf, fitsOf}
 use Rattle.rating.specs.Rate.{LIMIT, mixOf, systemsFor, countFor}
 use Rattle.rating.specs.Rate.{outcome, splitAnswer, searchOutcome, sheetOutcome}
 use Rattle.rating.specs.RatedOn.{InRange, RatedOn, on-exactly-when, too-few}
-use Rattle.rating.specs.Ready.{choosable, chosen, room, million, inert-million}
+use Rattle.rating.specs.Ready.{choosable, chosen, room, filled, million, inert-million}
 use Rattle.rating.specs.Ends.{read-passed, split-ends, split-few-exactly-when, search-few-exactly-when}
 use Rattle.rating.specs.declared.Outcome.{Outcome}
 use Rattle.demand.specs.Answers.{expected-fit, fits-expected, expected-fits, split-by-records, split-fits}
@@ -75,25 +75,34 @@ pub few-exactly-when : (a : List ℕ) → InRange a → (p : Split) (allowance c
 few-exactly-when a h p allowance code =
     (split-few-exactly-when a code h p, search-few-exactly-when a code h allowance)
 
--- rated on, two components present have two chosen systems, three or four have three
-pub two-or-three : (a : List ℕ) → RatedOn a
-    → (presentCount (simplifiedOf a) ≡ 2 → countFor a ≡ 2) × (3 ≤ presentCount (simplifiedOf a) → countFor a ≡ 3)
-two-or-three a on =
-    let n = choosable a on .number in
-    (λ e. n ∙ two-chosen (presentCount (simplifiedOf a)) e, λ l. n ∙ three-chosen (presentCount (simplifiedOf a)) l)
+-- rated on, two components present have two chosen systems, three or four have three, and five have four or five
+pub two-to-five : (a : List ℕ) → length a ≡ CODES → RatedOn a
+    → let n = presentCount (simplifiedOf a) in
+    (n ≡ 2 → countFor a ≡ 2) × (3 ≤ n → n ≤ 4 → countFor a ≡ 3) × (n ≡ 5 → (4 ≤ countFor a) × (countFor a ≤ 5))
+two-to-five a long on =
+    let n = presentCount (simplifiedOf a) in
+    let h = filled a long on .number in (
+      λ e. two-chosen n (countFor a) e h,
+      λ l m. three-chosen n (countFor a) l m h,
+      λ e. five-chosen n (countFor a) e h,
+    )
+
+-- there are never more
+pub five-at-most : (a : List ℕ) → RatedOn a → countFor a ≤ 5
+five-at-most a on = choosable a on .few
 
 -- each component that is present is in two of them, and each of them contains two that are present
 pub present-twice : (a : List ℕ) → RatedOn a → (c : ℕ) → c < COMPONENTS → 0 < getD (simplifiedOf a) c 0
     → 2 ≤ countTo (λ i. hasOf (systemOf (systemsFor a) i) c) (countFor a)
 present-twice a on c l h = choosable a on .twice c l (present-is (simplifiedOf a) c l ∙ lt-ltb 0 _ h)
 
-pub two-present-in : (a : List ℕ) → RatedOn a → (s : ℕ) → s < countFor a
+pub two-present-in : (a : List ℕ) → length a ≡ CODES → RatedOn a → (s : ℕ) → s < countFor a
     → 2 ≤ countTo (λ c. hasOf (systemOf (systemsFor a) s) c && presentAt (simplifiedOf a) c) COMPONENTS
-two-present-in a on s l =
-    rw (present-in-is (simplifiedOf a) (systemOf (systemsFor a) s)) at (choosable a on .filled s l)
+two-present-in a long on s l =
+    rw (present-in-is (simplifiedOf a) (systemOf (systemsFor a) s)) at (filled a long on .filled s l)
 
--- any amounts xs at all, in the records of the chosen systems: systems rising, in each methane, ethane, propane, butane
--- as contained, so that record r is of the system in place r / 3 and has its component in place r % 3
+-- any amounts xs at all, in the records of the chosen systems: systems rising, in each methane, ethane, propane, butane,
+-- hydrogen as contained, so that record r is of the system in place r / 3 and has its component in place r % 3
 abbrev pub proposal : List ℕ → List ℕ → Split
 proposal a xs = record {
   count = 3 * countFor a;
@@ -124,7 +133,7 @@ proposal-expected a on xs =
     record { many = x .0; systems = x .1; codes = x .2 }
 
 -- the amounts by chosen system and component: what the system in place s is given of component c, which are 0 methane,
--- 1 ethane, 2 propane, 3 butane; 0 of one that it lacks
+-- 1 ethane, 2 propane, 3 butane, 4 hydrogen; 0 of one that it lacks
 abbrev pub cellsIn : List ℕ → List ℕ → List ℕ
 cellsIn a xs = cellsOf (systemsFor a) (countFor a) xs
 

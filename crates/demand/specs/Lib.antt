@@ -3,7 +3,6 @@ pub mod Sheets
 pub mod RatedSheets
 pub mod Demand
 pub mod Absent
-pub mod Kept
 pub mod Lasting
 pub mod Small
 pub mod Recorded

@@ -23,7 +23,7 @@ pub record MarkedFigures : Type 0 where
   pub wholes : MarkedWholes
   -- the gas of 001 Table A.1: total, simplified, fitness times 480 of 2, 4, 7, 8, chosen systems
   pub total-parts : totalOf tableA1 ≡ 999999
-  pub simplified : simplifiedOf tableA1 ≡ 979229 ∷ 16803 ∷ 2438 ∷ 1530 ∷ []
+  pub simplified : simplifiedOf tableA1 ≡ 979229 ∷ 16803 ∷ 2438 ∷ 1530 ∷ 0 ∷ []
   pub fitness-2 : fitnessOf (simplifiedOf tableA1) 2 ≡ 1608265
   pub fitness-4 : fitnessOf (simplifiedOf tableA1) 4 ≡ 48458257
   pub fitness-7 : fitnessOf (simplifiedOf tableA1) 7 ≡ 47351032
@@ -36,7 +36,7 @@ pub record MarkedFigures : Type 0 where
   pub inert : inertOf tableA1 ≡ 999468 ∷ 532 ∷ 0 ∷ []
 
 mix : List ℕ
-mix = 979229 ∷ 16803 ∷ 2438 ∷ 1530 ∷ []
+mix = 979229 ∷ 16803 ∷ 2438 ∷ 1530 ∷ 0 ∷ []
 
 fit : (s : ℕ) → fitnessOf (simplifiedOf tableA1) s ≡ fitnessOf mix s
 unfolding mix

@@ -7,7 +7,7 @@ use native.Mathlib.Nat.{not-suc-le-zero, div-le-of-le-mul, div-add-mod', mul-le-
 use native.Mathlib.Numerals.{add-one}
 use native.Mathlib.Omega.{arith}
 use lib.Dec.{eqb, ltb}
-use lib.ListN.{getD, set, take, length, length-set, length-map}
+use lib.ListN.{getD, set, take, length, replicate, length-set, length-map}
 use lib.Seq.{take-all, ext-getD, getD-set-same, getD-set-other}
 use borrow.Author.Tests.{eqb-true, eqb-false, ne-eqb, lt-ltb, le-ltb}
 use Rattle.analysis.specs.Register.{ifElse}
@@ -21,23 +21,30 @@ use Rattle.mixture.specs.Limits.{LIMIT, Limited}
 
 -- ---- amounts up to the limit
 
-limited-four : (w x y z : ℕ) → w ≤ LIMIT → x ≤ LIMIT → y ≤ LIMIT → z ≤ LIMIT → Limited (w ∷ x ∷ y ∷ z ∷ [])
-limited-four w x y z hw hx hy hz = record { long = refl; small = at }
-  where
-    at : (i : ℕ) → getD (w ∷ x ∷ y ∷ z ∷ []) i 0 ≤ LIMIT
-    at zero = hw
-    at (suc zero) = hx
-    at (suc (suc zero)) = hy
-    at (suc (suc (suc zero))) = hz
-    at (suc (suc (suc (suc i)))) = omega arith
+limited-next : (x : ℕ) (xs : List ℕ) → x ≤ LIMIT → ((i : ℕ) → getD xs i 0 ≤ LIMIT) → (i : ℕ) → getD (x ∷ xs) i 0 ≤ LIMIT
+limited-next x xs h rest zero = h
+limited-next x xs h rest (suc i) = rest i
 
--- the four components, one by one
-pub tenths-four : (a : List ℕ) (w x y z : ℕ) → (w ≡ 10 * getD a 1 0) × (w ≤ 42949672950) → (x ≡ 10 * getD a 2 0) × (x ≤ 42949672950)
-    → (y ≡ 10 * getD a 3 0) × (y ≤ 42949672950) → (z ≡ butaneOf a) × (z ≤ LIMIT)
-    → ((w ∷ x ∷ y ∷ z ∷ []) ≡ tenthsOf a) × Limited (w ∷ x ∷ y ∷ z ∷ [])
+-- an amount by the factor 10, as the code has it
+abbrev Tenfold : List ℕ → ℕ → ℕ → Type 0
+Tenfold a code x = (x ≡ 10 * getD a code 0) × (x ≤ 42949672950)
+
+-- the components, one by one
+pub tenths-each : (a : List ℕ) (w x y z u : ℕ) → Tenfold a 1 w → Tenfold a 2 x → Tenfold a 3 y → (z ≡ butaneOf a) × (z ≤ LIMIT)
+    → Tenfold a 15 u → ((w ∷ x ∷ y ∷ z ∷ u ∷ []) ≡ tenthsOf a) × Limited (w ∷ x ∷ y ∷ z ∷ u ∷ [])
 unfolding tenthsOf
-tenths-four a w x y z hw hx hy hz =
-    (rw (hw .0, hx .0, hy .0, hz .0), limited-four w x y z (omega (arith, hw .1)) (omega (arith, hx .1)) (omega (arith, hy .1)) (hz .1))
+tenths-each a w x y z u hw hx hy hz hu = (
+  rw (hw .0, hx .0, hy .0, hz .0, hu .0),
+  record {
+    long = refl;
+    small =
+        limited-next w (x ∷ y ∷ z ∷ u ∷ []) (omega (arith, hw .1))
+        (limited-next x (y ∷ z ∷ u ∷ []) (omega (arith, hx .1))
+        (limited-next y (z ∷ u ∷ []) (omega (arith, hy .1))
+        (limited-next z (u ∷ []) (hz .1)
+        (limited-next u [] (omega (arith, hu .1)) (λ i. omega arith)))));
+  },
+)
 
 -- ---- factors
 
@@ -166,7 +173,7 @@ pub record Shared (t : ℕ) (xs q r : List ℕ) (m i : ℕ) : Type 0 where
   pub remainders : Filled COMPONENTS (λ k. remainderOf t (getD xs k 0)) r i
   pub left : m + totalOf (take i (quotientsOf xs t)) ≡ WHOLE
 
-pub shared-none : (t : ℕ) (xs : List ℕ) → Shared t xs (0 ∷ 0 ∷ 0 ∷ 0 ∷ []) (0 ∷ 0 ∷ 0 ∷ 0 ∷ []) WHOLE 0
+pub shared-none : (t : ℕ) (xs : List ℕ) → Shared t xs (replicate COMPONENTS 0) (replicate COMPONENTS 0) WHOLE 0
 shared-none t xs =
     record {
       quotients = record { size = refl; most = omega arith; there = λ k h. absurd (omega arith) };

@@ -1,7 +1,7 @@
 -- What holds of the simplified mixture and of the inert mixture: of any amounts whose T is not 0, and more of an analysis
 -- in range. Assumes nothing.
 use Prim.Native.Nat.{ℕ, zero, suc, _+_, _*_, _/_, _≤_, _<_}
-use mathlib.Core.Path.{_≡_, sym, _∙_}
+use mathlib.Core.Path.{_≡_}
 use mathlib.Core.List.{List}
 use mathlib.Core.Logic.{inl, inr}
 use native.Mathlib.Nat.{le-div-iff-mul-le, div-lt-iff-lt-mul}
@@ -9,7 +9,7 @@ use native.Mathlib.Omega.{arith}
 use lib.ListN.{getD, length}
 use Rattle.analysis.specs.Register.{CODES, statusOf}
 use Rattle.analysis.specs.Check.{totalOf, greatestOf, refusalOf}
-use Rattle.analysis.specs.Ranges.{NoneOr, WithinRanges, within-ranges, total-sum, total-go, total-end}
+use Rattle.analysis.specs.Ranges.{NoneOr, WithinRanges, within-ranges, total-sum}
 use Rattle.mixture.specs.Scaling.{WHOLE, quotientOf, remaindersOf}
 use Rattle.mixture.specs.Simplification.{COMPONENTS, amountOf, tenthsOf, tenthsTotal, simplifiedOf}
 use Rattle.mixture.specs.Inert.{methaneShare, inertFirst, inertSecond, inertOf}
@@ -37,18 +37,10 @@ pub simplified-length : (a : List ℕ) → length (simplifiedOf a) ≡ COMPONENT
 unfolding tenthsOf
 simplified-length a = scaled-length (tenthsOf a)
 
-total-four : (l : List ℕ) → length l ≡ 4 → totalOf l ≡ getD l 0 0 + getD l 1 0 + getD l 2 0 + getD l 3 0
-total-four l e =
-    omega
-    (arith, total-go 0 l (omega arith), total-go 1 l (omega arith), total-go 2 l (omega arith), total-go 3 l (omega arith), total-end 4 l (omega arith))
-
 module _ (a : List ℕ) (p : 0 < tenthsTotal a) where
   -- the total is exactly 1000000
   pub simplified-total : totalOf (simplifiedOf a) ≡ WHOLE
   simplified-total = scaled-sum (tenthsOf a) p
-
-  pub simplified-four : getD (simplifiedOf a) 0 0 + getD (simplifiedOf a) 1 0 + getD (simplifiedOf a) 2 0 + getD (simplifiedOf a) 3 0 ≡ WHOLE
-  simplified-four = sym (total-four (simplifiedOf a) (simplified-length a)) ∙ simplified-total
 
   -- each amount is less than one part from its exact share
   pub simplified-near : (i : ℕ) → i < COMPONENTS → NearShare (tenthsTotal a) (getD (tenthsOf a) i 0) (getD (simplifiedOf a) i 0)
@@ -123,7 +115,8 @@ module _ (a : List ℕ) (l : length a ≡ CODES) (h : refusalOf a ≡ 0) where
           butane-or-absent (amountOf a 4) (amountOf a 5) (amountOf a 6) (amountOf a 7) (amountOf a 8) (amountOf a 10)
           (w .i-butane-least) (w .n-butane-least) (w .neo-pentane-least) (w .i-pentane-least) (w .n-pentane-least)
           (w .hexanes-least)
-      go (suc (suc (suc (suc i)))) k w = absurd (omega arith)
+      go (suc (suc (suc (suc zero)))) k w = times-ten 10 (amountOf a 15) (omega arith) (w .hydrogen-least)
+      go (suc (suc (suc (suc (suc i))))) k w = absurd (omega arith)
 
   -- one that is absent stays 0
   pub simplified-absent : (i : ℕ) → i < COMPONENTS → getD (tenthsOf a) i 0 ≡ 0 → getD (simplifiedOf a) i 0 ≡ 0

@@ -15,14 +15,14 @@ tableA1 = 0 ∷ 970797 ∷ 16658 ∷ 2417 ∷ 346 ∷ 245 ∷ 11 ∷ 73 ∷ 125 
 pub total : totalOf tableA1 ≡ 999999
 total = refl
 
-pub marked : (simplifiedOf tableA1 ≡ 979229 ∷ 16803 ∷ 2438 ∷ 1530 ∷ []) × (inertOf tableA1 ≡ 999468 ∷ 532 ∷ 0 ∷ [])
+pub marked : (simplifiedOf tableA1 ≡ 979229 ∷ 16803 ∷ 2438 ∷ 1530 ∷ 0 ∷ []) × (inertOf tableA1 ≡ 999468 ∷ 532 ∷ 0 ∷ [])
 unfolding greatestTo distributed scaledOf tenthsOf methaneShare
 marked = (refl, refl)
 
 -- equal remainders of ethane and propane, of which one gets a part
 pub equal-remainders :
     simplifiedOf (0 ∷ 856641 ∷ 19981 ∷ 19981 ∷ 18632 ∷ 19263 ∷ 0 ∷ 0 ∷ 0 ∷ 0 ∷ 0 ∷ 65502 ∷ 0 ∷ 0 ∷ 0 ∷ 0 ∷ [])
-    ≡ 916686 ∷ 21382 ∷ 21381 ∷ 40551 ∷ []
+    ≡ 916686 ∷ 21382 ∷ 21381 ∷ 40551 ∷ 0 ∷ []
 unfolding greatestTo distributed scaledOf tenthsOf
 equal-remainders = refl
 
@@ -37,6 +37,6 @@ half-up = refl
 abbrev pub methaneEthane : List ℕ
 methaneEthane = 0 ∷ 970000 ∷ 10000 ∷ 0 ∷ 0 ∷ 0 ∷ 0 ∷ 0 ∷ 0 ∷ 0 ∷ 0 ∷ 20000 ∷ 0 ∷ 0 ∷ 0 ∷ 0 ∷ []
 
-pub methane-ethane : simplifiedOf methaneEthane ≡ 989796 ∷ 10204 ∷ 0 ∷ 0 ∷ []
+pub methane-ethane : simplifiedOf methaneEthane ≡ 989796 ∷ 10204 ∷ 0 ∷ 0 ∷ 0 ∷ []
 unfolding greatestTo distributed scaledOf tenthsOf
 methane-ethane = refl

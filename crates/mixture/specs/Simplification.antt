@@ -6,9 +6,9 @@ use lib.ListN.{getD}
 use Rattle.analysis.specs.Check.{totalOf}
 use Rattle.mixture.specs.Scaling.{scaledOf}
 
--- methane, ethane, propane, butane
+-- methane, ethane, propane, butane, hydrogen (document 02, Seven)
 abbrev pub COMPONENTS : ℕ
-COMPONENTS = 4
+COMPONENTS = 5
 
 -- the amount of a code in parts
 abbrev pub amountOf : List ℕ → ℕ → ℕ
@@ -19,9 +19,9 @@ abbrev pub butaneOf : List ℕ → ℕ
 butaneOf a =
     10 * (amountOf a 4 + amountOf a 5) + 23 * (amountOf a 6 + amountOf a 7 + amountOf a 8) + 53 * amountOf a 10
 
--- the four components in tenths of a part
+-- the five components in tenths of a part
 unfoldable pub tenthsOf : List ℕ → List ℕ
-tenthsOf a = 10 * amountOf a 1 ∷ 10 * amountOf a 2 ∷ 10 * amountOf a 3 ∷ butaneOf a ∷ []
+tenthsOf a = 10 * amountOf a 1 ∷ 10 * amountOf a 2 ∷ 10 * amountOf a 3 ∷ butaneOf a ∷ 10 * amountOf a 15 ∷ []
 
 -- T
 abbrev pub tenthsTotal : List ℕ → ℕ

@@ -16,8 +16,8 @@ ghost use Rattle.mixture.specs.Answers.{mixtureOf, inertN1};
 ghost use Rattle.mixture.specs.Inert.{halvesUp, methaneShare, inertFirst};
 ghost use Rattle.mixture.specs.Factor.{factorOf};
 
-// Methane, ethane, propane, butane.
-pub const COMPONENTS: usize = 4;
+// Methane, ethane, propane, butane, hydrogen.
+pub const COMPONENTS: usize = 5;
 
 // The parts of a whole mixture.
 const WHOLE: u32 = 1000000;
@@ -120,7 +120,7 @@ fn butane(a: &[u32; CODES]) -> u64
     t
 }
 
-// The four components in tenths of a part.
+// The components in tenths of a part.
 fn tenths(a: &[u32; CODES]) -> [u64; COMPONENTS]
     ensures { λ r. ⌜ (r ≡ tenthsOf (now (a .entry))) × Limited r ⌝ }
 {
@@ -129,6 +129,7 @@ fn tenths(a: &[u32; CODES]) -> [u64; COMPONENTS]
         weighted(a[2], 10),
         weighted(a[3], 10),
         butane(a),
+        weighted(a[15], 10),
     ]
 }
 
@@ -146,11 +147,14 @@ fn sum(x: &[u64; COMPONENTS]) -> u64
     t
 }
 
-// An amount scaled to 1000000 / total of itself, rounded down.
+// An amount scaled to 1000000 / total of itself, rounded down; nothing where it is absent.
 fn quotient(x: u64, total: u64) -> u32
     requires { ⌜ (x ≤ LIMIT) × (x ≤ total) × (0 < total) ⌝ }
     ensures { λ r. ⌜ r ≡ quotientOf total x ⌝ }
 {
+    if x == 0 {
+        return 0;
+    }
     (WIDE_WHOLE * x / total) as u32
 }
 

@@ -23,7 +23,7 @@ use Rattle.analysis.specs.declared.Checked.{Checked}
 use Rattle.analysis.specs.declared.Checked.the-variants as checked
 use Rattle.sheet.specs.Split.{noSplit}
 use Rattle.sheet.specs.declared.Split.{Split}
-use Rattle.mixture.specs.Simplification.{simplifiedOf}
+use Rattle.mixture.specs.Simplification.{COMPONENTS, simplifiedOf}
 use Rattle.mixture.specs.Inert.{inertFirst}
 use Rattle.mixture.specs.Answers.{mixtureOf, inertN1}
 use Rattle.systems.specs.Choice.{presentCount, choiceOf}
@@ -120,7 +120,7 @@ search-away a allowance number code t =
 
 module _ (a : List ℕ) (long : length a ≡ CODES) (passed : refusalOf a ≡ 0) where
   mixture-in : mixtureOf a ≡ simplifiedOf a
-  mixture-in = ap (λ (n : ℕ). ifElse (eqb n 0) (simplifiedOf a) (replicate 4 0)) passed
+  mixture-in = ap (λ (n : ℕ). ifElse (eqb n 0) (simplifiedOf a) (replicate COMPONENTS 0)) passed
 
   -- how many components are present, by what was simplified
   module _ (mix : List ℕ) (count : ℕ) (m : mix ≡ mixtureOf a) (k : count ≡ presentCount mix) where

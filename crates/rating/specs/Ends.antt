@@ -168,7 +168,7 @@ module _ (a : List ℕ) (code : ℕ) (h : InRange a) where
 
 -- ---- what was read is an analysis in range
 
-amounts-long : (n : ℕ) (s : List ℕ) (at : ℕ) (a : List ℕ) → length (amountsFrom n s at a) ≡ length a
+pub amounts-long : (n : ℕ) (s : List ℕ) (at : ℕ) (a : List ℕ) → length (amountsFrom n s at a) ≡ length a
 amounts-long zero s at a = refl
 amounts-long (suc n) s at a = amounts-long n s (at + 5) _ ∙ length-set a (getD s at 0) (numberAt s (at + 1))
 

@@ -3,7 +3,9 @@
 use mathlib.Core.List.{List}
 use Prim.Native.Nat.{ℕ, _*_, min}
 use lib.Dec.{eqb, ltb}
-use Rattle.refusal.specs.Register.{OUT_OF_RANGE, MISFIT, TOO_FEW}
+use Rattle.refusal.specs.Keys.{each}
+use Rattle.refusal.specs.Register.{OUT_OF_RANGE, MISFIT, NO_SYSTEM, TOO_FEW}
+use Rattle.formula.specs.Coefficients.{isSystem}
 use Rattle.analysis.specs.Register.{ifElse}
 use Rattle.analysis.specs.Check.{refusalOf}
 use Rattle.sheet.specs.Split.{noSplit}
@@ -14,7 +16,7 @@ use Rattle.sheet.specs.declared.Reading.{Reading}
 use Rattle.sheet.specs.declared.Reading.the-variants as reading
 use Rattle.mixture.specs.Simplification.{simplifiedOf}
 use Rattle.mixture.specs.Inert.{inertFirst}
-use Rattle.systems.specs.Choice.{presentCount, choiceOf}
+use Rattle.systems.specs.Choice.{presentCount, chooseOf, choiceOf}
 use Rattle.systems.specs.declared.Choice.{Choice}
 use Rattle.split.specs.Split.{cellsOf, amountsOf}
 use Rattle.split.specs.Rating.{ratingOf, proposedOf}
@@ -53,11 +55,14 @@ countFor a = choiceOf (simplifiedOf a) .count
 abbrev pub FEWEST : ℕ
 FEWEST = 2
 
--- the number with which rating turns an analysis away: 5 or 6, then 16 where fewer than two of the components are
--- present after simplification (document 02, Five); 0 where it is rated on
+-- the number of a mixture: 16 where fewer than two of the five components are present after simplification (document 02,
+-- Five), then 13 where a chosen system is none of Table A.2 that keeps its rule (Six, Seven); none is (`LeftOut`); else 0
+unfoldable pub mixtureRefusal : List ℕ → ℕ
+mixtureRefusal mix = ifElse (ltb (presentCount mix) FEWEST) TOO_FEW (ifElse (each isSystem (chooseOf mix)) 0 NO_SYSTEM)
+
+-- the number with which rating turns an analysis away: 5 or 6, then 16 or 13; 0 where it is rated on
 unfoldable pub ratingRefusal : List ℕ → ℕ
-ratingRefusal a =
-    ifElse (eqb (refusalOf a) 0) (ifElse (ltb (presentCount (mixOf a)) FEWEST) TOO_FEW 0) (refusalOf a)
+ratingRefusal a = ifElse (eqb (refusalOf a) 0) (mixtureRefusal (mixOf a)) (refusalOf a)
 
 abbrev pub checkedBy : ℕ → ℕ → Answer → Answer
 checkedBy number code rated = ifElse (eqb number 0) rated (Refused number (ifElse (eqb number OUT_OF_RANGE) code 0))

@@ -1,4 +1,4 @@
--- The analyses that are rated on: 5, 6 and then 16 let them pass. By cases. Assumes nothing.
+-- The analyses that are rated on: 5, 6, 16 and then 13, which turns none away, let them pass. By cases. Assumes nothing.
 use mathlib.Core.Path.{_≡_, refl}
 use mathlib.Core.Bool.{Bool, true, false}
 use mathlib.Core.List.{List}
@@ -11,13 +11,14 @@ use Rattle.refusal.specs.Register.{TOO_FEW}
 use Rattle.analysis.specs.Register.{ifElse}
 use Rattle.analysis.specs.Check.{refusalOf}
 use Rattle.systems.specs.Choice.{presentCount}
-use Rattle.rating.specs.Rate.{FEWEST, mixOf, ratingRefusal}
+use Rattle.rating.specs.Rate.{FEWEST, mixOf, mixtureRefusal, ratingRefusal}
+use Rattle.rating.specs.LeftOut.{mixture-number}
 
 -- in range: neither 5 nor 6 turns the analysis away
 abbrev pub InRange : List ℕ → Type 0
 InRange a = refusalOf a ≡ 0
 
--- rated on: neither 5, 6 nor 16 does
+-- rated on: neither 5, 6, 16 nor 13 does
 abbrev pub RatedOn : List ℕ → Type 0
 RatedOn a = ratingRefusal a ≡ 0
 
@@ -30,7 +31,7 @@ module _ (a : List ℕ) where
   -- rated on is in range with two components present at least
   pub on-passed : RatedOn a → InRange a × (FEWEST ≤ presentCount (mixOf a))
   unfolding ratingRefusal
-  on-passed h = go (eqb (refusalOf a) 0) (ltb (presentCount (mixOf a)) FEWEST) refl refl h
+  on-passed h = go (eqb (refusalOf a) 0) (ltb (presentCount (mixOf a)) FEWEST) refl refl (rw (mixture-number (mixOf a)) at h)
     where
       go : (t u : Bool) → eqb (refusalOf a) 0 ≡ t → ltb (presentCount (mixOf a)) FEWEST ≡ u
           → ifElse t (ifElse u TOO_FEW 0) (refusalOf a) ≡ 0 → InRange a × (FEWEST ≤ presentCount (mixOf a))
@@ -41,11 +42,11 @@ module _ (a : List ℕ) where
   module _ (h : InRange a) where
     pub enough-on : FEWEST ≤ presentCount (mixOf a) → RatedOn a
     unfolding ratingRefusal
-    enough-on l = rw (eq-eqb (refusalOf a) 0 h, le-ltb (presentCount (mixOf a)) FEWEST l)
+    enough-on l = rw (eq-eqb (refusalOf a) 0 h, mixture-number (mixOf a), le-ltb (presentCount (mixOf a)) FEWEST l)
 
     pub too-few : presentCount (mixOf a) < FEWEST → ratingRefusal a ≡ TOO_FEW
     unfolding ratingRefusal
-    too-few l = rw (eq-eqb (refusalOf a) 0 h, lt-ltb (presentCount (mixOf a)) FEWEST l)
+    too-few l = rw (eq-eqb (refusalOf a) 0 h, mixture-number (mixOf a), lt-ltb (presentCount (mixOf a)) FEWEST l)
 
     -- an analysis in range is rated on or refused 16
     pub on-or-few : RatedOn a ⊎ (ratingRefusal a ≡ TOO_FEW)

@@ -1,26 +1,26 @@
--- What holds of an analysis that 5, 6 and 16 let pass: its mixture, its chosen systems and its inert mixture are such
+-- What holds of an analysis that 5, 6, 16 and 13 let pass: its mixture, its chosen systems and its inert mixture are such
 -- that every split of them can be worked out and the search can begin. Assumes nothing.
 use mathlib.Core.Path.{_≡_, refl, sym, ap, _∙_}
-use mathlib.Core.List.{List, [], _∷_}
+use mathlib.Core.List.{List}
 use mathlib.Core.Bool.{Bool, true, false, cond}
 use mathlib.Core.Logic.{inl, inr}
 use Prim.Native.Nat.{ℕ, zero, suc, _+_, _*_, _≤_, _<_}
 use native.Mathlib.Omega.{arith}
-use lib.Dec.{eqb}
-use lib.ListN.{getD, length}
+use native.Mathlib.Numerals.{add-one}
+use lib.ListN.{getD, length, drop}
 use Rattle.analysis.specs.Register.{CODES}
 use borrow.Author.Tests.{ltb-false}
 use Rattle.analysis.specs.Check as analysis
-use Rattle.analysis.specs.Ranges.{NoneOr}
+use Rattle.analysis.specs.Ranges.{NoneOr, total-go, total-end}
 use Rattle.mixture.specs.Simplification.{simplifiedOf}
 use Rattle.mixture.specs.Inert.{inertFirst}
 use Rattle.mixture.specs.Bounds.{LEAST_PARTS, simplified-length, simplified-total, simplified-or-absent, inert-greatest}
-use Rattle.mixture.specs.Bounds.{tenths-positive}
+use Rattle.mixture.specs.Bounds.{tenths-positive, simplified-methane}
 use Rattle.systems.specs.Systems.{COMPONENTS, hasOf}
 use Rattle.systems.specs.Members.{countTo}
 use Rattle.systems.specs.Choice.{presentAt, presentOf, presentCount}
 use Rattle.systems.specs.Presence.{present-is, Supply, supply}
-use Rattle.systems.specs.Chosen.{chosenCount, Choosable, choice-choosable}
+use Rattle.systems.specs.Chosen.{Choosable, choice-choosable, Filled, choice-filled}
 use Rattle.split.specs.Fold.{sumTo}
 use Rattle.split.specs.Split.{RECORDS, systemOf, Chosen}
 use Rattle.split.specs.Sums.{totalOf}
@@ -31,43 +31,34 @@ use Rattle.split.specs.Finds.{SearchInput, enough-parts}
 use Rattle.rating.specs.Rate.{mixOf, systemsFor, countFor, ratingRefusal}
 use Rattle.rating.specs.RatedOn.{RatedOn, on-passed}
 
--- two or three systems are chosen
-two-or-three : (n : ℕ) → (2 ≤ chosenCount n) × (chosenCount n ≤ 3)
-two-or-three n = go (eqb n 2)
-  where
-    go : (b : Bool) → (2 ≤ elim b [ true ↦ 2 | false ↦ 3 ]) × (elim b [ true ↦ 2 | false ↦ 3 ] ≤ 3)
-    go true = (omega arith, omega arith)
-    go false = (omega arith, omega arith)
-
 count-sharers : (ch : List ℕ) (c n : ℕ) → countTo (λ i. hasOf (getD ch i 0) c) n ≡ sharersOf ch c n
 unfolding countTo sharersOf sumTo
 count-sharers ch c zero = refl
 count-sharers ch c (suc n) = ap (λ (x : ℕ). x + cond (hasOf (getD ch n 0) c) 1 0) (count-sharers ch c n)
 
--- four amounts added either way
-total-is : (mix : List ℕ) → length mix ≡ COMPONENTS → analysis.totalOf mix ≡ totalOf mix
+-- amounts added either way: the first n and those after them
+total-to : (mix : List ℕ) (n : ℕ) → n ≤ length mix
+    → sumTo (λ c. getD mix c 0) n + analysis.totalOf (drop n mix) ≡ analysis.totalOf mix
 unfolding sumTo
-total-is [] h = absurd (omega arith)
-total-is (w ∷ []) h = absurd (omega arith)
-total-is (w ∷ (x ∷ [])) h = absurd (omega arith)
-total-is (w ∷ (x ∷ (y ∷ []))) h = absurd (omega arith)
-total-is (w ∷ (x ∷ (y ∷ (z ∷ [])))) h = omega arith
-total-is (w ∷ (x ∷ (y ∷ (z ∷ (v ∷ l))))) h = absurd (omega arith)
+total-to mix zero h = refl
+total-to mix (suc n) h =
+    omega (arith, total-to mix n (omega arith), total-go n mix (omega arith), ap (λ (k : ℕ). analysis.totalOf (drop k mix)) (add-one n))
+
+total-is : (mix : List ℕ) → length mix ≡ COMPONENTS → analysis.totalOf mix ≡ totalOf mix
+total-is mix h = omega (arith, total-to mix COMPONENTS (omega arith), total-end COMPONENTS mix (omega arith))
 
 module _ (a : List ℕ) (on : RatedOn a) where
   -- what holds of the choice
   pub choosable : Choosable (presentOf (mixOf a)) (systemsFor a) (countFor a)
   choosable = choice-choosable (mixOf a) (on-passed a on .1)
 
-  counted : (2 ≤ countFor a) × (countFor a ≤ 3)
-  counted = rw (choosable .number) (two-or-three (presentCount (mixOf a)))
-
-  -- two or three systems, each a candidate
+  -- two to five systems, each a candidate
   pub chosen : Chosen (systemsFor a) (countFor a)
-  chosen = record { some = omega (arith, counted .0); most = omega (arith, counted .1); known = choosable .known }
+  chosen =
+      record { some = omega (arith, choosable .some); most = omega (arith, choosable .few); known = choosable .known }
 
   pub room : 3 * countFor a ≤ RECORDS
-  room = omega (arith, counted .1)
+  room = omega (arith, choosable .few)
 
   -- each component is absent or in a chosen system
   pub shared : (c : ℕ) → c < COMPONENTS → Shared (mixOf a) (systemsFor a) (countFor a) c
@@ -88,10 +79,17 @@ module _ (a : List ℕ) (long : length a ≡ CODES) (on : RatedOn a) where
   pub inert-million : inertFirst a ≤ 1000000
   inert-million = inert-greatest a (tenths-positive a long (on-passed a on .0))
 
+  -- methane is present; so each chosen system contains two present components, and how many systems there are follows
+  -- from how many components are
+  pub filled : Filled (presentOf (mixOf a)) (systemsFor a) (countFor a)
+  filled =
+      let methane = simplified-methane a long (on-passed a on .0) in
+      choice-filled (mixOf a) (on-passed a on .1) (omega (arith, methane))
+
   -- each chosen system contains a component that is present, and has enough of it
   supplied : (s : ℕ) → s < countFor a → Supplied (mixOf a) (systemsFor a) (countFor a) s
   supplied s h =
-      let y = supply (mixOf a) (systemOf (systemsFor a) s) (omega (arith, choosable a on .filled s h)) in
+      let y = supply (mixOf a) (systemOf (systemsFor a) s) (omega (arith, choosable a on .supplied s h)) in
       record {
         component = y .component;
         low = y .low;
@@ -102,7 +100,7 @@ module _ (a : List ℕ) (long : length a ≡ CODES) (on : RatedOn a) where
       enough : (y : Supply (mixOf a) (systemOf (systemsFor a) s))
           → NoneOr LEAST_PARTS (getD (mixOf a) (y .component) 0) → countFor a ≤ getD (mixOf a) (y .component) 0
       enough y (inl e) = absurd (omega (arith, y .some))
-      enough y (inr l) = omega (arith, counted a on .1)
+      enough y (inr l) = omega (arith, choosable a on .few)
 
   -- the search can begin: its start leaves no system empty
   pub input : SearchInput (mixOf a) (systemsFor a) (countFor a) LEVEL

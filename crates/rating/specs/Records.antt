@@ -8,9 +8,9 @@ use Rattle.systems.specs.Systems.{COMPONENTS}
 use Rattle.split.specs.Fold.{allTo, table}
 use Rattle.split.specs.Split.{RECORDS, both, cellOf, systemOf, heldOf, rankOf, componentAt}
 
--- the code of a component in a split: methane, ethane, propane, butanes
+-- the code of a component in a split: methane, ethane, propane, butanes, hydrogen
 abbrev pub codes : List ℕ
-codes = 1 ∷ 2 ∷ 3 ∷ 14 ∷ []
+codes = 1 ∷ 2 ∷ 3 ∷ 14 ∷ 15 ∷ []
 
 unfoldable pub codeOf : ℕ → ℕ
 codeOf c = getD codes c 0

@@ -1,5 +1,6 @@
 -- The codes of a split's records are keys of the register that are legal there (document 01, "The register and the
--- sheet"): those of methane, ethane and propane, which are live, and 14, which is legal in splits only. Assumes nothing.
+-- sheet"): those of methane, ethane, propane and hydrogen, which are live, and 14, which is legal in splits only. Assumes
+-- nothing.
 use mathlib.Core.Path.{_≡_, refl}
 use mathlib.Core.Bool.{Bool, true, false, _&&_}
 use mathlib.Core.List.{List, [], _∷_}
@@ -22,6 +23,6 @@ pub split-codes-legal : allLegal codes ≡ true
 unfolding statusOf
 split-codes-legal = refl
 
--- and they are document 01's for ever
-pub split-codes-kept : codes ≡ 1 ∷ 2 ∷ 3 ∷ 14 ∷ []
+-- and they are document 01's, and hydrogen's, for ever
+pub split-codes-kept : codes ≡ 1 ∷ 2 ∷ 3 ∷ 14 ∷ 15 ∷ []
 split-codes-kept = refl

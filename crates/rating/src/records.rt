@@ -13,18 +13,32 @@ use split::CELLS;
 use systems::COMPONENTS;
 use systems::SYSTEMS;
 
-// The components of the systems, rising: two bits each and six for a system number, from the right. Only candidates' are read.
-const RISING: u64 = 0b110100_111000_000000_000000_100100_000000_111001_000000_000000;
+// System numbers are below this one.
+const NUMBERS: usize = 9;
+
+// The components of each system number, rising: an octal digit each, from the right. Only candidates' are read.
+const RISING: [u32; NUMBERS] = [
+    0o000,
+    0o410,
+    0o321,
+    0o000,
+    0o210,
+    0o420,
+    0o430,
+    0o320,
+    0o310,
+];
 
 // The components' codes in a split, a hexadecimal digit each, from the right.
-const CODES: u64 = 0xE321;
+const CODES: u64 = 0xFE321;
 
 // The component of a candidate's jth record.
 fn component(system: u8, j: usize) -> usize
     requires { ⌜ Candidate system × (j < 3) ⌝ }
     ensures { λ r. ⌜ (r ≡ componentAt system j) × (r < COMPONENTS) ⌝ }
 {
-    ((RISING >> (system as usize * 6 + j * 2)) % 4) as usize
+    let rising = RISING;
+    ((rising[system as usize] >> (j * 3)) % 8) as usize
 }
 
 // A component's code in a split.

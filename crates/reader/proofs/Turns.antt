@@ -23,7 +23,7 @@ use Rattle.sheet.specs.Cases.{status-above, code-status, code-order, code-fine}
 
 -- the code's tests of a code are the register's
 abbrev tested : ℕ → ℕ
-tested c = ifElse (eqb c 0 || ltb 13 c) 2 (ifElse (eqb c 9 || eqb c 13) 3 0)
+tested c = ifElse (eqb c 0 || eqb c 14 || ltb 15 c) 2 (ifElse (eqb c 9 || eqb c 13) 3 0)
 
 abbrev places : List ℕ
 places = replicate CODES 0
@@ -46,15 +46,15 @@ tested-is c = go (ltb c CODES) refl
     go true e = low (ltb-true c CODES e)
     go false e =
         let h = ltb-false c CODES e in
-        rw (lt-ltb 13 c (omega arith), or-true) (sym (status-above c h))
+        rw (lt-ltb 15 c (omega arith), or-true) (sym (status-above c h))
 
 module _ (c p : ℕ) where
-  pub not-live : (eqb c 0 || ltb 13 c) ≡ true → codeRefusal c p ≡ 2
+  pub not-live : (eqb c 0 || eqb c 14 || ltb 15 c) ≡ true → codeRefusal c p ≡ 2
   not-live h =
       let e : refusalBy (statusOf c) ≡ 2 = sym (tested-is c) ∙ rw h in
       code-status c p (λ z. omega arith) ∙ e
 
-  module _ (h : (eqb c 0 || ltb 13 c) ≡ false) where
+  module _ (h : (eqb c 0 || eqb c 14 || ltb 15 c) ≡ false) where
     pub by-status : (eqb c 9 || eqb c 13) ≡ true → codeRefusal c p ≡ 3
     by-status k =
         let e : refusalBy (statusOf c) ≡ 3 = sym (tested-is c) ∙ rw (h, k) in

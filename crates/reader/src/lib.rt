@@ -88,7 +88,7 @@ fn sections(s: &[u8]) -> Sections
 fn code_refusal(c: u8, p: u8) -> u32
     ensures { λ r. ⌜ r ≡ codeRefusal c p ⌝ }
 {
-    if (c == 0) | (13 < c) {
+    if (c == 0) | (c == 14) | (15 < c) {
         return UNKNOWN;
     }
     if (c == 9) | (c == 13) {

@@ -22,8 +22,8 @@ use c_reply::Reply;
 use controller::ControllerRecord;
 use sheet::RECORDS;
 
-// The version, 1.2.0: 10000, 100 and 1 times its three figures.
-const VERSION: u32 = 10200;
+// The version, 1.3.0: 10000, 100 and 1 times its three figures.
+const VERSION: u32 = 10300;
 
 // The library's version.
 #[no_mangle]

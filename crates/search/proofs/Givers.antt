@@ -18,7 +18,7 @@ use Rattle.search.specs.Scan.{givenOf, givesOf, takesOf, Past, Scanned}
 
 -- the pairs of a giver and a taker
 abbrev PAIRS : ℕ
-PAIRS = 64
+PAIRS = SYSTEMS * SYSTEMS
 
 clash : {A : Type 0} (b : Bool) → b ≡ true → b ≡ false → A
 clash b p q = absurd (let z : _≡_ {A = ℕ} 0 1 = ap (λ x. elim x [ true ↦ 0 | false ↦ 1 ]) (sym p ∙ q) in omega arith)

@@ -15,7 +15,7 @@ use Rattle.rows.specs.Carried.{Workable}
 
 -- a try for each cell less the stride, then one for each cell with the stride more
 abbrev pub TRIES : ℕ
-TRIES = 64
+TRIES = 2 * CELLS
 
 -- in the place of a number that is not worked out
 abbrev pub UNKNOWN : ℤ

@@ -1,14 +1,15 @@
 -- The cases of the definitions, by the tests that lead to each, and back. Assumes nothing.
 use mathlib.Core.Path.{_≡_, refl, ap, sym, _∙_, subst}
 use mathlib.Core.List.{List, [], _∷_, _++_}
-use mathlib.Core.Bool.{Bool, true, false}
+use mathlib.Core.Bool.{Bool, true, false, cond}
 use Prim.Native.Nat.{ℕ, zero, suc, _+_, _-_, _*_, _≤_, _<_}
 use native.Mathlib.Omega.{arith}
 use lib.ListN.{length, getD, drop, length-append}
-use lib.Dec.{eqb, leb}
-use borrow.Author.Tests.{eq-eqb, ne-eqb, le-leb, lt-leb, le-ltb, leb-true, leb-false, ltb-false, eqb-true, eqb-false}
-use Rattle.refusal.specs.Keys.{each-passes}
-use Rattle.analysis.specs.Register.{CODES, unknown, register, statusIn, statusOf, ifElse}
+use lib.Dec.{eqb, ltb, leb}
+use borrow.Author.Tests.{eq-eqb, ne-eqb, le-leb, lt-leb, le-ltb, leb-true, leb-false, ltb-true, ltb-false, eqb-true}
+use borrow.Author.Tests.{eqb-false}
+use Rattle.refusal.specs.Keys.{isIn, each-passes}
+use Rattle.analysis.specs.Register.{CODES, Entry, unknown, register, keysOf, statusIn, statusOf, ifElse}
 use Rattle.analysis.specs.Check.{refusalOf}
 use Rattle.section.specs.declared.Section.{Section}
 use Rattle.section.specs.declared.Section.the-variants as found
@@ -208,29 +209,24 @@ module _ (n : ℕ) (s : List ℕ) where
 
 -- ---- codes
 
--- a code beyond the register is unknown, and one beyond an analysis refused 2
-above : (c : ℕ) → 15 ≤ c → statusIn register c ≡ unknown
-above c h =
-    rw (
-      ne-eqb c 1 (λ e. omega arith),
-      ne-eqb c 2 (λ e. omega arith),
-      ne-eqb c 3 (λ e. omega arith),
-      ne-eqb c 4 (λ e. omega arith),
-      ne-eqb c 5 (λ e. omega arith),
-      ne-eqb c 6 (λ e. omega arith),
-      ne-eqb c 7 (λ e. omega arith),
-      ne-eqb c 8 (λ e. omega arith),
-      ne-eqb c 9 (λ e. omega arith),
-      ne-eqb c 10 (λ e. omega arith),
-      ne-eqb c 11 (λ e. omega arith),
-      ne-eqb c 12 (λ e. omega arith),
-      ne-eqb c 13 (λ e. omega arith),
-      ne-eqb c 14 (λ e. omega arith),
-    )
+-- a code that is no key of a register is unknown
+unlisted : (es : List Entry) (c : ℕ) → isIn c (keysOf es) ≡ false → statusIn es c ≡ unknown
+unlisted [] c h = refl
+unlisted (e ∷ es) c h = go (eqb c (e .code)) h (λ t. unlisted es c t)
+  where
+    go : (b : Bool) → cond b true (isIn c (keysOf es)) ≡ false → (isIn c (keysOf es) ≡ false → statusIn es c ≡ unknown)
+        → ifElse b (e .status) (statusIn es c) ≡ unknown
+    go true h rest = let y : _≡_ {A = ℕ} 0 1 = cc in absurd (omega arith)
+    go false h rest = rest h
 
+-- and one beyond an analysis is refused 2: every key stands below CODES
 pub status-above : (c : ℕ) → CODES ≤ c → refusalBy (statusOf c) ≡ 2
 unfolding statusOf
-status-above c h = let k : 15 ≤ c = omega arith in ap refusalBy (above c k)
+status-above c h = ap refusalBy (unlisted register c (go (isIn c (keysOf register)) refl))
+  where
+    go : (b : Bool) → isIn c (keysOf register) ≡ b → b ≡ false
+    go true e = absurd (omega (arith, ltb-true c CODES (each-passes (λ k. ltb k CODES) c (keysOf register) refl e)))
+    go false e = refl
 
 -- the cases of a code's refusal
 module _ (c p : ℕ) where

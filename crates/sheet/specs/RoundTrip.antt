@@ -56,13 +56,13 @@ count-room k (x ∷ xs) h =
     go g r false true e f = absurd (eqb-false x 0 e (unlisted k x (eqb-true _ _ f) g))
     go g r false false e f = omega (arith, r)
 
--- at most eleven codes are listed
+-- at most twelve codes are listed
 pub count-most : (a : List ℕ) → length a ≡ CODES → refusalOf a ≡ 0 → countOf a ≤ LISTED
 unfolding room statusOf
 count-most a l h =
     let r : countOf a ≤ room 0 CODES = subst (λ (n : ℕ). countOf a ≤ room 0 n) l (count-room 0 a (passed-ranges a h)) in r
 
--- a sheet that is written, or read, has at most 111 bytes
+-- a sheet that is written, or read, has at most 188 bytes
 pub longest-written : (a : List ℕ) (p : Split) (size : ℕ) → length a ≡ CODES → writeRefusal a p size ≡ 0
     → length (sheetOf a p) ≤ SHEET
 longest-written a p size l h =

@@ -20,7 +20,7 @@ sheetOf a p = (countOf a ∷ componentBytes 0 a) ++ (p .count ∷ splitBytes p)
 
 -- the most components that a sheet lists
 abbrev pub LISTED : ℕ
-LISTED = 11
+LISTED = 12
 
 -- the bytes of the longest sheet (document 01, "The register and the sheet"): two counts and the most records of each
 abbrev pub SHEET : ℕ

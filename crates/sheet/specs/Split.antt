@@ -12,20 +12,20 @@ use Rattle.sheet.specs.Bytes.{numberAt, bytesOf}
 abbrev pub RECORDS : ℕ
 RECORDS = 21
 
--- the least and the most records of a sheet's split, where it has one (document 02, Five)
+-- the least and the most records of a sheet's split, where it has one (document 02, Five and Seven)
 abbrev pub SHORTEST_SPLIT : ℕ
 SHORTEST_SPLIT = 6
 
 abbrev pub LONGEST_SPLIT : ℕ
-LONGEST_SPLIT = 9
+LONGEST_SPLIT = 21
 
 -- the bytes of a record (document 01, "The register and the sheet"): system, code and amount
 abbrev pub RECORD_BYTES : ℕ
 RECORD_BYTES = 6
 
--- the counts of a split section: none, or three records for each of two or three systems
+-- the counts of a split section: none, or three records for each of two to seven systems
 abbrev pub splitCounts : List ℕ
-splitCounts = 0 ∷ SHORTEST_SPLIT ∷ LONGEST_SPLIT ∷ []
+splitCounts = 0 ∷ SHORTEST_SPLIT ∷ 9 ∷ 12 ∷ 15 ∷ 18 ∷ LONGEST_SPLIT ∷ []
 
 unfoldable pub allowedCount : ℕ → Bool
 allowedCount m = isIn m splitCounts

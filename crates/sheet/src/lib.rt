@@ -5,7 +5,7 @@ ghost use Rattle.sheet.specs.Split.{allowedCount};
 use analysis::Analysis;
 
 // The most components that a sheet lists.
-pub const LISTED: usize = 11;
+pub const LISTED: usize = 12;
 
 // Room for a split's records.
 pub const RECORDS: usize = 21;
@@ -13,7 +13,7 @@ pub const RECORDS: usize = 21;
 // The least and the most records of a sheet's split, where it has one.
 pub const SHORTEST_SPLIT: usize = 6;
 
-pub const LONGEST_SPLIT: usize = 9;
+pub const LONGEST_SPLIT: usize = 21;
 
 // The bytes of a component's record: code and amount.
 pub const COMPONENT_BYTES: usize = 5;
@@ -21,7 +21,7 @@ pub const COMPONENT_BYTES: usize = 5;
 // The bytes of a split's record: system, code and amount.
 pub const RECORD_BYTES: usize = 6;
 
-// The bytes of the longest sheet, 111: two counts and the most records of each section.
+// The bytes of the longest sheet, 188: two counts and the most records of each section.
 pub const SHEET: usize = 2 + COMPONENT_BYTES * LISTED + RECORD_BYTES * LONGEST_SPLIT;
 
 // A split as records, in a sheet's order; a count of 0 is no split. Places from the count on are not used.
@@ -61,7 +61,7 @@ pub enum Written {
     Refused { number: u32, code: u32 },
 }
 
-// May a split have so many records? None, or three for each of two or three systems.
+// May a split have so many records? None, or three for each of two to seven systems.
 pub fn allowed_count(count: usize) -> bool
     ensures { λ r. ⌜ r ≡ allowedCount count ⌝ }
 {

@@ -20,7 +20,7 @@ imbalanceOf v k = sumTo (λ i. sumTo (λ j. squareOf (v i) (v j)) i) k
 
 -- moves are numbers: component, from-system, to-system, in this order of weight, so that their order is the document's
 abbrev pub MOVES : ℕ
-MOVES = 256
+MOVES = COMPONENTS * (SYSTEMS * SYSTEMS)
 
 abbrev pub componentOf : ℕ → ℕ
 componentOf m = m / (SYSTEMS * SYSTEMS)

@@ -19,7 +19,7 @@ abbrev pub SYSTEMS : ℕ
 SYSTEMS = 8
 
 abbrev pub CELLS : ℕ
-CELLS = 32
+CELLS = SYSTEMS * COMPONENTS
 
 abbrev pub RECORDS : ℕ
 RECORDS = 21

@@ -1,14 +1,14 @@
 -- The components' columns, one after the other, are the start.
 use Prim.Native.Nat.{ℕ, zero, suc, _+_, _*_, _-_, _/_, _%_, _≤_, _<_, max, min}
-use mathlib.Core.Path.{_≡_, refl, sym, ap, _∙_}
+use mathlib.Core.Path.{_≡_, refl, sym, ap, ap₂, _∙_}
 use mathlib.Core.Bool.{Bool, true, false, cond}
 use mathlib.Core.List.{List}
-use native.Mathlib.Nat.{not-suc-le-zero, add-zero}
+use native.Mathlib.Nat.{not-suc-le-zero, add-zero, zero-div, zero-mod}
 use native.Mathlib.Numerals.{add-one}
 use native.Mathlib.Omega.{arith}
 use lib.Dec.{ltb, eqb}
-use lib.ListN.{getD, length, replicate, length-set, length-replicate, getD-replicate, List·getD-eq-default}
-use lib.Seq.{getD-set-same, getD-set-other, ext-getD}
+use lib.ListN.{getD, set, length, replicate, length-set, length-replicate, getD-replicate, List·getD-eq-default}
+use lib.Seq.{getD-set-same, getD-set-other, set-getD, ext-getD}
 use borrow.Author.Tests.{ltb-true, ltb-false, le-ltb, eqb-true, eqb-false}
 use Rattle.systems.specs.Systems.{COMPONENTS, hasOf}
 use Rattle.systems.specs.Table.{none-has}
@@ -215,6 +215,44 @@ done-none mix ch k = record { most = omega arith; cells = refl }
 pub done-more : (mix ch : List ℕ) (k : ℕ) (a b : List ℕ) (n : ℕ) → n < COMPONENTS → Done mix ch k a n → b ≡ sharedOf ch k n (getD mix n 0) a → Done mix ch k b (n + 1)
 unfolding sharedTo
 done-more mix ch k a b n h z e = record { most = omega arith; cells = rw (add-one n) (e ∙ ap (sharedOf ch k n (getD mix n 0)) (z .cells)) }
+
+-- a component of which the mixture has nothing is passed over: its cells hold 0
+row-none : (ch : List ℕ) (c s : ℕ) → rowOf ch c 0 0 s ≡ 0
+unfolding rowOf partOf
+row-none ch c s = go (eqb (cond (hasOf (systemOf ch s) c) 1 0) 0)
+  where
+    go : (b : Bool) → cond b 0 (0 + cond (ltb (sharersOf ch c s) 0) 1 0) ≡ 0
+    go true = refl
+    go false = rw (le-ltb (sharersOf ch c s) 0 (omega arith))
+
+column-none : (ch : List ℕ) (c : ℕ) (a : List ℕ) (n : ℕ) → ((s : ℕ) → s < n → getD a (s * COMPONENTS + c) 0 ≡ 0)
+    → columnTo ch c 0 0 a n ≡ a
+unfolding columnTo
+column-none ch c a zero h = refl
+column-none ch c a (suc n) h =
+    ap₂ (λ (l : List ℕ) (x : ℕ). set l (n * COMPONENTS + c) x) (column-none ch c a n (λ s l. h s (omega arith)))
+    (row-none ch c n ∙ sym (h n (omega arith)))
+    ∙ set-getD a (n * COMPONENTS + c) 0
+
+shared-none : (ch : List ℕ) (k c : ℕ) (a : List ℕ) → ((s : ℕ) → s < k → getD a (s * COMPONENTS + c) 0 ≡ 0)
+    → sharedOf ch k c 0 a ≡ a
+unfolding sharedOf
+shared-none ch k c a h =
+    ap₂ (λ (share odd : ℕ). columnTo ch c share odd a k) (zero-div (max 1 (sharersOf ch c k))) (zero-mod (max 1 (sharersOf ch c k)))
+    ∙ column-none ch c a k h
+
+pub done-skip : (mix ch : List ℕ) (k : ℕ) (a : List ℕ) (n : ℕ) → n < COMPONENTS → k ≤ SYSTEMS → getD mix n 0 ≡ 0
+    → Done mix ch k a n → Done mix ch k a (n + 1)
+unfolding sharedTo
+done-skip mix ch k a n h few e z = record {
+  most = omega arith;
+  cells =
+      rw (add-one n, e)
+      (z .cells
+      ∙ sym (shared-none ch k n (sharedTo mix ch k (replicate CELLS 0) n)
+      (λ s l. shared-other mix ch k (replicate CELLS 0) s n h n (omega arith) (λ i d u v w q. omega arith)
+      ∙ getD-replicate {A = ℕ} CELLS (s * COMPONENTS + n) 0 0 (omega arith))));
+}
 
 pub done-all : (mix ch : List ℕ) (k : ℕ) (a : List ℕ) (n : ℕ) → COMPONENTS ≤ n → Done mix ch k a n → a ≡ sharedTo mix ch k (replicate CELLS 0) COMPONENTS
 done-all mix ch k a n h z =

@@ -143,7 +143,7 @@ fn end_of(count: usize) -> usize
     }
 }
 
-// The cells of the components, shared among the rows before the end.
+// The cells of the components, shared among the rows before the end; one of which there is nothing is passed over.
 fn cells(mix: &[u32; COMPONENTS], ch: &[u8; SYSTEMS], end: usize) -> [u32; CELLS]
     requires { ⌜ Cells end 0 ⌝ }
     ensures { λ r. ⌜ r ≡ sharedTo (now (mix .entry)) (now (ch .entry)) (end / COMPONENTS) (replicate CELLS 0) COMPONENTS ⌝ }
@@ -151,7 +151,10 @@ fn cells(mix: &[u32; COMPONENTS], ch: &[u8; SYSTEMS], end: usize) -> [u32; CELLS
     let mut a = [0u32; CELLS];
     let mut c = 0;
     while c < COMPONENTS {
-        shared(&mut a, ch, end, c, mix[c]);
+        let t = mix[c];
+        if t != 0 {
+            shared(&mut a, ch, end, c, t);
+        }
         c += 1;
     }
     a

@@ -8,7 +8,7 @@ use borrow.Author.Tests.{ne-eqb}
 use Rattle.systems.specs.Systems.{COMPONENTS, memberOf, hasOf}
 use Rattle.systems.specs.Choice.{NUMBERS, maskFrom, maskOf}
 use Rattle.systems.specs.Members.{member-none}
-use Rattle.systems.specs.Table.{everyTo, eachTo, agree, agree-at}
+use Rattle.systems.specs.Table.{everyTo, eachTo, agree, agree-at, beq-is}
 
 -- ---- the members
 
@@ -20,24 +20,18 @@ member-is table j t system r h e = e ∙ agree-at (digitAt table) (λ s. memberO
 
 -- ---- what a system contains: a bit for each system number and component, and for COMPONENTS
 
-beq-is : (a b : Bool) → T (Bool·beq a b) → a ≡ b
-beq-is true true t = refl
-beq-is true false t = absurd t
-beq-is false true t = absurd t
-beq-is false false t = refl
-
 abbrev pub bitAt : ℕ → ℕ → ℕ → Bool
-bitAt table system c = eqb (table / 2 ^ (system * 5 + c) % 2) 1
+bitAt table system c = eqb (table / 2 ^ (system * (COMPONENTS + 1) + c) % 2) 1
 
 abbrev pub holds : ℕ → ℕ → ℕ → Bool
 holds table system c = Bool·beq (bitAt table system c) (hasOf system c)
 
 abbrev pub holdsAll : ℕ → ℕ → Bool
-holdsAll table system = everyTo (holds table system) 5
+holdsAll table system = everyTo (holds table system) (COMPONENTS + 1)
 
 pub held-is : (table : ℕ) → T (everyTo (holdsAll table) NUMBERS) → (system c : ℕ) → system < NUMBERS → c ≤ COMPONENTS → bitAt table system c ≡ hasOf system c
 held-is table t system c h l =
-    beq-is (bitAt table system c) (hasOf system c) (eachTo (holds table system) 5 (eachTo (holdsAll table) NUMBERS t system h) c (omega arith))
+    beq-is (bitAt table system c) (hasOf system c) (eachTo (holds table system) (COMPONENTS + 1) (eachTo (holdsAll table) NUMBERS t system h) c (omega arith))
 
 -- a number past the table has no members but COMPONENTS
 pub has-none : (system c : ℕ) → NUMBERS ≤ system → eqb c COMPONENTS ≡ hasOf system c
@@ -67,7 +61,7 @@ has-past system c h l = rw (other 0 (omega arith), other 1 (omega arith), other 
 -- ---- a system's components as a mask
 
 abbrev pub maskAt : ℕ → ℕ → ℕ
-maskAt table system = table / 2 ^ (system * 5) % 16
+maskAt table system = table / 2 ^ (system * (COMPONENTS + 1)) % 2 ^ COMPONENTS
 
 pub mask-is : (table : ℕ) → T (agree (maskAt table) maskOf NUMBERS) → (system : ℕ) → system < NUMBERS → maskAt table system ≡ maskOf system
 mask-is table t system h = agree-at (maskAt table) maskOf NUMBERS t system h
@@ -75,4 +69,11 @@ mask-is table t system h = agree-at (maskAt table) maskOf NUMBERS t system h
 -- a number past the table has none
 pub mask-none : (system : ℕ) → NUMBERS ≤ system → 0 ≡ maskOf system
 unfolding maskOf maskFrom
-mask-none system h = rw (← has-none system 0 h, ← has-none system 1 h, ← has-none system 2 h, ← has-none system 3 h)
+mask-none system h =
+    rw (
+      ← has-none system 0 h,
+      ← has-none system 1 h,
+      ← has-none system 2 h,
+      ← has-none system 3 h,
+      ← has-none system 4 h,
+    )

@@ -1,5 +1,5 @@
--- The choice of systems (document 01, "Choice of systems"; 000 A.3.2; document 02, Five), for any list of candidates,
--- any order of the components and any key that says which system goes before another. Assumes nothing.
+-- The choice of systems (document 01, "Choice of systems"; 000 A.3.2; document 02, Five and Seven), for any list of
+-- candidates, any order of the components and any key that says which system goes before another. Assumes nothing.
 use Prim.Native.Nat.{ℕ, zero, suc, _+_, _*_, _-_, _/_, _%_, _^_}
 use mathlib.Core.List.{List, [], _∷_, _++_}
 use mathlib.Core.Bool.{Bool, true, false, not, cond, _&&_}
@@ -7,14 +7,14 @@ use lib.Dec.{eqb, ltb}
 use lib.Bits.{bitAnd}
 use lib.Count.{ones}
 use lib.ListN.{getD, set, length, replicate}
-use Rattle.systems.specs.Systems.{COMPONENTS, memberOf, hasOf, candidates}
+use Rattle.systems.specs.Systems.{COMPONENTS, HYDROGEN, memberOf, hasOf, candidates, hydrocarbonSystems}
 use Rattle.systems.specs.declared.Choice.{Choice}
 
 -- ---- fitness
 
--- the weights of methane, ethane, propane and butane, times 480
+-- the weights of methane, ethane, propane, butane and hydrogen, times 480
 abbrev pub weights : List ℕ
-weights = 48 ∷ 75 ∷ 80 ∷ 100 ∷ []
+weights = 48 ∷ 75 ∷ 80 ∷ 100 ∷ 96 ∷ []
 
 -- a component's weight times its parts; 0 where it is no component
 abbrev pub weightedOf : List ℕ → ℕ → ℕ
@@ -22,7 +22,8 @@ weightedOf mix c = getD weights c 0 * getD mix c 0
 
 -- a system's fitness times 480, over the three components that it contains
 unfoldable pub fitnessOf : List ℕ → ℕ → ℕ
-fitnessOf mix system = weightedOf mix (memberOf system 0) + weightedOf mix (memberOf system 1) + weightedOf mix (memberOf system 2)
+fitnessOf mix system =
+    weightedOf mix (memberOf system 0) + weightedOf mix (memberOf system 1) + weightedOf mix (memberOf system 2)
 
 -- the weighted parts of all components below n
 unfoldable pub allTo : List ℕ → ℕ → ℕ
@@ -44,8 +45,12 @@ inMask mask c = eqb (mask / 2 ^ c % 2) 1
 abbrev pub presentAt : List ℕ → ℕ → Bool
 presentAt mix c = ltb 0 (getD mix c 0)
 
+-- those of a mixture's first n components that are
+abbrev pub presentTo : ℕ → List ℕ → ℕ
+presentTo n mix = maskFrom (presentAt mix) n 0
+
 unfoldable pub presentOf : List ℕ → ℕ
-presentOf mix = maskFrom (presentAt mix) COMPONENTS 0
+presentOf mix = presentTo COMPONENTS mix
 
 -- how many components are present
 abbrev pub presentCount : List ℕ → ℕ
@@ -59,16 +64,29 @@ maskOf system = maskFrom (hasOf system) COMPONENTS 0
 unfoldable pub presentIn : ℕ → ℕ → ℕ
 presentIn present system = ones (bitAnd (maskOf system) present)
 
--- a system's standing: a system with more of its components present goes before a fitter one, for the number present
--- counts above every fitness
+-- a system's standing, where a set is present and `all` are the weighted parts of all components: a system with more of
+-- its components present goes before a fitter one, for the number present counts above every fitness
+abbrev pub standingBy : ℕ → ℕ → List ℕ → ℕ → ℕ
+standingBy present all mix system = presentIn present system * (all + 1) + fitnessOf mix system
+
 unfoldable pub standingOf : List ℕ → ℕ → ℕ
-standingOf mix system = presentIn (presentOf mix) system * (allTo mix COMPONENTS + 1) + fitnessOf mix system
+standingOf mix system = standingBy (presentOf mix) (allTo mix COMPONENTS) mix system
 
 -- ---- the choice
 
--- the order in which components take systems: propane, ethane, butane, methane
+-- the candidates: all where hydrogen is present, else those of hydrocarbons alone
+abbrev pub candidatesFor : Bool → List ℕ
+candidatesFor hydrogen = elim hydrogen [ true ↦ candidates | false ↦ hydrocarbonSystems ]
+
+unfoldable pub candidatesOf : ℕ → List ℕ
+candidatesOf present = candidatesFor (inMask present HYDROGEN)
+
+-- the order in which components take systems: propane, ethane, butane, methane, and hydrogen before them
+abbrev pub hydrocarbonOrder : List ℕ
+hydrocarbonOrder = 2 ∷ 1 ∷ 3 ∷ 0 ∷ []
+
 abbrev pub order : List ℕ
-order = 2 ∷ 1 ∷ 3 ∷ 0 ∷ []
+order = HYDROGEN ∷ hydrocarbonOrder
 
 -- the numbers of a list that are in a set
 unfoldable pub keep : ℕ → List ℕ → List ℕ
@@ -108,7 +126,8 @@ scoreOf key marks c system = elim (openOf marks c system) [ true ↦ key system 
 
 -- the better of the best so far (0: none) and the next system; equal ones go to the best so far, whose number is lower
 unfoldable pub betterOf : (ℕ → ℕ) → List Bool → ℕ → ℕ → ℕ → ℕ
-betterOf key marks c best system = elim (ltb (scoreOf key marks c best) (scoreOf key marks c system)) [ true ↦ system | false ↦ best ]
+betterOf key marks c best system =
+    elim (ltb (scoreOf key marks c best) (scoreOf key marks c system)) [ true ↦ system | false ↦ best ]
 
 -- the fittest by that key of the systems that contain component c and are not chosen
 unfoldable pub fittestOf : (ℕ → ℕ) → List ℕ → List Bool → ℕ → ℕ
@@ -135,13 +154,18 @@ listOf marks l system = elim (isChosen marks system) [ true ↦ l ++ (system ∷
 unfoldable pub chosenOf : List ℕ → List Bool → List ℕ
 chosenOf systems marks = fold (listOf marks) systems []
 
--- the choice by a key, in an order of components
-abbrev pub chooseBy : (ℕ → ℕ) → List ℕ → List ℕ
-chooseBy key components = chosenOf candidates (marksOf key candidates components)
+-- the choice among some systems by a key, in an order of components
+abbrev pub chooseBy : (ℕ → ℕ) → List ℕ → List ℕ → List ℕ
+chooseBy key systems components = chosenOf systems (marksOf key systems components)
 
--- the choice for a mixture; absent components are passed over
+-- the choice among some systems for a mixture of n components, in an order of them; absent ones are passed over
+abbrev pub chooseIn : ℕ → List ℕ → List ℕ → List ℕ → List ℕ
+chooseIn n systems components mix =
+    chooseBy (standingBy (presentTo n mix) (allTo mix n) mix) systems (keep (presentTo n mix) components)
+
+-- the choice for a mixture
 unfoldable pub chooseOf : List ℕ → List ℕ
-chooseOf mix = chooseBy (standingOf mix) (keep (presentOf mix) order)
+chooseOf mix = chooseIn COMPONENTS (candidatesOf (presentOf mix)) order mix
 
 -- ---- the choice as it is answered: the count, and room for 8 systems with 0 in the places left over
 

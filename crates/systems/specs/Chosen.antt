@@ -1,12 +1,13 @@
--- Theorems of the choice, for every mixture in which two components or more are present: two systems come out where two
--- are present, else three; they are different candidates, rising; each present component is in at least two of them,
--- and each of them contains two present components or more.
+-- Theorems of the choice, for every mixture in which two components or more are present: two to five systems come out,
+-- different ones of those that are offered, rising; each present component is in at least two of them, and each of them
+-- contains one that is present. Where methane is among those present, two systems come out for two, three for three and
+-- for four, four or five for five, and each contains two present components or more.
 --
 -- Nothing of a system's standing is used but that a component takes, of the systems that contain it and are not chosen,
 -- one with the most components present: for each set of components one test is computed over every way to take such
 -- systems. Assumes nothing.
 use Prim.Native.Nat.{ℕ, _^_, _≤_, _<_}
-use mathlib.Core.Path.{_≡_, refl}
+use mathlib.Core.Path.{_≡_, refl, _∙_}
 use mathlib.Core.List.{List, [], _∷_}
 use mathlib.Core.Bool.{Bool, true, false, not, _&&_, _||_}
 use native.Mathlib.Omega.{arith}
@@ -14,15 +15,16 @@ use lib.Ieee.Fits.{and-i, and-l, and-r}
 use lib.Count.{ones}
 use lib.Dec.{T, eqb, ltb, leb, eqb→eq, ltb→lt, leb→le, le→leb}
 use lib.ListN.{getD, set, length, replicate}
-use borrow.Author.Tests.{eq-eqb, ne-eqb, ltb-true, ltb-false, lt-ltb, not-true}
-use Rattle.systems.specs.Systems.{COMPONENTS, memberOf, hasOf, elem, candidates, Candidate}
+use borrow.Author.Tests.{eqb-true, eq-eqb, ne-eqb, ltb-true, ltb-false, lt-ltb, not-true}
+use Rattle.systems.specs.Systems.{COMPONENTS, METHANE, HYDROGEN, memberOf, hasOf, elem, Candidate}
 use Rattle.systems.specs.Table.{of-true, to-true, every, each, everyTo, eachTo}
 use Rattle.systems.specs.Members.{countTo}
-use Rattle.systems.specs.Presence.{present-lt, standing-more}
+use Rattle.systems.specs.Presence.{present-is, present-lt, standing-more, offered-candidate}
 use Rattle.systems.specs.Fittest.{elem-here, elem-there, rises, Fittest, fittest-is}
 use Rattle.systems.specs.Choice.{NUMBERS, order, fold, maskFrom, maskOf, inMask, presentOf, presentCount}
 use Rattle.systems.specs.Choice.{presentIn, keep, containingOf, openOf, fittestOf, takeOf, passOf, marksOf}
-use Rattle.systems.specs.Choice.{listOf, chosenOf, chooseOf, paddedOf, choiceOf, standingOf}
+use Rattle.systems.specs.Choice.{listOf, chosenOf, chooseBy, chooseOf, paddedOf, choiceOf, standingOf}
+use Rattle.systems.specs.Choice.{candidatesFor, candidatesOf}
 
 -- the test passes at some number of the list
 abbrev pub some : (ℕ → Bool) → List ℕ → Bool
@@ -146,27 +148,48 @@ module _ (key rank : ℕ → ℕ) (systems : List ℕ) (r : T (rises 0 systems))
 
 -- ---- the theorems
 
--- how many systems are chosen where so many components are present: two for two, three for three and for four
-abbrev pub chosenCount : ℕ → ℕ
-chosenCount n = elim (eqb n 2) [ true ↦ 2 | false ↦ 3 ]
+-- no more are ever chosen
+abbrev pub MOST : ℕ
+MOST = 5
 
-pub two-chosen : (n : ℕ) → n ≡ 2 → chosenCount n ≡ 2
-two-chosen n e = rw (chosenCount, eq-eqb n 2 e)
+-- how many are where so many components are present, methane among them: two for two, three for three and for four,
+-- four or five for five
+abbrev pub chosenFor : ℕ → ℕ → Bool
+chosenFor n k =
+    elim (eqb n 2) [ true ↦ eqb k 2 | false ↦ elim (eqb n 5) [ true ↦ leb 4 k && leb k MOST | false ↦ eqb k 3 ] ]
 
-pub three-chosen : (n : ℕ) → 3 ≤ n → chosenCount n ≡ 3
-three-chosen n l = rw (chosenCount, ne-eqb n 2 (λ e. omega arith))
+pub two-chosen : (n k : ℕ) → n ≡ 2 → chosenFor n k ≡ true → k ≡ 2
+two-chosen n k e h = eqb-true k 2 (rw (chosenFor, eq-eqb n 2 e) at h)
+
+pub three-chosen : (n k : ℕ) → 3 ≤ n → n ≤ 4 → chosenFor n k ≡ true → k ≡ 3
+three-chosen n k l m h =
+    let other = rw (chosenFor, ne-eqb n 2 (λ e. absurd (omega arith))) at h in
+    eqb-true k 3 (rw (ne-eqb n 5 (λ e. absurd (omega arith))) at other)
+
+pub five-chosen : (n k : ℕ) → n ≡ 5 → chosenFor n k ≡ true → (4 ≤ k) × (k ≤ MOST)
+five-chosen n k e h =
+    let other = rw (chosenFor, ne-eqb n 2 (λ f. absurd (omega arith))) at h in
+    let t = of-true (leb 4 k && leb k MOST) (rw (eq-eqb n 5 e) at other) in
+    (leb→le 4 k (and-l (leb 4 k) (leb k MOST) t), leb→le k MOST (and-r (leb 4 k) (leb k MOST) t))
 
 -- what holds of k chosen systems `ch`, where the components of a mask are present
 pub record Choosable (present : ℕ) (ch : List ℕ) (k : ℕ) : Type 0 where
-  pub number : k ≡ chosenCount (ones present)
+  pub some : 2 ≤ k
+  pub few : k ≤ MOST
+  pub offered : (i : ℕ) → i < k → elem (getD ch i 0) (candidatesOf present) ≡ true
   pub known : (i : ℕ) → i < k → Candidate (getD ch i 0)
   pub rising : (i j : ℕ) → i < j → j < k → getD ch i 0 < getD ch j 0
   pub twice : (c : ℕ) → c < COMPONENTS → inMask present c ≡ true → 2 ≤ countTo (λ i. hasOf (getD ch i 0) c) k
+  pub supplied : (i : ℕ) → i < k → 1 ≤ presentIn present (getD ch i 0)
+
+-- and besides where methane is one of them
+pub record Filled (present : ℕ) (ch : List ℕ) (k : ℕ) : Type 0 where
+  pub number : chosenFor (ones present) k ≡ true
   pub filled : (i : ℕ) → i < k → 2 ≤ presentIn present (getD ch i 0)
 
--- the same as a test
-knownAt : List ℕ → ℕ → Bool
-knownAt ch i = elem (getD ch i 0) candidates
+-- the same as tests
+offeredAt : ℕ → List ℕ → ℕ → Bool
+offeredAt present ch i = elem (getD ch i 0) (candidatesOf present)
 
 risesAt : List ℕ → ℕ → ℕ → Bool
 risesAt ch i j = not (ltb i j) || ltb (getD ch i 0) (getD ch j 0)
@@ -174,16 +197,19 @@ risesAt ch i j = not (ltb i j) || ltb (getD ch i 0) (getD ch j 0)
 twiceAt : ℕ → List ℕ → ℕ → ℕ → Bool
 twiceAt present ch k c = not (inMask present c) || leb 2 (countTo (λ i. hasOf (getD ch i 0) c) k)
 
-filledAt : ℕ → List ℕ → ℕ → Bool
-filledAt present ch i = leb 2 (presentIn present (getD ch i 0))
+filledAt : ℕ → ℕ → List ℕ → ℕ → Bool
+filledAt n present ch i = leb n (presentIn present (getD ch i 0))
 
 choosable : ℕ → List ℕ → ℕ → Bool
 choosable present ch k =
-    eqb k (chosenCount (ones present))
-    && (everyTo (knownAt ch) k
+    (leb 2 k && leb k MOST)
+    && (everyTo (offeredAt present ch) k
     && (everyTo (λ i. everyTo (risesAt ch i) k) k
     && (everyTo (twiceAt present ch k) COMPONENTS
-    && everyTo (filledAt present ch) k)))
+    && everyTo (filledAt 1 present ch) k)))
+
+full : ℕ → List ℕ → ℕ → Bool
+full present ch k = chosenFor (ones present) k && everyTo (filledAt 2 present ch) k
 
 five : (a b c d e : Bool) → T (a && (b && (c && (d && e)))) → T a × T b × T c × T d × T e
 five a b c d e t =
@@ -192,15 +218,19 @@ five a b c d e t =
     let w = and-r c (d && e) v in
     (and-l a (b && (c && (d && e))) t, and-l b (c && (d && e)) u, and-l c (d && e) v, and-l d e w, and-r d e w)
 
-of-test : (present : ℕ) (ch : List ℕ) (k : ℕ) → T (choosable present ch k) → Choosable present ch k
-unfolding choosable knownAt risesAt twiceAt filledAt
-of-test present ch k t =
-    let (number, known, rises, twice, filled) =
-    five (eqb k (chosenCount (ones present))) (everyTo (knownAt ch) k) (everyTo (λ i. everyTo (risesAt ch i) k) k)
-    (everyTo (twiceAt present ch k) COMPONENTS) (everyTo (filledAt present ch) k) t in
+of-choosable : (present : ℕ) (ch : List ℕ) (k : ℕ) → T (choosable present ch k) → Choosable present ch k
+unfolding choosable offeredAt risesAt twiceAt filledAt
+of-choosable present ch k t =
+    let (number, offered, rises, twice, supplied) =
+    five (leb 2 k && leb k MOST) (everyTo (offeredAt present ch) k) (everyTo (λ i. everyTo (risesAt ch i) k) k)
+    (everyTo (twiceAt present ch k) COMPONENTS) (everyTo (filledAt 1 present ch) k) t in
+    let among : ((i : ℕ) → i < k → elem (getD ch i 0) (candidatesOf present) ≡ true) =
+    λ i h. to-true (offeredAt present ch i) (eachTo (offeredAt present ch) k offered i h) in
     record {
-      number = eqb→eq k (chosenCount (ones present)) number;
-      known = λ i h. record { listed = to-true (knownAt ch i) (eachTo (knownAt ch) k known i h) };
+      some = leb→le 2 k (and-l (leb 2 k) (leb k MOST) number);
+      few = leb→le k MOST (and-r (leb 2 k) (leb k MOST) number);
+      offered = among;
+      known = λ i h. record { listed = offered-candidate present (getD ch i 0) (among i h) };
       rising = λ i j h l.
           let row = eachTo (λ i. everyTo (risesAt ch i) k) k rises i (omega arith) in
           ltb→lt (getD ch i 0) (getD ch j 0)
@@ -209,61 +239,123 @@ of-test present ch k t =
           let count = countTo (λ i. hasOf (getD ch i 0) c) k in
           leb→le 2 count
           (passed (inMask present c) (leb 2 count) (eachTo (twiceAt present ch k) COMPONENTS twice c h) e);
-      filled = λ i h. leb→le 2 (presentIn present (getD ch i 0)) (eachTo (filledAt present ch) k filled i h);
+      supplied = λ i h. leb→le 1 (presentIn present (getD ch i 0)) (eachTo (filledAt 1 present ch) k supplied i h);
+    }
+
+of-full : (present : ℕ) (ch : List ℕ) (k : ℕ) → T (full present ch k) → Filled present ch k
+unfolding full filledAt
+of-full present ch k t =
+    let number = and-l (chosenFor (ones present) k) (everyTo (filledAt 2 present ch) k) t in
+    let filled = and-r (chosenFor (ones present) k) (everyTo (filledAt 2 present ch) k) t in
+    record {
+      number = to-true (chosenFor (ones present) k) number;
+      filled = λ i h. leb→le 2 (presentIn present (getD ch i 0)) (eachTo (filledAt 2 present ch) k filled i h);
     }
 
 -- the chosen systems, and the list that is answered, pass
-good : ℕ → List ℕ → Bool
-good present l = choosable present l (length l) && choosable present (paddedOf l) (length l)
+good : ℕ → List ℕ → ℕ → Bool
+good present ch k = choosable present ch k && (not (inMask present METHANE) || full present ch k)
+
+goodBoth : ℕ → List ℕ → Bool
+goodBoth present l = good present l (length l) && good present (paddedOf l) (length l)
 
 goodMarks : ℕ → List Bool → Bool
-goodMarks present marks = good present (chosenOf candidates marks)
+goodMarks present marks = goodBoth present (chosenOf (candidatesOf present) marks)
 
 -- however each component takes its systems in the second pass, and in the first
 second : ℕ → List Bool → Bool
-second present marks = always (goodMarks present) (presentIn present) candidates 2 (keep present order) marks
+second present marks =
+    always (goodMarks present) (presentIn present) (candidatesOf present) 2 (keep present order) marks
 
 first : ℕ → Bool
-first present = always (second present) (presentIn present) candidates 1 (keep present order) (replicate NUMBERS false)
+first present =
+    always (second present) (presentIn present) (candidatesOf present) 1 (keep present order) (replicate NUMBERS false)
 
 -- for each set of two components or more
 enough : ℕ → Bool
 enough present = not (leb 2 (ones present)) || first present
 
 each-set : T (everyTo enough (2 ^ COMPONENTS))
-unfolding enough first second goodMarks good choosable knownAt risesAt twiceAt filledAt paddedOf chosenOf listOf fold
-    containingOf hasOf memberOf elem countTo keep inMask presentIn maskOf maskFrom ones
+unfolding enough first second goodMarks goodBoth good full choosable offeredAt risesAt twiceAt filledAt paddedOf
+    chosenOf listOf fold containingOf hasOf memberOf elem countTo keep inMask presentIn maskOf maskFrom ones candidatesOf
 each-set = tt
+
+rising-offered : (present : ℕ) → T (rises 0 (candidatesOf present))
+unfolding candidatesOf
+rising-offered present = go (inMask present HYDROGEN)
+  where
+    go : (hydrogen : Bool) → T (rises 0 (candidatesFor hydrogen))
+    go true = tt
+    go false = tt
 
 -- so for every key that puts the systems with more components present first
 passes-always : (present : ℕ) (key : ℕ → ℕ) → present < 2 ^ COMPONENTS → 2 ≤ ones present
-    → ((s t : ℕ) → elem s candidates ≡ true → presentIn present s < presentIn present t → key s < key t)
-    → T (good present (chosenOf candidates (marksOf key candidates (keep present order))))
+    → ((s t : ℕ) → elem s (candidatesOf present) ≡ true → presentIn present s < presentIn present t → key s < key t)
+    → T (goodBoth present (chooseBy key (candidatesOf present) (keep present order)))
 unfolding marksOf enough first second goodMarks
 passes-always present key l h b =
-    pass-good key (presentIn present) candidates tt b (goodMarks present) 2 (keep present order)
-    (passOf key candidates (keep present order) 1 (replicate NUMBERS false))
-    (pass-good key (presentIn present) candidates tt b (second present) 1 (keep present order) (replicate NUMBERS false)
+    let rise = rising-offered present in
+    pass-good key (presentIn present) (candidatesOf present) rise b (goodMarks present) 2 (keep present order)
+    (passOf key (candidatesOf present) (keep present order) 1 (replicate NUMBERS false))
+    (pass-good key (presentIn present) (candidatesOf present) rise b (second present) 1 (keep present order)
+    (replicate NUMBERS false)
     (passed (leb 2 (ones present)) (first present) (eachTo enough (2 ^ COMPONENTS) each-set present l)
     (to-true (leb 2 (ones present)) (le→leb 2 (ones present) h))))
 
+-- for every mixture of two components or more
 module _ (mix : List ℕ) (h : 2 ≤ presentCount mix) where
-  tested : T (good (presentOf mix) (chooseOf mix))
-  unfolding chooseOf
-  tested = passes-always (presentOf mix) (standingOf mix) (present-lt mix) h (standing-more mix)
+  tested : T (goodBoth (presentOf mix) (chooseOf mix))
+  unfolding chooseOf standingOf presentOf
+  tested =
+      passes-always (presentOf mix) (standingOf mix) (present-lt mix) h
+      (λ s t e. standing-more mix s t (offered-candidate (presentOf mix) s e))
 
-  -- for every mixture of two components or more
-  pub choose-choosable : Choosable (presentOf mix) (chooseOf mix) (length (chooseOf mix))
-  unfolding good
-  choose-choosable =
-      of-test (presentOf mix) (chooseOf mix) (length (chooseOf mix))
-      (and-l (choosable (presentOf mix) (chooseOf mix) (length (chooseOf mix)))
-      (choosable (presentOf mix) (paddedOf (chooseOf mix)) (length (chooseOf mix))) tested)
+  listed-good : T (good (presentOf mix) (chooseOf mix) (length (chooseOf mix)))
+  unfolding goodBoth
+  listed-good =
+      and-l (good (presentOf mix) (chooseOf mix) (length (chooseOf mix)))
+      (good (presentOf mix) (paddedOf (chooseOf mix)) (length (chooseOf mix))) tested
 
-  -- and so of the choice as it is answered
-  pub choice-choosable : Choosable (presentOf mix) (choiceOf mix .systems) (choiceOf mix .count)
-  unfolding good
-  choice-choosable =
-      of-test (presentOf mix) (paddedOf (chooseOf mix)) (length (chooseOf mix))
-      (and-r (choosable (presentOf mix) (chooseOf mix) (length (chooseOf mix)))
-      (choosable (presentOf mix) (paddedOf (chooseOf mix)) (length (chooseOf mix))) tested)
+  answered-good : T (good (presentOf mix) (paddedOf (chooseOf mix)) (length (chooseOf mix)))
+  unfolding goodBoth
+  answered-good =
+      and-r (good (presentOf mix) (chooseOf mix) (length (chooseOf mix)))
+      (good (presentOf mix) (paddedOf (chooseOf mix)) (length (chooseOf mix))) tested
+
+good-choosable : (present : ℕ) (ch : List ℕ) (k : ℕ) → T (good present ch k) → Choosable present ch k
+unfolding good
+good-choosable present ch k t =
+    of-choosable present ch k (and-l (choosable present ch k) (not (inMask present METHANE) || full present ch k) t)
+
+good-filled : (present : ℕ) (ch : List ℕ) (k : ℕ) → inMask present METHANE ≡ true → T (good present ch k)
+    → Filled present ch k
+unfolding good
+good-filled present ch k m t =
+    of-full present ch k
+    (passed (inMask present METHANE) (full present ch k)
+    (and-r (choosable present ch k) (not (inMask present METHANE) || full present ch k) t) m)
+
+-- the chosen systems, and the choice as it is answered
+pub choose-choosable : (mix : List ℕ) → 2 ≤ presentCount mix
+    → Choosable (presentOf mix) (chooseOf mix) (length (chooseOf mix))
+choose-choosable mix h = good-choosable (presentOf mix) (chooseOf mix) (length (chooseOf mix)) (listed-good mix h)
+
+pub choice-choosable : (mix : List ℕ) → 2 ≤ presentCount mix
+    → Choosable (presentOf mix) (choiceOf mix .systems) (choiceOf mix .count)
+choice-choosable mix h =
+    good-choosable (presentOf mix) (paddedOf (chooseOf mix)) (length (chooseOf mix)) (answered-good mix h)
+
+-- and where methane is present
+methane-in : (mix : List ℕ) → 0 < getD mix METHANE 0 → inMask (presentOf mix) METHANE ≡ true
+methane-in mix m = present-is mix METHANE (omega arith) ∙ lt-ltb 0 (getD mix METHANE 0) m
+
+pub choose-filled : (mix : List ℕ) → 2 ≤ presentCount mix → 0 < getD mix METHANE 0
+    → Filled (presentOf mix) (chooseOf mix) (length (chooseOf mix))
+choose-filled mix h m =
+    good-filled (presentOf mix) (chooseOf mix) (length (chooseOf mix)) (methane-in mix m) (listed-good mix h)
+
+pub choice-filled : (mix : List ℕ) → 2 ≤ presentCount mix → 0 < getD mix METHANE 0
+    → Filled (presentOf mix) (choiceOf mix .systems) (choiceOf mix .count)
+choice-filled mix h m =
+    good-filled (presentOf mix) (paddedOf (chooseOf mix)) (length (chooseOf mix)) (methane-in mix m)
+    (answered-good mix h)

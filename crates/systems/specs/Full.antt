@@ -1,4 +1,4 @@
--- Where all components are present, the choice is that by fitness alone. Assumes nothing.
+-- Where all components are present, or all but hydrogen, the choice is that by fitness alone. Assumes nothing.
 use Prim.Native.Nat.{ℕ, zero, suc, _+_, _^_, _-_, _<_}
 use mathlib.Core.Path.{_≡_, refl, sym, ap, ap₂, _∙_}
 use mathlib.Core.List.{List, [], _∷_}
@@ -10,14 +10,16 @@ use lib.Count.{ones}
 use lib.Dec.{T, eqb, ltb, eqb→eq, ltb→lt}
 use lib.ListN.{getD, set, replicate}
 use borrow.Author.Tests.{ltb-true, ltb-false, lt-ltb, le-ltb}
-use Rattle.systems.specs.Systems.{COMPONENTS, memberOf, hasOf, elem, candidates}
+use Rattle.systems.specs.Systems.{COMPONENTS, HYDROGEN, memberOf, hasOf, elem, candidates, hydrocarbonSystems}
 use Rattle.systems.specs.Table.{of-true, every, each, none-has}
 use Rattle.systems.specs.Scores.{score-open, score-closed, better-cases}
 use Rattle.systems.specs.Fittest.{elem-here, elem-there}
-use Rattle.systems.specs.Presence.{standing-fitter}
-use Rattle.systems.specs.Choice.{NUMBERS, order, fold, maskFrom, maskOf, inMask, presentAt, presentOf, presentIn}
-use Rattle.systems.specs.Choice.{keep, fitnessOf, standingOf, isChosen, containingOf, openOf, scoreOf, betterOf}
-use Rattle.systems.specs.Choice.{fittestOf, takeOf, passOf, marksOf, chosenOf, chooseBy, chooseOf}
+use Rattle.systems.specs.Presence.{standing-fitter, choose-is}
+use Rattle.systems.specs.Without.{HYDROCARBONS, present-before}
+use Rattle.systems.specs.Choice.{NUMBERS, hydrocarbonOrder, order, fold, maskFrom, maskOf, inMask, presentAt}
+use Rattle.systems.specs.Choice.{presentTo, presentOf, presentIn, keep, fitnessOf, standingOf, isChosen}
+use Rattle.systems.specs.Choice.{containingOf, openOf, scoreOf, betterOf, fittestOf, takeOf, passOf, marksOf}
+use Rattle.systems.specs.Choice.{candidatesOf, chosenOf, chooseBy, chooseOf}
 
 ltb-suc : (a b : ℕ) → ltb (a + 1) (b + 1) ≡ ltb a b
 ltb-suc a b = go (ltb a b) refl
@@ -99,11 +101,23 @@ module _ (k l : ℕ → ℕ) (systems : List ℕ)
       pass-alike 2 components t (passOf k systems components 1 (replicate NUMBERS false))
       ∙ ap (passOf l systems components 2) (pass-alike 1 components t (replicate NUMBERS false))
 
--- ---- all present
+-- ---- where every candidate has all three of its components present
 
--- the set of all components
-abbrev pub ALL : ℕ
-ALL = 2 ^ COMPONENTS - 1
+threeIn : ℕ → ℕ → Bool
+threeIn present s = eqb (presentIn present s) 3
+
+-- the fitness alone decides
+module _ (mix : List ℕ) (p : ℕ) (is : presentOf mix ≡ p) (systems components : List ℕ)
+    (three : T (every (threeIn p) systems)) (low : T (every (λ c. ltb c COMPONENTS) components)) where
+  three-in : (s : ℕ) → elem s systems ≡ true → presentIn (presentOf mix) s ≡ 3
+  unfolding threeIn
+  three-in s e = ap (λ m. presentIn m s) is ∙ eqb→eq (presentIn p s) 3 (each (threeIn p) systems three s e)
+
+  by-fitness : chooseBy (standingOf mix) systems components ≡ chooseBy (fitnessOf mix) systems components
+  by-fitness =
+      ap (chosenOf systems)
+      (marks-alike (standingOf mix) (fitnessOf mix) systems
+      (λ s t e f. standing-fitter mix s t (three-in s e ∙ sym (three-in t f))) components low)
 
 mask-all : (f : ℕ → Bool) (n i : ℕ) → ((c : ℕ) → c < n → f (i + c) ≡ true) → maskFrom f n i + 1 ≡ 2 ^ n
 unfolding maskFrom
@@ -113,33 +127,32 @@ mask-all f (suc n) i h =
     let r = mask-all f n (i + 1) (λ c l. ap f (omega arith) ∙ h (suc c) (omega arith)) in
     rw (e, pow-suc 2 n) (omega arith)
 
-pub all-present : (mix : List ℕ) → ((c : ℕ) → c < COMPONENTS → 0 < getD mix c 0) → presentOf mix ≡ ALL
+all-to : (mix : List ℕ) (n : ℕ) → ((c : ℕ) → c < n → 0 < getD mix c 0) → presentTo n mix + 1 ≡ 2 ^ n
+all-to mix n h =
+    mask-all (presentAt mix) n 0 (λ c l. lt-ltb 0 (getD mix (0 + c) 0) (h (0 + c) (omega arith)))
+
+-- for every mixture of all five components
+pub all-present : (mix : List ℕ) → ((c : ℕ) → c < COMPONENTS → 0 < getD mix c 0) → presentOf mix ≡ 2 ^ COMPONENTS - 1
 unfolding presentOf
-all-present mix h =
-    let e = mask-all (presentAt mix) COMPONENTS 0 (λ c l. lt-ltb 0 (getD mix (0 + c) 0) (h (0 + c) (omega arith))) in
-    omega arith
+all-present mix h = omega (arith, all-to mix COMPONENTS h)
 
--- each candidate then has all three of its components present
-threeIn : ℕ → Bool
-threeIn s = eqb (presentIn ALL s) 3
-
-three-in : (s : ℕ) → elem s candidates ≡ true → presentIn ALL s ≡ 3
-unfolding threeIn presentIn maskOf maskFrom hasOf memberOf ones
-three-in s e = eqb→eq (presentIn ALL s) 3 (each threeIn candidates tt s e)
-
--- and the fitness alone decides
-pub choose-all : (mix : List ℕ) → presentOf mix ≡ ALL → chooseOf mix ≡ chooseBy (fitnessOf mix) order
-unfolding chooseOf keep inMask
-choose-all mix p =
-    ap (λ m. chosenOf candidates (marksOf (standingOf mix) candidates (keep m order))) p
-    ∙ ap (chosenOf candidates)
-    (marks-alike (standingOf mix) (fitnessOf mix) candidates
-    (λ s t e f.
-    standing-fitter mix s t
-    (ap (λ m. presentIn m s) p ∙ three-in s e ∙ sym (ap (λ m. presentIn m t) p ∙ three-in t f)))
-    order tt)
-
--- for every mixture of all components
 pub choose-fittest : (mix : List ℕ) → ((c : ℕ) → c < COMPONENTS → 0 < getD mix c 0)
-    → chooseOf mix ≡ chooseBy (fitnessOf mix) order
-choose-fittest mix h = choose-all mix (all-present mix h)
+    → chooseOf mix ≡ chooseBy (fitnessOf mix) candidates order
+unfolding candidatesOf keep inMask threeIn presentIn maskOf maskFrom hasOf memberOf ones
+choose-fittest mix h =
+    let e = all-present mix h in
+    choose-is mix ∙ ap (λ p. chooseBy (standingOf mix) (candidatesOf p) (keep p order)) e
+    ∙ by-fitness mix (2 ^ COMPONENTS - 1) e candidates order tt tt
+
+-- and of all but hydrogen
+pub four-present : (mix : List ℕ) → ((c : ℕ) → c < HYDROCARBONS → 0 < getD mix c 0) → getD mix HYDROGEN 0 ≡ 0
+    → presentOf mix ≡ 2 ^ HYDROCARBONS - 1
+four-present mix h none = present-before mix none ∙ omega (arith, all-to mix HYDROCARBONS h)
+
+pub four-fittest : (mix : List ℕ) → ((c : ℕ) → c < HYDROCARBONS → 0 < getD mix c 0) → getD mix HYDROGEN 0 ≡ 0
+    → chooseOf mix ≡ chooseBy (fitnessOf mix) hydrocarbonSystems hydrocarbonOrder
+unfolding candidatesOf keep inMask threeIn presentIn maskOf maskFrom hasOf memberOf ones
+four-fittest mix h none =
+    let e = four-present mix h none in
+    choose-is mix ∙ ap (λ p. chooseBy (standingOf mix) (candidatesOf p) (keep p order)) e
+    ∙ by-fitness mix (2 ^ HYDROCARBONS - 1) e hydrocarbonSystems hydrocarbonOrder tt tt

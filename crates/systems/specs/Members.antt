@@ -1,14 +1,15 @@
 -- What holds of each candidate and its three members, each by one computed test over the candidates. Assumes nothing.
 use Prim.Native.Nat.{ℕ, zero, suc, _+_, _≤_, _<_}
 use mathlib.Core.Path.{_≡_, refl}
-use mathlib.Core.Bool.{Bool, true, false, not, cond, _||_}
+use mathlib.Core.Bool.{Bool, true, false, not, cond, _||_, Bool·beq}
 use mathlib.Core.List.{[], _∷_}
 use native.Mathlib.Omega.{arith}
 use lib.Dec.{T, eqb, ltb, leb, eqb→eq, ltb→lt, leb→le}
 use lib.ListN.{getD, length, List·getD-eq-default}
 use borrow.Author.Tests.{eqb-true, eq-eqb}
-use Rattle.systems.specs.Systems.{COMPONENTS, members, memberOf, hasOf, elem, Candidate}
-use Rattle.systems.specs.Table.{each-candidate, everyTo, eachTo, to-true, of-true}
+use Rattle.systems.specs.Systems.{COMPONENTS, HYDROGEN, hydrocarbonSystems, members, memberOf, hasOf, elem}
+use Rattle.systems.specs.Systems.{Candidate}
+use Rattle.systems.specs.Table.{each-candidate, everyTo, eachTo, of-true, beq-is}
 
 -- the number of the numbers below n that the test passes at
 unfoldable pub countTo : (ℕ → Bool) → ℕ → ℕ
@@ -58,6 +59,15 @@ three system = eqb (countTo (hasOf system) COMPONENTS) 3
 pub has-three : (system : ℕ) → Candidate system → countTo (hasOf system) COMPONENTS ≡ 3
 unfolding three countTo hasOf memberOf
 has-three system k = eqb→eq (countTo (hasOf system) COMPONENTS) 3 (each-candidate three tt system k)
+
+-- those of hydrocarbons alone are the ones that lack hydrogen
+lacksHydrogen : ℕ → Bool
+lacksHydrogen system = Bool·beq (elem system hydrocarbonSystems) (not (hasOf system HYDROGEN))
+
+pub hydrocarbons-are : (system : ℕ) → Candidate system → elem system hydrocarbonSystems ≡ not (hasOf system HYDROGEN)
+unfolding lacksHydrogen elem hasOf memberOf
+hydrocarbons-are system k =
+    beq-is (elem system hydrocarbonSystems) (not (hasOf system HYDROGEN)) (each-candidate lacksHydrogen tt system k)
 
 -- ---- of every number: a system contains its three members, and nothing else
 

@@ -11,11 +11,12 @@ use lib.Count.{ones, ones-step}
 use lib.ListN.{getD}
 use lib.Pow.{shr-shr}
 use borrow.Author.Tests.{eqb-true, eqb-false, ltb-true, ltb-false, lt-ltb, le-ltb}
-use Rattle.systems.specs.Systems.{COMPONENTS, memberOf, hasOf, elem, candidates}
-use Rattle.systems.specs.Table.{of-true}
+use Rattle.systems.specs.Systems.{COMPONENTS, HYDROGEN, memberOf, hasOf, elem, candidates, hydrocarbonSystems}
+use Rattle.systems.specs.Table.{of-true, to-true, each}
 use Rattle.systems.specs.Members.{countTo}
 use Rattle.systems.specs.Choice.{fitnessOf, allTo, maskFrom, inMask, presentAt, presentOf, presentCount, maskOf}
-use Rattle.systems.specs.Choice.{presentIn, standingOf}
+use Rattle.systems.specs.Choice.{presentIn, standingOf, candidatesFor, candidatesOf, order, keep, chooseBy}
+use Rattle.systems.specs.Choice.{chooseOf}
 
 -- ---- masks
 
@@ -190,12 +191,32 @@ every-elem P (x ∷ xs) e s h = go (eqb s x) refl (every-elem P xs (e .1) s)
     go true q r = rw (eqb-true s x q) (e .0)
     go false q r = r (rw (q, elem) at h)
 
+-- the choice is the one by standing, among what is offered, of the components present
+pub choose-is : (mix : List ℕ)
+    → chooseOf mix ≡ chooseBy (standingOf mix) (candidatesOf (presentOf mix)) (keep (presentOf mix) order)
+unfolding chooseOf standingOf presentOf
+choose-is mix = refl
+
+-- what is offered is a candidate
+listed : ℕ → Bool
+listed s = elem s candidates
+
+pub offered-candidate : (present s : ℕ) → elem s (candidatesOf present) ≡ true → elem s candidates ≡ true
+unfolding candidatesOf listed elem
+offered-candidate present s = go (inMask present HYDROGEN)
+  where
+    go : (hydrogen : Bool) → elem s (candidatesFor hydrogen) ≡ true → elem s candidates ≡ true
+    go true e = e
+    go false e = to-true (listed s) (each listed hydrocarbonSystems tt s e)
+
 -- no candidate's fitness is above that of everything
 pub fitness-le : (mix : List ℕ) (s : ℕ) → elem s candidates ≡ true → fitnessOf mix s ≤ allTo mix COMPONENTS
 unfolding Every allTo fitnessOf memberOf
 fitness-le mix =
-    every-elem (λ s. fitnessOf mix s ≤ allTo mix COMPONENTS) candidates
-    (omega arith, (omega arith, (omega arith, (omega arith, omega arith))))
+    every-elem (λ s. fitnessOf mix s ≤ allTo mix COMPONENTS) candidates (
+      omega arith,
+      (omega arith, (omega arith, (omega arith, (omega arith, (omega arith, (omega arith, omega arith)))))),
+    )
 
 -- the first of two figures decides
 first-decides : (p q k f g : ℕ) → f < k → p < q → p * k + f < q * k + g

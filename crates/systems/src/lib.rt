@@ -4,18 +4,20 @@ ghost use Prim.Native.Nat.{_*_, _/_, _%_, _^_, _<_};
 ghost use Rattle.systems.specs.Systems.{memberOf, hasOf};
 ghost use Rattle.systems.specs.Choice.{NUMBERS, maskOf};
 
-// How many components there are: methane 0, ethane 1, propane 2, butane 3.
-pub const COMPONENTS: usize = 4;
+// How many components there are: methane 0, ethane 1, propane 2, butane 3, hydrogen 4.
+pub const COMPONENTS: usize = 5;
+
+pub const HYDROGEN: usize = 4;
 
 // System numbers are below this one.
 const NUMBERS: usize = 9;
 
 // The systems' first, second and third components: an octal digit for each system number, from the right.
-const FIRST: u64 = 0o004404244;
+const FIRST: u64 = 0o000005205;
 
-const SECOND: u64 = 0o124414144;
+const SECOND: u64 = 0o124415145;
 
-const THIRD: u64 = 0o334424344;
+const THIRD: u64 = 0o333225315;
 
 // The digit of a table of octal digits.
 fn digit(table: u64, place: usize) -> usize
@@ -45,9 +47,14 @@ pub fn member(system: u8, j: usize) -> usize
     COMPONENTS
 }
 
-// What each system number has for its members: five bits a number, from the right, one for each component and the last for
-// COMPONENTS, which numbers that are no candidates have.
-const HELD: u64 = 0b01011_01101_10000_10000_00111_10000_01110_10000_10000;
+// What each system number has for its members: so many bits a number, from the right, one for each component and the last
+// for COMPONENTS, which numbers that are no candidates have.
+const HELD: u64 = 0b001011_001101_011001_010101_000111_100000_001110_010011_100000;
+
+const BITS: usize = 6;
+
+// All components, a bit for each, and 1.
+const MASKS: u64 = 32;
 
 // Whether the system contains component c.
 pub fn has(system: u8, c: usize) -> bool
@@ -60,7 +67,7 @@ pub fn has(system: u8, c: usize) -> bool
     if c > COMPONENTS {
         return false;
     }
-    (HELD >> (s * 5 + c)) % 2 == 1
+    (HELD >> (s * BITS + c)) % 2 == 1
 }
 
 // The components that the system contains, a bit for each.
@@ -71,7 +78,7 @@ pub fn mask(system: u8) -> u32
     if s >= NUMBERS {
         return 0;
     }
-    ((HELD >> (s * 5)) % 16) as u32
+    ((HELD >> (s * BITS)) % MASKS) as u32
 }
 
 // Room for chosen systems.

@@ -1,28 +1,34 @@
 -- `choice::choose` meets its contract. Assumes nothing.
-use Rattle.choice.proofs.Listing.{choice-is}
+use mathlib.Core.Bool.{true, false}
+use borrow.Author.Tests.{eq-eqb, ne-eqb}
+use Rattle.systems.specs.Choice.{inMask}
+use Rattle.choice.proofs.Listing.{offered-choice}
 use borrow.Author.Needs.{needs}
 use Rattle.choice.proofs.choose.Statement.{statement}
 use Rattle.choice.proofs.choose.Tie as tie
-use Rattle.choice.proofs.keys_of.Reads as keys-of-reads
-use Rattle.choice.proofs.listed.Reads as listed-reads
-use Rattle.choice.proofs.present.Reads as present-reads
-use Rattle.choice.proofs.turns.Reads as turns-reads
 
 present-requires : tie.Need-present-requires
 present-requires c κs = search needs
 
-keys-of-requires : tie.Need-keys-of-requires
-keys-of-requires c κs = search needs
+cast-if1 : tie.Need-cast-if1
+cast-if1 c = search needs
 
-turns-requires : tie.Need-turns-requires
-turns-requires c κs = search needs
+shr-if1 : tie.Need-shr-if1
+shr-if1 c = search needs
 
-listed-requires : tie.Need-listed-requires
-listed-requires c κs = search needs
+among-all-requires : tie.Need-among-all-requires
+among-all-requires c κs = search needs
 
 returns : tie.Need-returns
-returns c = choice-is _ _ _ _ (c .before .before .before .before .present .ensures) (c .before .turns .ensures _ (c .before .before .before .keys-of .ensures)) (c .listed .ensures)
+unfolding inMask
+returns c = offered-choice true _ _ _ (c .before .before .present .ensures) (eq-eqb _ 1 (c .before .if1 .taken)) (c .among-all .ensures)
+
+among-hydrocarbons-requires : tie.Need-among-hydrocarbons-requires
+among-hydrocarbons-requires c κs = search needs
+
+returns-2 : tie.Need-returns-2
+unfolding inMask
+returns-2 c = offered-choice false _ _ _ (c .before .before .present .ensures) (ne-eqb _ 1 (c .before .if1 .left)) (c .among-hydrocarbons .ensures)
 
 pub choose-spec : {M : Type 1} → statement M
-choose-spec =
-    tie.close (tie.spec present-requires keys-of-requires turns-requires listed-requires returns)
+choose-spec = tie.close (tie.spec present-requires cast-if1 shr-if1 among-all-requires returns among-hydrocarbons-requires returns-2)

@@ -4,17 +4,19 @@ use mathlib.Core.Path.{_≡_, refl}
 use native.Mathlib.Omega.{arith}
 use borrow.Author.Needs.{needs}
 use lib.ListN.{getD}
-use Rattle.systems.specs.Systems.{COMPONENTS, candidates}
+use Rattle.systems.specs.Systems.{COMPONENTS}
+use Rattle.systems.specs.Choice.{candidatesFor}
 use Rattle.choice.specs.Keys.{weighedTo}
 use Rattle.choice.proofs.Keying.{weighed-next}
 use Rattle.choice.proofs.fitness.Statement.{statement}
 use Rattle.choice.proofs.fitness.Tie as tie
 
 abbrev Inv-loop : tie.InvT-loop
-Inv-loop i m k₀ c₀ k c = (c ≤ COMPONENTS) × (k ≤ 429496729500 * c + 1) × (k ≡ weighedTo m (getD candidates i 0) c + 1)
+Inv-loop hydrogen i m k₀ c₀ k c =
+    (c ≤ COMPONENTS) × (k ≤ 429496729500 * c + 1) × (k ≡ weighedTo m (getD (candidatesFor hydrogen) i 0) c + 1)
 
 abbrev μ-loop : tie.MeasureT-loop
-μ-loop i m k₀ c₀ k c = COMPONENTS - c
+μ-loop hydrogen i m k₀ c₀ k c = COMPONENTS - c
 
 loop-holds : tie.Need-loop-holds Inv-loop μ-loop
 unfolding weighedTo

@@ -1,7 +1,8 @@
 -- `choice::turns` meets its contract. Assumes nothing.
-use Prim.Native.Nat.{_-_, _≤_}
+use Prim.Native.Nat.{_*_, _-_, _≤_}
 use mathlib.Core.Logic.{⊎-elim}
 use native.Mathlib.Omega.{arith}
+use Rattle.systems.specs.Systems.{COMPONENTS}
 use Rattle.choice.proofs.Packed.{order-lt}
 use Rattle.choice.proofs.Listing.{Turns, turns-none, turns-next, turns-over, turns-all}
 use borrow.Author.Needs.{needs}
@@ -11,13 +12,13 @@ use Rattle.choice.proofs.ordered.Reads as ordered-reads
 use Rattle.choice.proofs.take.Reads as take-reads
 
 abbrev Inv-loop : tie.InvT-loop
-Inv-loop keys₀ p i₀ keys i = (i ≤ 8) × Turns p keys₀ keys i
+Inv-loop keys₀ p hydrogen i₀ keys i = (i ≤ 2 * COMPONENTS) × Turns hydrogen p keys₀ keys i
 
 abbrev μ-loop : tie.MeasureT-loop
-μ-loop keys₀ p i₀ keys i = 8 - i
+μ-loop keys₀ p hydrogen i₀ keys i = 2 * COMPONENTS - i
 
 loop-holds : tie.Need-loop-holds Inv-loop μ-loop
-loop-holds c = (omega arith, λ fit k. turns-none _ fit _ k)
+loop-holds c = (omega arith, λ fit k. turns-none _ _ fit _ k)
 
 mul-loop : tie.Need-mul-loop Inv-loop μ-loop
 mul-loop c = search needs
@@ -47,13 +48,13 @@ loop-again : tie.Need-loop-again Inv-loop μ-loop
 loop-again c = (
   omega arith,
   ⊎-elim
-      (λ w. rw (w .3) (turns-next _ _ _ _ _ _ (c .before .before .before .loop .inv .1) (c .before .ordered .ensures) (w .0 .taken) (w .2 .ensures)))
-      (λ w. rw (w .1) (turns-over _ _ _ _ _ (c .before .before .before .loop .inv .1) (c .before .ordered .ensures) (w .0 .left)))
+      (λ w. rw (w .3) (turns-next _ _ _ _ _ _ _ (c .before .before .before .loop .inv .1) (c .before .ordered .ensures) (w .0 .taken) (w .2 .ensures)))
+      (λ w. rw (w .1) (turns-over _ _ _ _ _ _ (c .before .before .before .loop .inv .1) (c .before .ordered .ensures) (w .0 .left)))
       (c .if1 .came),
 )
 
 returns : tie.Need-returns Inv-loop μ-loop
-returns c = turns-all _ _ _ _ (c .before .loop .inv .1) (c .before .loop .inv .0) (c .loop-test .left)
+returns c = turns-all _ _ _ _ _ (c .before .loop .inv .1) (c .before .loop .inv .0) (c .loop-test .left)
 
 pub turns-spec : {M : Type 1} → statement M
 turns-spec =

@@ -1,5 +1,5 @@
 -- `mixture::tenths` meets its contract. Assumes nothing.
-use Rattle.mixture.proofs.Loops.{tenths-four}
+use Rattle.mixture.proofs.Loops.{tenths-each}
 use borrow.Author.Needs.{needs}
 use Rattle.mixture.proofs.tenths.Statement.{statement}
 use Rattle.mixture.proofs.tenths.Tie as tie
@@ -25,12 +25,20 @@ weighted-requires-3 c κs = search needs
 butane-requires : tie.Need-butane-requires
 butane-requires c κs = search needs
 
+element-copy-out-weighted-4 : tie.Need-element-copy-out-weighted-4
+element-copy-out-weighted-4 c = search needs
+
+weighted-requires-4 : tie.Need-weighted-requires-4
+weighted-requires-4 c κs = search needs
+
 returns : tie.Need-returns
 returns c =
-    let z = c .before in
+    let b = c .before .before in
+    let z = b .before in
     let y = z .before .before in
     let x = y .before .before in
-    tenths-four _ _ _ _ _ (x .weighted .ensures) (y .weighted2 .ensures) (z .weighted3 .ensures) (c .butane .ensures)
+    tenths-each _ _ _ _ _ _ (x .weighted .ensures) (y .weighted2 .ensures) (z .weighted3 .ensures) (b .butane .ensures)
+    (c .weighted4 .ensures)
 
 pub tenths-spec : {M : Type 1} → statement M
 tenths-spec =
@@ -43,4 +51,6 @@ tenths-spec =
     element-copy-out-weighted-3
     weighted-requires-3
     butane-requires
+    element-copy-out-weighted-4
+    weighted-requires-4
     returns)

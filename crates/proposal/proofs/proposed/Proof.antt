@@ -1,4 +1,5 @@
 -- `proposal::proposed` meets its contract. Assumes nothing.
+use Rattle.split.specs.Split.{CELLS}
 use Rattle.proposal.proofs.Answers.{unfit, proposal, unsummed, stock, answered}
 use lib.ListN.{length}
 use mathlib.Core.Path.{_≡_}
@@ -27,7 +28,7 @@ weighed-requires : tie.Need-weighed-requires
 weighed-requires c κs =
     let b = c .before .before .before .before in
     let p = proposal _ _ _ _ _ (b .before .fits2 .ensures) (b .if1 .left) in
-    let long : length (b .before .before .args .t4) ≡ 32 = search needs in
+    let long : length (b .before .before .args .t4) ≡ CELLS = search needs in
     (stock _ _ _ _ _ (b .before .fits2 .ensures) (b .if1 .left) _ _ (c .before .resums .ensures) (c .if2 .left) long, p .inert)
 
 returns-3 : tie.Need-returns-3

@@ -2,15 +2,16 @@
 use Prim.Native.Nat.{_-_, _≤_}
 use native.Mathlib.Omega.{arith}
 use borrow.Author.Needs.{needs}
+use Rattle.systems.specs.Systems.{COMPONENTS}
 use Rattle.proposal.proofs.Checks.{Summed, summed-none, summed-more, unsummed, summed-all}
 use Rattle.proposal.proofs.resums.Statement.{statement}
 use Rattle.proposal.proofs.resums.Tie as tie
 
 abbrev Inv-loop : tie.InvT-loop
-Inv-loop mix k a c₀ c = (c ≤ 4) × Summed mix k a c
+Inv-loop mix k a c₀ c = (c ≤ COMPONENTS) × Summed mix k a c
 
 abbrev μ-loop : tie.MeasureT-loop
-μ-loop mix k a c₀ c = 4 - c
+μ-loop mix k a c₀ c = COMPONENTS - c
 
 loop-holds : tie.Need-loop-holds Inv-loop μ-loop
 loop-holds c = (omega arith, summed-none _ _ _)

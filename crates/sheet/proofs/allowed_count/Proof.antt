@@ -1,39 +1,47 @@
 -- `sheet::allowed_count` meets its contract. Assumes nothing.
-use mathlib.Core.Path.{_≡_, refl, sym}
+use mathlib.Core.Path.{_≡_, refl, sym, _∙_}
 use mathlib.Core.Bool.{Bool, true, false}
-use Prim.Native.Nat.{ℕ, _%_, _≤_, _<_}
+use Prim.Native.Nat.{ℕ, suc, _%_, _≤_, _<_}
 use native.Mathlib.Omega.{arith}
-use lib.Dec.{eqb}
-use Rattle.sheet.specs.Split.{SHORTEST_SPLIT, LONGEST_SPLIT, allowedCount}
-use borrow.Author.Tests.{eq-eqb, ne-eqb, eqb-true, eqb-false}
+use lib.Dec.{eqb, ltb, leb}
+use lib.ListN.{replicate}
+use borrow.Author.Tests.{eq-eqb, ne-eqb, lt-ltb, le-ltb, leb-true}
+use Rattle.refusal.specs.Keys.{each-passes}
+use Rattle.analysis.specs.Register.{ifElse}
+use Rattle.analysis.specs.Table.{at, same, same-eq}
+use Rattle.sheet.specs.Split.{SHORTEST_SPLIT, LONGEST_SPLIT, splitCounts, allowedCount}
 use Rattle.sheet.proofs.allowed_count.Statement.{statement}
 use Rattle.sheet.proofs.allowed_count.Tie as tie
 
-none : (m : ℕ) → m ≡ 0 → allowedCount m ≡ true
+-- the code's tests of a count that is not above the most: computed at each
+abbrev tested : ℕ → Bool
+tested m = ifElse (eqb m 0) true (ifElse (ltb m SHORTEST_SPLIT) false (eqb (m % 3) 0))
+
+counted : (m : ℕ) → m ≤ LONGEST_SPLIT → tested m ≡ allowedCount m
 unfolding allowedCount
-none m e = rw (eq-eqb m 0 e)
+counted m l =
+    same-eq (tested m) (allowedCount m)
+    (at (λ k x. same (tested k) (allowedCount k)) (replicate (suc LONGEST_SPLIT) 0) tt m (omega arith))
+
+none : (m : ℕ) → m ≡ 0 → allowedCount m ≡ true
+none m e = rw (eq-eqb m 0 e) at (sym (counted m (omega arith)))
 
 -- no count between none and the least, and none above the most
 low : (m : ℕ) → (m ≡ 0 → ⊥) → m < SHORTEST_SPLIT → allowedCount m ≡ false
-unfolding allowedCount
-low m n l = rw (ne-eqb m 0 n, ne-eqb m 6 (λ e. omega arith), ne-eqb m 9 (λ e. omega arith))
+low m n l = sym (counted m (omega arith)) ∙ rw (ne-eqb m 0 n, lt-ltb m SHORTEST_SPLIT l)
 
 high : (m : ℕ) → LONGEST_SPLIT < m → allowedCount m ≡ false
 unfolding allowedCount
-high m l = rw (ne-eqb m 0 (λ e. omega arith), ne-eqb m 6 (λ e. omega arith), ne-eqb m 9 (λ e. omega arith))
+high m l = go (allowedCount m) refl
+  where
+    go : (b : Bool) → allowedCount m ≡ b → b ≡ false
+    go true e =
+        absurd (omega (arith, leb-true m LONGEST_SPLIT (each-passes (λ k. leb k LONGEST_SPLIT) m splitCounts refl e)))
+    go false e = refl
 
 -- between them each multiple of three
 between : (m : ℕ) → SHORTEST_SPLIT ≤ m → m ≤ LONGEST_SPLIT → eqb (m % 3) 0 ≡ allowedCount m
-unfolding allowedCount
-between m h l = go (eqb m 6) (eqb m 9) refl refl
-  where
-    go : (t u : Bool) → eqb m 6 ≡ t → eqb m 9 ≡ u → eqb (m % 3) 0 ≡ allowedCount m
-    go true u e f = let z = eqb-true m 6 e in rw z refl
-    go false true e f = let z = eqb-true m 9 f in rw z refl
-    go false false e f =
-        let z = eqb-false m 6 e in
-        let y = eqb-false m 9 f in
-        rw (ne-eqb m 0 (λ e. omega arith), e, f) (ne-eqb (m % 3) 0 (λ e. omega arith))
+between m h l = rw (ne-eqb m 0 (λ e. omega arith), le-ltb m SHORTEST_SPLIT h) at (counted m l)
 
 returns : tie.Need-returns
 returns c = sym (none _ (c .if1 .taken))

@@ -2,6 +2,7 @@
 use borrow.Author.Needs.{needs}
 use native.Mathlib.Omega.{arith}
 use Prim.Native.Nat.{_-_}
+use Rattle.systems.specs.Systems.{COMPONENTS}
 use Rattle.start.proofs.Tests.{Added, added-none, added-more, added-fit}
 use Rattle.start.proofs.mixture_fit.Statement.{statement}
 use Rattle.start.proofs.mixture_fit.Tie as tie
@@ -10,7 +11,7 @@ abbrev Inv-loop : tie.InvT-loop
 Inv-loop mix sum₀ c₀ sum c = Added mix sum c
 
 abbrev μ-loop : tie.MeasureT-loop
-μ-loop mix sum₀ c₀ sum c = 4 - c
+μ-loop mix sum₀ c₀ sum c = COMPONENTS - c
 
 loop-holds : tie.Need-loop-holds Inv-loop μ-loop
 loop-holds c = added-none _

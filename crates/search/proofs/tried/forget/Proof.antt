@@ -1,4 +1,5 @@
 -- `search::tried::forget` meets its contract. Assumes nothing.
+use Rattle.systems.specs.Systems.{COMPONENTS}
 use Rattle.search.proofs.Tries.{Going, going-starts, going-on, going-ends}
 use Prim.Native.Nat.{_-_}
 use native.Mathlib.Omega.{arith}
@@ -9,7 +10,7 @@ abbrev Inv-loop : tie.InvT-loop
 Inv-loop tried₀ s c₀ tried c = Going tried₀ s tried c
 
 abbrev μ-loop : tie.MeasureT-loop
-μ-loop tried₀ s c₀ tried c = 4 - c
+μ-loop tried₀ s c₀ tried c = COMPONENTS - c
 
 loop-holds : tie.Need-loop-holds Inv-loop μ-loop
 loop-holds c = going-starts (c .args .tried .now) (c .args .s) (c .pre .0) (c .pre .1)

@@ -1,0 +1,101 @@
+-- The answers before request Seven, of four components (document 01, "The split and the rating", "The search"; document
+-- 02, Five): `rating/specs/Rate` over the split and the search at BEFORE components. A mixture is of methane, ethane,
+-- propane and butane. Assumes nothing.
+use mathlib.Core.List.{List}
+use mathlib.Core.Bool.{Bool, cond}
+use Prim.Native.Nat.{ℕ, _*_, _/_, _%_, min}
+use lib.Count.{ones}
+use lib.Dec.{eqb, ltb}
+use lib.ListN.{getD}
+use Rattle.refusal.specs.Register.{OUT_OF_RANGE, MISFIT, UNBALANCED, TOO_FEW}
+use Rattle.analysis.specs.Register.{ifElse}
+use Rattle.analysis.specs.Required.{refusalIn}
+use Rattle.sheet.specs.Split.{noSplit}
+use Rattle.sheet.specs.declared.Split.{Split}
+use Rattle.systems.specs.Choice.{presentTo, answerOf}
+use Rattle.systems.specs.Without.{HYDROCARBONS, chooseBefore}
+use Rattle.systems.specs.declared.Choice.{Choice}
+use Rattle.split.specs.Fold.{allTo, table}
+use Rattle.split.specs.Split.{RECORDS, both, systemOf}
+use Rattle.split.specs.Search.{LEVEL}
+use Rattle.split.specs.declared.Answer.{Answer}
+use Rattle.split.specs.declared.Answer.the-variants.{Rated, Refused}
+use Rattle.split.specs.declared.Search.{Search}
+use Rattle.split.specs.declared.Search.the-variants.{Balanced, Unbalanced, Unfit}
+use Rattle.split.specs.declared.Found.{Found}
+use Rattle.rating.specs.Records.{codeOf, systemAt, systemsOf}
+use Rattle.rating.specs.Rate.{LIMIT, ROUNDS, FEWEST, checkedBy, outcome}
+use Rattle.rating.specs.declared.Outcome.{Outcome}
+use Rattle.kept.specs.BeforeCheck.{registerBefore}
+use Rattle.kept.specs.BeforeMixture.{simplifiedBefore, inertBefore}
+use Rattle.kept.specs.Widths.{BEFORE, componentIn, cellsIn, amountsIn, ratingIn, proposedIn, startIn, searchIn}
+
+-- ---- the records: as in `rating/specs/Records`
+
+unfoldable pub codeBefore : List ℕ → ℕ → ℕ → ℕ
+codeBefore ch k r = cond (ltb r (3 * k)) (codeOf (componentIn BEFORE (systemOf ch (r / 3)) (r % 3))) 0
+
+unfoldable pub codesBefore : List ℕ → ℕ → List ℕ
+codesBefore ch k = table (codeBefore ch k) RECORDS 0
+
+unfoldable pub matchesBefore : List ℕ → ℕ → List ℕ → List ℕ → ℕ → Bool
+matchesBefore ch k systems codes r =
+    both (eqb (getD systems r 0) (systemAt ch k r)) (eqb (getD codes r 0) (codeBefore ch k r))
+
+unfoldable pub fitsBefore : List ℕ → ℕ → ℕ → List ℕ → List ℕ → Bool
+fitsBefore ch k count systems codes = both (eqb count (3 * k)) (allTo (matchesBefore ch k systems codes) count)
+
+-- ---- the answers, of a refusal's number (0: rated on), a choice of systems, a mixture and its inert part
+
+unfoldable pub splitWith : List ℕ → ℕ → List ℕ → ℕ → Split → Answer
+splitWith ch k mix n1 p =
+    ifElse (fitsBefore ch k (p .count) (p .systems) (p .codes))
+    (proposedIn BEFORE LIMIT ch k mix (cellsIn BEFORE ch k (p .amounts)) n1)
+    (Refused MISFIT 0)
+
+abbrev pub splitAnswerWith : ℕ → Choice → List ℕ → ℕ → Split → ℕ → Answer
+splitAnswerWith number choice mix n1 p code =
+    checkedBy number code (splitWith (choice .systems) (choice .count) mix n1 p)
+
+abbrev pub recordsBefore : List ℕ → ℕ → List ℕ → Split
+recordsBefore ch k a =
+    record { count = 3 * k; systems = systemsOf ch k; codes = codesBefore ch k; amounts = amountsIn BEFORE ch k a }
+
+abbrev pub foundWith : List ℕ → ℕ → ℕ → List ℕ → Search → Outcome
+foundWith ch k n1 a (Balanced spread rounds) = outcome (Rated (ratingIn BEFORE ch k a n1) spread rounds) (recordsBefore ch k a)
+foundWith ch k n1 a Unbalanced = outcome (Refused UNBALANCED 0) noSplit
+foundWith ch k n1 a Unfit = outcome (Refused 0 0) noSplit
+
+unfoldable pub foundOutcomeWith : List ℕ → ℕ → ℕ → Found → Outcome
+foundOutcomeWith ch k n1 f = foundWith ch k n1 (f .cells) (f .search)
+
+abbrev pub searchedWith : Choice → List ℕ → ℕ → Found
+searchedWith choice mix allowance =
+    searchIn BEFORE (choice .systems) (choice .count) LIMIT LEVEL (min allowance ROUNDS)
+    (startIn BEFORE mix (choice .systems) (choice .count))
+
+abbrev pub searchOutcomeWith : ℕ → Choice → List ℕ → ℕ → ℕ → ℕ → Outcome
+searchOutcomeWith number choice mix n1 allowance code =
+    ifElse (eqb number 0)
+    (foundOutcomeWith (choice .systems) (choice .count) n1 (searchedWith choice mix allowance))
+    (outcome (Refused number (ifElse (eqb number OUT_OF_RANGE) code 0)) noSplit)
+
+-- ---- an analysis before request Seven: the register without code 15, four components, systems 2, 4, 7 and 8
+
+abbrev pub choiceBefore : List ℕ → Choice
+choiceBefore mix = answerOf (chooseBefore mix)
+
+-- 5 or 6, then 16 where fewer than two of the four are present
+abbrev pub refusalBefore : List ℕ → ℕ
+refusalBefore a =
+    ifElse (eqb (refusalIn registerBefore a) 0)
+    (ifElse (ltb (ones (presentTo HYDROCARBONS (simplifiedBefore a))) FEWEST) TOO_FEW 0)
+    (refusalIn registerBefore a)
+
+unfoldable pub splitBefore : List ℕ → Split → ℕ → Answer
+splitBefore a p code =
+    splitAnswerWith (refusalBefore a) (choiceBefore (simplifiedBefore a)) (simplifiedBefore a) (inertBefore a) p code
+
+unfoldable pub searchBefore : List ℕ → ℕ → ℕ → Outcome
+searchBefore a allowance code =
+    searchOutcomeWith (refusalBefore a) (choiceBefore (simplifiedBefore a)) (simplifiedBefore a) (inertBefore a) allowance code

@@ -1,0 +1,215 @@
+-- GASES RATED BEFORE REQUEST FIVE GET THE SAME RATING, SPLIT AND ROUNDS (document 02, Five). Assumes nothing.
+--
+-- Before, codes 2 to 5 could not be absent, there was no 16, and the choice was that by fitness alone; and there was no
+-- hydrogen. `splitBeforeFive` and `searchBeforeFive` are the answers of four components (`Before.splitAnswerWith` and
+-- `searchOutcomeWith`) at that refusal and that choice. For every analysis that 5 and 6 let pass then, all four
+-- components are present, the choice by presence and fitness is the choice by fitness alone, and the answers are the
+-- same: to every proposed split, and by the search with every allowance, rating, spread, rounds and split. `code` is the
+-- code that refusal 5 carries.
+use mathlib.Core.Path.{_≡_, refl, sym, ap, _∙_, subst}
+use mathlib.Core.Bool.{Bool, true, false}
+use mathlib.Core.Logic.{_↔_}
+use mathlib.Core.List.{List, [], _∷_}
+use Prim.Native.Nat.{ℕ, zero, suc, _≤_, _<_}
+use native.Mathlib.Omega.{arith}
+use lib.Dec.{eqb, leb}
+use lib.IntN.{ℤ}
+use lib.ListN.{getD, length}
+use borrow.Author.Tests.{eqb-true, leb-true}
+use Rattle.refusal.specs.Keys.{isIn, each-passes}
+use Rattle.analysis.specs.Register.{CODES, ifElse, statusIn}
+use Rattle.analysis.specs.Check.{requiredBy, totalFits}
+use Rattle.analysis.specs.Required.{requiring, refusalIn, requiring-exactly-when}
+use Rattle.sheet.specs.Split.{noSplit}
+use Rattle.sheet.specs.Components.{codesReading, zeroListed}
+use Rattle.sheet.specs.Sheet.{sectionsOf}
+use Rattle.sheet.specs.Read.{amountsOf, contentOf, readOf}
+use Rattle.sheet.specs.Cases.{read-good, amounts-checked}
+use Rattle.sheet.specs.declared.Sections.the-variants.{Both}
+use Rattle.sheet.specs.declared.Reading.the-variants.{Read}
+use Rattle.sheet.specs.declared.Split.{Split}
+use Rattle.mixture.specs.Simplification.{tenthsOf}
+use Rattle.mixture.specs.Marked.{tableA1, methaneEthane}
+use Rattle.mixture.specs.Bounds.{simplified-methane, simplified-least}
+use Rattle.systems.specs.Systems.{hydrocarbonSystems}
+use Rattle.systems.specs.Choice.{hydrocarbonOrder, fitnessOf, chooseBy, answerOf, choiceOf}
+use Rattle.systems.specs.Presence.{two-present}
+use Rattle.systems.specs.Without.{HYDROCARBONS, fitness-same}
+use Rattle.systems.specs.Full.{four-fittest}
+use Rattle.systems.specs.declared.Choice.{Choice}
+use Rattle.split.specs.Rated.{IsRated}
+use Rattle.split.specs.declared.Answer.{Answer}
+use Rattle.split.specs.declared.Answer.the-variants.{Rated, Refused}
+use Rattle.rating.specs.Rate.{ROUNDS, mixOf, checkedBy, splitAnswer, outcome, searchOutcome, sheetOutcome}
+use Rattle.rating.specs.RatedOn.{InRange, RatedOn, enough-on}
+use Rattle.rating.specs.Ends.{amounts-long, read-long}
+use Rattle.rating.specs.declared.Outcome.{Outcome}
+use Rattle.demand.specs.Sheets.{read-searched, read-own}
+use Rattle.demand.specs.RatedSheets.{analysisIn}
+use Rattle.kept.specs.BeforeCheck as check
+use Rattle.kept.specs.BeforeCheck.{registerBefore}
+use Rattle.kept.specs.BeforeMixture.{simplifiedBefore, inertBefore, no-hydrogen}
+use Rattle.kept.specs.Before.{splitAnswerWith, searchOutcomeWith, choiceBefore, refusalBefore, splitBefore}
+use Rattle.kept.specs.Before.{searchBefore}
+use Rattle.kept.specs.WithoutHydrogen as seven
+
+-- ---- as it was
+
+-- 5 also where one of 2 to 5 is absent
+abbrev pub requiredBefore : List ℕ
+requiredBefore = 2 ∷ 3 ∷ 4 ∷ 5 ∷ []
+
+abbrev pub refusalBeforeFive : List ℕ → ℕ
+refusalBeforeFive a = refusalIn (requiring requiredBefore registerBefore) a
+
+-- what 5 and 6 let pass then: what is in range, with an amount of each of these and no hydrogen
+pub before-exactly-when : (a : List ℕ) → length a ≡ CODES
+    → (refusalBeforeFive a ≡ 0)
+    ↔ ((InRange a × (getD a 15 0 ≡ 0)) × ((k : ℕ) → isIn k requiredBefore ≡ true → 0 < getD a k 0))
+before-exactly-when a long = (
+  λ h. (check.before-exactly-when a long .0 (exactly .0 h .0), exactly .0 h .1),
+  λ h. exactly .1 (check.before-exactly-when a long .1 (h .0), h .1),
+)
+  where
+    below : (k : ℕ) → isIn k requiredBefore ≡ true → k ≤ 5
+    below k e = leb-true k 5 (each-passes (λ k. leb k 5) k requiredBefore refl e)
+
+    required : (k : ℕ) → isIn k requiredBefore ≡ true
+        → requiredBy (statusIn (requiring requiredBefore registerBefore) k) ≡ true
+    required k e =
+        each-passes (λ k. requiredBy (statusIn (requiring requiredBefore registerBefore) k)) k requiredBefore refl e
+
+    exactly : (refusalBeforeFive a ≡ 0)
+        ↔ ((refusalIn registerBefore a ≡ 0) × ((k : ℕ) → isIn k requiredBefore ≡ true → 0 < getD a k 0))
+    exactly =
+        requiring-exactly-when requiredBefore registerBefore a (λ k e. (omega (arith, long, below k e), required k e))
+
+-- the choice by fitness alone, over all components
+abbrev pub choiceBeforeFive : List ℕ → Choice
+choiceBeforeFive mix = answerOf (chooseBy (fitnessOf mix) hydrocarbonSystems hydrocarbonOrder)
+
+unfoldable pub splitBeforeFive : List ℕ → Split → ℕ → Answer
+splitBeforeFive a p code =
+    splitAnswerWith (refusalBeforeFive a) (choiceBeforeFive (simplifiedBefore a)) (simplifiedBefore a) (inertBefore a) p code
+
+unfoldable pub searchBeforeFive : List ℕ → ℕ → ℕ → Outcome
+searchBeforeFive a allowance code =
+    searchOutcomeWith (refusalBeforeFive a) (choiceBeforeFive (simplifiedBefore a)) (simplifiedBefore a) (inertBefore a)
+    allowance code
+
+-- the gas of 001 Table A.1 passed; one of methane and ethane alone was refused 5
+pub passed-before : (refusalBeforeFive tableA1 ≡ 0) × (refusalBeforeFive methaneEthane ≡ 5)
+unfolding refusalIn totalFits
+passed-before = (refl, refl)
+
+-- ---- an analysis that 5 and 6 let pass before
+
+module _ (a : List ℕ) (long : length a ≡ CODES) (before : refusalBeforeFive a ≡ 0) where
+  then : (InRange a × (getD a 15 0 ≡ 0)) × ((k : ℕ) → isIn k requiredBefore ≡ true → 0 < getD a k 0)
+  then = before-exactly-when a long .0 before
+
+  -- passes now, without hydrogen
+  pub passes : InRange a
+  passes = then .0 .0
+
+  none : getD a 15 0 ≡ 0
+  none = then .0 .1
+
+  -- with ethane, propane and i-butane, and so all four components present
+  pub all-four : (c : ℕ) → c < HYDROCARBONS → 0 < getD (mixOf a) c 0
+  unfolding tenthsOf
+  all-four zero l = omega (arith, simplified-methane a long passes)
+  all-four (suc zero) l = omega (arith, simplified-least a long passes 1 (omega arith) (omega (arith, then .1 2 refl)))
+  all-four (suc (suc zero)) l =
+      omega (arith, simplified-least a long passes 2 (omega arith) (omega (arith, then .1 3 refl)))
+  all-four (suc (suc (suc zero))) l =
+      omega (arith, simplified-least a long passes 3 (omega arith) (omega (arith, then .1 4 refl)))
+  all-four (suc (suc (suc (suc c)))) l = absurd (omega arith)
+
+  -- so 16 lets it pass
+  pub rated-on : RatedOn a
+  rated-on =
+      enough-on a passes
+      (two-present (mixOf a) (all-four 0 (omega arith)) 1 (omega arith) (omega arith) (all-four 1 (omega arith)))
+
+  -- and the choice is the one by fitness
+  pub choice-kept : choiceBefore (simplifiedBefore a) ≡ choiceBeforeFive (simplifiedBefore a)
+  choice-kept =
+      sym (seven.choice-kept a none)
+      ∙ ap answerOf
+      (four-fittest (mixOf a) all-four (no-hydrogen a none)
+      ∙ (λ j. chooseBy (λ s. fitness-same (mixOf a) (simplifiedBefore a) (seven.amount-same a none) s j) hydrocarbonSystems
+      hydrocarbonOrder))
+
+  -- the answers are those from before: to every proposed split,
+  pub split-kept : (p : Split) (code : ℕ) → splitAnswer a p code ≡ splitBeforeFive a p code
+  unfolding splitBefore splitBeforeFive
+  split-kept p code =
+      seven.split-kept a none p code
+      ∙ rw (sym (seven.refusal-kept a none), rated-on, before)
+      (ap (λ (choice : Choice). splitAnswerWith 0 choice (simplifiedBefore a) (inertBefore a) p code) choice-kept)
+
+  -- and by the search with every allowance
+  pub search-kept : (allowance code : ℕ) → searchOutcome a allowance code ≡ searchBeforeFive a allowance code
+  unfolding searchBefore searchBeforeFive
+  search-kept allowance code =
+      seven.search-kept-all a none allowance code
+      ∙ rw (sym (seven.refusal-kept a none), rated-on, before)
+      (ap (λ (choice : Choice). searchOutcomeWith 0 choice (simplifiedBefore a) (inertBefore a) allowance code) choice-kept)
+
+-- ---- what was rated before
+
+not-refused : (n code : ℕ) (x : Answer) → IsRated (checkedBy n code x) → n ≡ 0
+not-refused n code x h = go (eqb n 0) refl h
+  where
+    go : (b : Bool) → eqb n 0 ≡ b → IsRated (ifElse b x (Refused n (ifElse (eqb n 5) code 0))) → n ≡ 0
+    go true e h = eqb-true n 0 e
+    go false e h = absurd h
+
+-- a split rated before gets the same rating and the same spread
+pub split-rated-before : (a : List ℕ) → length a ≡ CODES → (p : Split) (code : ℕ) (w : ℤ) (s r : ℕ)
+    → splitBeforeFive a p code ≡ Rated w s r → splitAnswer a p code ≡ Rated w s r
+unfolding splitBeforeFive
+split-rated-before a long p code w s r is =
+    let passed = not-refused (refusalBeforeFive a) code _ (subst IsRated (sym is) tt) in
+    split-kept a long passed p code ∙ is
+
+-- a gas rated by the search gets the same rating, spread, rounds and split
+pub search-rated-before : (a : List ℕ) → length a ≡ CODES → (allowance code : ℕ)
+    → IsRated (searchBeforeFive a allowance code .answer) → searchOutcome a allowance code ≡ searchBeforeFive a allowance code
+unfolding searchBeforeFive
+search-rated-before a long allowance code is = go (eqb (refusalBeforeFive a) 0) refl is
+  where
+    go : (b : Bool) → eqb (refusalBeforeFive a) 0 ≡ b
+        → IsRated (ifElse b (searchOutcomeWith 0 (choiceBeforeFive (simplifiedBefore a)) (simplifiedBefore a) (inertBefore a) allowance code)
+        (outcome (Refused (refusalBeforeFive a) (ifElse (eqb (refusalBeforeFive a) 5) code 0)) noSplit) .answer)
+        → searchOutcome a allowance code ≡ searchBeforeFive a allowance code
+    go true e h = search-kept a long (eqb-true (refusalBeforeFive a) 0 e) allowance code
+    go false e h = absurd h
+
+-- ---- a sheet
+
+-- one that was read before is read, with the same contents: two sections with counts of theirs, codes in order, none
+-- listed at 0, and an analysis that 5 and 6 let pass then
+pub sheet-read-kept : (s : List ℕ) (code n m first : ℕ) → sectionsOf s ≡ Both n m first
+    → codesReading n s 1 0 0 ≡ Read → zeroListed n s 1 ≡ false → refusalBeforeFive (amountsOf n s) ≡ 0
+    → readOf s code ≡ contentOf n m first s
+sheet-read-kept s code n m first sections codes none before =
+    read-good s code n m first sections codes
+    (amounts-checked n s none ∙ passes (amountsOf n s) (amounts-long n s 1 _) before)
+
+-- and answered as before: by the search, or by its own split
+
+module _ (s : List ℕ) (code : ℕ) (h : readOf s code .answer ≡ Read)
+    (before : refusalBeforeFive (analysisIn s code) ≡ 0) where
+  pub sheet-search-kept : readOf s code .split .count ≡ 0
+      → sheetOutcome s code ≡ searchBeforeFive (analysisIn s code) ROUNDS code
+  sheet-search-kept e =
+      read-searched s code h e ∙ search-kept (analysisIn s code) (read-long s code h) before ROUNDS code
+
+  pub sheet-split-kept : (readOf s code .split .count ≡ 0 → ⊥)
+      → sheetOutcome s code ≡ outcome (splitBeforeFive (analysisIn s code) (readOf s code .split) code) noSplit
+  sheet-split-kept n =
+      read-own s code h n
+      ∙ ap (λ (x : Answer). outcome x noSplit)
+      (split-kept (analysisIn s code) (read-long s code h) before (readOf s code .split) code)

@@ -1,0 +1,12 @@
+pub mod BeforeCheck
+pub mod BeforeMixture
+pub mod Widths
+pub mod Today
+pub mod Steady
+pub mod Alike
+pub mod AlikeCells
+pub mod AlikeRuns
+pub mod WidthKept
+pub mod Before
+pub mod WithoutHydrogen
+pub mod BeforeFive

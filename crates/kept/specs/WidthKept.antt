@@ -1,0 +1,95 @@
+-- Where no chosen system contains hydrogen and the mixture has none, the answers at the components before hydrogen are
+-- those at the components with it. Assumes nothing.
+use Prim.Native.Nat.{ℕ, _<_}
+use mathlib.Core.Path.{_≡_, refl, sym, ap, ap₂, _∙_}
+use mathlib.Core.Bool.{Bool, true, false, cond}
+use mathlib.Core.List.{List}
+use native.Mathlib.Omega.{arith}
+use lib.Dec.{ltb, eqb}
+use lib.ListN.{getD}
+use borrow.Author.Tests.{eq-eqb}
+use Rattle.systems.specs.Systems.{hasOf}
+use Rattle.split.specs.Fold.{allTo}
+use Rattle.split.specs.Folds.{sum-same}
+use Rattle.split.specs.Split.{systemOf, both, heldOf}
+use Rattle.split.specs.declared.Found.{Found}
+use Rattle.kept.specs.Widths.{BEFORE, BLEND, recorded, cellIn, columnIn, cellsIn, amountsIn}
+use Rattle.kept.specs.Widths.{ratingIn, resumsIn, proposedIn, startIn, searchIn}
+use Rattle.kept.specs.Steady.{sum-zero, all-same}
+use Rattle.kept.specs.Alike.{Without, Alike, spreads-same, empty-same, rating-same, amounts-same}
+use Rattle.kept.specs.AlikeCells.{blend-cell, records-alike, start-alike}
+use Rattle.kept.specs.AlikeRuns.{search-alike}
+
+-- two mixtures with the same amounts of the components before hydrogen, and none of hydrogen in the second
+pub record NoHydrogen (mix′ mix : List ℕ) : Type 0 where
+  pub same : (c : ℕ) → c < BEFORE → getD mix′ c 0 ≡ getD mix c 0
+  pub none : getD mix BEFORE 0 ≡ 0
+
+-- two searches with the same end and rounds, the same amounts in record order, and the same rating
+pub record SameSearch (ch : List ℕ) (k : ℕ) (x y : Found) : Type 0 where
+  pub search : x .search ≡ y .search
+  pub amounts : amountsIn BEFORE ch k (x .cells) ≡ amountsIn BLEND ch k (y .cells)
+  pub rating : (n1 : ℕ) → ratingIn BEFORE ch k (x .cells) n1 ≡ ratingIn BLEND ch k (y .cells) n1
+
+module _ (ch : List ℕ) (k : ℕ) (without : Without ch k) (mix′ mix : List ℕ) (no : NoHydrogen mix′ mix) where
+  -- ---- a proposed split
+
+  module _ (xs : List ℕ) where
+    alike : Alike (cellsIn BEFORE ch k xs) (cellsIn BLEND ch k xs)
+    alike = records-alike ch k xs
+
+    -- its records have no hydrogen
+    held-none : (s : ℕ) → s < k → heldOf ch k s BEFORE ≡ false
+    unfolding heldOf
+    held-none s h = go (ltb s k)
+      where
+        go : (x : Bool) → both x (hasOf (systemOf ch s) BEFORE) ≡ false
+        go true = without .lacks s h
+        go false = refl
+
+    column-none : columnIn BLEND k (cellsIn BLEND ch k xs) BEFORE ≡ 0
+    unfolding columnIn cellsIn
+    column-none =
+        sum-zero (λ s. cellIn BLEND (cellsIn BLEND ch k xs) s BEFORE) k
+        (λ s h. blend-cell (recorded ch k xs) s BEFORE (omega (arith, without .most)) (omega arith)
+        ∙ rw (held-none s h))
+
+    column-same : (c : ℕ) → c < BEFORE
+        → columnIn BEFORE k (cellsIn BEFORE ch k xs) c ≡ columnIn BLEND k (cellsIn BLEND ch k xs) c
+    unfolding columnIn
+    column-same c l =
+        sum-same (λ s. cellIn BEFORE (cellsIn BEFORE ch k xs) s c) (λ s. cellIn BLEND (cellsIn BLEND ch k xs) s c) k
+        (λ s h. alike .same s c (omega (arith, without .most)) l)
+
+    -- a component's amounts re-sum
+    abbrev sums : ℕ → List ℕ → ℕ → Bool
+    sums w x c = eqb (columnIn w k (cellsIn w ch k xs) c) (getD x c 0)
+
+    resums-same : resumsIn BEFORE mix′ k (cellsIn BEFORE ch k xs) ≡ resumsIn BLEND mix k (cellsIn BLEND ch k xs)
+    unfolding resumsIn allTo
+    resums-same =
+        all-same (sums BEFORE mix′) (sums BLEND mix) BEFORE (λ c l. ap₂ eqb (column-same c l) (no .same c l))
+        ∙ sym
+        (ap (λ (x : Bool). cond x (allTo (sums BLEND mix) BEFORE) false)
+        (eq-eqb (columnIn BLEND k (cellsIn BLEND ch k xs) BEFORE) (getD mix BEFORE 0) (column-none ∙ sym (no .none))))
+
+    pub proposed-same : (limit n1 : ℕ) → proposedIn BEFORE limit ch k mix′ (cellsIn BEFORE ch k xs) n1
+        ≡ proposedIn BLEND limit ch k mix (cellsIn BLEND ch k xs) n1
+    unfolding proposedIn
+    proposed-same limit n1 =
+        rw (resums-same, empty-same ch k without _ _ alike)
+        (rw (spreads-same ch k without _ _ alike, rating-same ch k without _ _ alike n1))
+
+  -- ---- a found split: the search from the written start
+
+  pub search-same : (limit level allowance : ℕ)
+      → SameSearch ch k (searchIn BEFORE ch k limit level allowance (startIn BEFORE mix′ ch k))
+      (searchIn BLEND ch k limit level allowance (startIn BLEND mix ch k))
+  search-same limit level allowance =
+      let ends = search-alike ch k without limit allowance level (startIn BEFORE mix′ ch k) (startIn BLEND mix ch k)
+      (start-alike mix′ mix ch k (no .same)) in
+      record {
+        search = ends .search;
+        amounts = amounts-same ch k without _ _ (ends .cells);
+        rating = rating-same ch k without _ _ (ends .cells);
+      }

@@ -1,0 +1,82 @@
+-- No chosen system is one that request Six left out (document 02, Six and Seven): every candidate keeps the rule of Table
+-- A.2. So no blend is refused 13, and the number of a mixture is 16 or none. Assumes nothing.
+use mathlib.Core.Path.{_≡_, refl, _∙_}
+use mathlib.Core.Bool.{Bool, true, false, cond}
+use mathlib.Core.List.{List, [], _∷_, _++_}
+use Prim.Native.Nat.{ℕ}
+use native.Mathlib.Omega.{arith}
+use lib.Dec.{ltb}
+use Rattle.refusal.specs.Keys.{each}
+use Rattle.refusal.specs.Register.{NO_SYSTEM, TOO_FEW}
+use Rattle.formula.specs.WorkingRule.{sumAbs}
+use Rattle.formula.specs.Coefficients.{placeIn, keepsRule, isSystem}
+use Rattle.analysis.specs.Register.{ifElse}
+use Rattle.systems.specs.Systems.{candidates}
+use Rattle.systems.specs.Choice.{inMask, presentOf, presentCount, fold, isChosen, listOf, chosenOf, candidatesFor, candidatesOf}
+use Rattle.systems.specs.Choice.{chooseOf}
+use Rattle.rating.specs.Rate.{FEWEST, mixtureRefusal}
+
+-- every candidate is a system of Table A.2 that keeps the rule
+pub candidates-kept : each isSystem candidates ≡ true
+unfolding placeIn keepsRule isSystem sumAbs
+candidates-kept = refl
+
+offered-kept : (present : ℕ) → each isSystem (candidatesOf present) ≡ true
+unfolding placeIn keepsRule isSystem sumAbs candidatesFor candidatesOf
+offered-kept present = go (inMask present 4)
+  where
+    go : (b : Bool) → each isSystem (candidatesFor b) ≡ true
+    go true = refl
+    go false = refl
+
+-- ---- what is chosen is among the candidates
+
+both-of : (t u : Bool) → cond t u false ≡ true → (t ≡ true) × (u ≡ true)
+both-of true u h = (refl, h)
+both-of false u h = let z : _≡_ {A = ℕ} 0 1 = cc in absurd (omega arith)
+
+each-end : (test : ℕ → Bool) (xs : List ℕ) (x : ℕ) → each test xs ≡ true → test x ≡ true → each test (xs ++ (x ∷ [])) ≡ true
+each-end test [] x h t = rw t
+each-end test (y ∷ ys) x h t =
+    let (p, q) = both-of (test y) (each test ys) h in
+    rw (p, each-end test ys x q t)
+
+-- a test that passes at each candidate passes at each that is chosen, whichever are
+chosen-from : (test : ℕ → Bool) (marks : List Bool) (systems chosen : List ℕ) → each test systems ≡ true
+    → each test chosen ≡ true → each test (fold (listOf marks) systems chosen) ≡ true
+unfolding fold listOf
+chosen-from test marks [] chosen h c = c
+chosen-from test marks (s ∷ ss) chosen h c = go (isChosen marks s) (both-of (test s) (each test ss) h)
+  where
+    rest : (l : List ℕ) → each test ss ≡ true → each test l ≡ true → each test (fold (listOf marks) ss l) ≡ true
+    rest l u v = chosen-from test marks ss l u v
+
+    go : (b : Bool) → (test s ≡ true) × (each test ss ≡ true)
+        → each test (fold (listOf marks) ss (elim b [ true ↦ chosen ++ (s ∷ []) | false ↦ chosen ])) ≡ true
+    go true (t, u) = rest (chosen ++ (s ∷ [])) u (each-end test chosen s c t)
+    go false (t, u) = rest chosen u c
+
+pub chosen-each : (test : ℕ → Bool) (marks : List Bool) (systems : List ℕ) → each test systems ≡ true
+    → each test (chosenOf systems marks) ≡ true
+unfolding chosenOf
+chosen-each test marks systems h = chosen-from test marks systems [] h refl
+
+-- so for every mixture
+pub none-left-out : (mix : List ℕ) → each isSystem (chooseOf mix) ≡ true
+unfolding chooseOf
+none-left-out mix = chosen-each isSystem _ (candidatesOf (presentOf mix)) (offered-kept (presentOf mix))
+
+-- ---- the number of a mixture
+
+module _ (mix : List ℕ) where
+  pub mixture-number : mixtureRefusal mix ≡ ifElse (ltb (presentCount mix) FEWEST) TOO_FEW 0
+  unfolding mixtureRefusal
+  mixture-number = rw (none-left-out mix)
+
+  -- no mixture is refused 13
+  pub never-left-out : mixtureRefusal mix ≡ NO_SYSTEM → ⊥
+  never-left-out e = go (ltb (presentCount mix) FEWEST) (mixture-number ∙ refl) e
+    where
+      go : (b : Bool) → mixtureRefusal mix ≡ ifElse b TOO_FEW 0 → mixtureRefusal mix ≡ NO_SYSTEM → ⊥
+      go true f g = omega arith
+      go false f g = omega arith

@@ -1,0 +1,114 @@
+-- A MIXTURE WITHOUT HYDROGEN GETS THE CHOICE THAT IT HAD (document 02, Seven): that of four components, among the four
+-- systems of hydrocarbons, in the order of document 01. Assumes nothing.
+use Prim.Native.Nat.{ℕ, zero, suc, _+_, _*_, _<_}
+use mathlib.Core.Path.{_≡_, refl, sym, ap, ap₂, _∙_}
+use mathlib.Core.List.{List, [], _∷_}
+use mathlib.Core.Bool.{Bool, false, cond}
+use native.Mathlib.Nat.{add-zero}
+use native.Mathlib.Omega.{arith}
+use lib.Dec.{ltb}
+use lib.ListN.{getD}
+use borrow.Author.Tests.{le-ltb}
+use Rattle.systems.specs.Systems.{COMPONENTS, HYDROGEN, memberOf, hydrocarbonSystems}
+use Rattle.systems.specs.Presence.{present-is}
+use Rattle.systems.specs.Choice.{weights, weightedOf, fitnessOf, allTo, maskFrom, inMask, presentAt, presentTo}
+use Rattle.systems.specs.Choice.{presentOf, presentIn, standingBy, candidatesFor, candidatesOf, keep}
+use Rattle.systems.specs.Choice.{hydrocarbonOrder, order, chooseBy, chooseIn, chooseOf, answerOf, choiceOf}
+use Rattle.systems.specs.declared.Choice.{Choice}
+
+-- ---- as it was
+
+-- methane, ethane, propane, butane
+abbrev pub HYDROCARBONS : ℕ
+HYDROCARBONS = 4
+
+abbrev pub chooseBefore : List ℕ → List ℕ
+chooseBefore mix = chooseIn HYDROCARBONS hydrocarbonSystems hydrocarbonOrder mix
+
+-- ---- where there is no hydrogen
+
+-- a mask has no more in it where the last of its components is not
+mask-short : (f : ℕ → Bool) (n i : ℕ) → f (i + n) ≡ false → maskFrom f (suc n) i ≡ maskFrom f n i
+unfolding maskFrom
+mask-short f zero i e = rw (ap f (sym (add-zero i)) ∙ e)
+mask-short f (suc n) i e =
+    ap (λ (x : ℕ). x * 2 + cond (f i) 1 0) (mask-short f n (i + 1) (ap f (omega arith) ∙ e))
+
+module _ (mix : List ℕ) (none : getD mix HYDROGEN 0 ≡ 0) where
+  hydrogen-absent : presentAt mix HYDROGEN ≡ false
+  hydrogen-absent = le-ltb 0 (getD mix HYDROGEN 0) (omega arith)
+
+  not-in : inMask (presentOf mix) HYDROGEN ≡ false
+  not-in = present-is mix HYDROGEN (omega arith) ∙ hydrogen-absent
+
+  -- the same are present,
+  pub present-before : presentOf mix ≡ presentTo HYDROCARBONS mix
+  unfolding presentOf
+  present-before = mask-short (presentAt mix) HYDROCARBONS 0 hydrogen-absent
+
+  -- the parts weigh as much,
+  pub all-before : allTo mix COMPONENTS ≡ allTo mix HYDROCARBONS
+  unfolding allTo
+  all-before = omega (arith, none)
+
+  -- the candidates are the four,
+  pub candidates-before : candidatesOf (presentOf mix) ≡ hydrocarbonSystems
+  unfolding candidatesOf
+  candidates-before = ap candidatesFor not-in
+
+  -- and hydrogen is passed over
+  order-before : keep (presentOf mix) order ≡ keep (presentOf mix) hydrocarbonOrder
+  unfolding keep
+  order-before = rw (not-in, keep)
+
+  -- so the choice is the one before
+  pub choose-before : chooseOf mix ≡ chooseBefore mix
+  unfolding chooseOf presentOf
+  choose-before =
+      ap₂ (chooseBy (standingBy (presentOf mix) (allTo mix COMPONENTS) mix)) candidates-before order-before
+      ∙ ap₂ (λ (p all : ℕ). chooseBy (standingBy p all mix) hydrocarbonSystems (keep p hydrocarbonOrder))
+      present-before all-before
+
+  -- and so it is answered
+  pub choice-before : choiceOf mix ≡ answerOf (chooseBefore mix)
+  choice-before = ap answerOf choose-before
+
+-- ---- four amounts, and the same with 0 of hydrogen
+
+-- two lists with the same amounts
+module _ (mix other : List ℕ) (same : (c : ℕ) → getD mix c 0 ≡ getD other c 0) where
+  all-same : (n : ℕ) → allTo mix n ≡ allTo other n
+  unfolding allTo
+  all-same zero = refl
+  all-same (suc n) = ap₂ (λ (all x : ℕ). all + getD weights n 0 * x) (all-same n) (same n)
+
+  fitness-same : (s : ℕ) → fitnessOf mix s ≡ fitnessOf other s
+  unfolding fitnessOf
+  fitness-same s = λ j.
+      getD weights (memberOf s 0) 0 * same (memberOf s 0) j + getD weights (memberOf s 1) 0 * same (memberOf s 1) j
+      + getD weights (memberOf s 2) 0 * same (memberOf s 2) j
+
+  -- have the same choice
+  before-same : chooseBefore mix ≡ chooseBefore other
+  before-same = λ j.
+      let present = maskFrom (λ c. ltb 0 (same c j)) HYDROCARBONS 0 in
+      chooseBy (λ s. presentIn present s * (all-same HYDROCARBONS j + 1) + fitness-same s j) hydrocarbonSystems
+      (keep present hydrocarbonOrder)
+
+-- the choice of four amounts is that of the five with no hydrogen
+pub choose-four : (m e p b : ℕ) → chooseOf (m ∷ e ∷ p ∷ b ∷ 0 ∷ []) ≡ chooseBefore (m ∷ e ∷ p ∷ b ∷ [])
+choose-four m e p b = choose-before five refl ∙ before-same five four same
+  where
+    four : List ℕ
+    four = m ∷ e ∷ p ∷ b ∷ []
+
+    five : List ℕ
+    five = m ∷ e ∷ p ∷ b ∷ 0 ∷ []
+
+    same : (c : ℕ) → getD (m ∷ e ∷ p ∷ b ∷ 0 ∷ []) c 0 ≡ getD (m ∷ e ∷ p ∷ b ∷ []) c 0
+    same zero = refl
+    same (suc zero) = refl
+    same (suc (suc zero)) = refl
+    same (suc (suc (suc zero))) = refl
+    same (suc (suc (suc (suc zero)))) = refl
+    same (suc (suc (suc (suc (suc c))))) = refl
