@@ -5,22 +5,24 @@
    Every function answers every input. An answer holds a number: 0 means done, anything else is a refusal, which changes
    no buffer. Its place tells more: for 2 to 4 the record's place from 0, for 5 a code at fault, for all else 0.
 
-   amounts[k] is the amount in parts of code k, 0 where it is absent; only methane must be there. At 0, 9, 13, 14 and 15
+   amounts[k] is the amount in parts of code k, 0 where it is absent; only methane must be there. At 0, 9, 13 and 14
    no amount is legal: anything but 0 there is refused 5.
 
    A split is a count of records and three arrays: record i gives amount parts[i] of component codes[i] to system
-   systems[i]. Codes in a split are 1 methane, 2 ethane, 3 propane, 14 butanes. A rated gas's split has three records
-   for each system chosen: 6 where two of these four components are present, else 9. A system's records are those of all
-   its components, with amount 0 where the gas has none. Places from the count on are not read, and a call that gives a
-   split writes zeros there.
+   systems[i]. Codes in a split are 1 methane, 2 ethane, 3 propane, 14 butanes, 15 hydrogen. A rated gas's split has
+   three records for each system chosen: 6 where two of these five components are present, 9 where three or four are, 15
+   at most where all five are. A system's records are those of all its components, in the order of their codes, with
+   amount 0 where the gas has none. Places from the count on are not read, and a call that gives a split writes zeros
+   there.
 
    A program that was compiled against this header outlives a release with the same first figure of SAUGRINTE_VERSION:
-   no size, number or name here changes, new ones may come. The arrays have room for requests to come (hydrogen, splits
-   of up to 21 records, sheets of up to 188 bytes), so a caller takes a split's records by its count and a sheet by its
-   length.
+   no size, number or name here changes, new ones may come. A caller takes a split's records by its count and a sheet by
+   its length: the arrays have room for the longest.
 
-   Since version 1.2 codes 2 to 5 may be absent, which was refused 5 before, and a split may have 6 records. A gas that
-   was rated before has the rating, the split and the rounds that it had.
+   Since version 1.2 codes 2 to 5 may be absent, which was refused 5 before, and a split may have 6 records. Since
+   version 1.3 hydrogen has code 15, which was refused 2 in a sheet and 5 in an analysis; a sheet may list 12 components
+   and have a split of 12, 15, 18 or 21 records, which was refused 1. A gas that was rated before has the rating, the
+   split and the rounds that it had.
 
    The functions keep nothing between calls, so several threads may call them at once. They use no heap, no floating
    point but in saugrinte_controller, and of a C library memcpy alone. No pointer may be null, not even with a length,
@@ -41,18 +43,18 @@
 extern "C" {
 #endif
 
-#define SAUGRINTE_VERSION 10200     /* of this header, 1.2.0: 10000, 100 and 1 times its three figures */
+#define SAUGRINTE_VERSION 10300     /* of this header, 1.3.0: 10000, 100 and 1 times its three figures */
 
 #define SAUGRINTE_CODES 16          /* entries of an analysis, one for each code from 0 to 15 */
 #define SAUGRINTE_RECORDS 21        /* room for a split's records */
-#define SAUGRINTE_SHEET 188         /* room for a sheet's bytes; the longest today has 111 */
+#define SAUGRINTE_SHEET 188         /* the bytes of the longest sheet */
 #define SAUGRINTE_ROUNDS 4000       /* the greatest allowance of rounds */
 
 /* The number of an answer. */
 enum {
     SAUGRINTE_DONE = 0,
     SAUGRINTE_TORN = 1,             /* torn: a sheet's count not allowed, too few bytes, bytes left over */
-    SAUGRINTE_UNKNOWN = 2,          /* unknown: code 0, 14 or above in components */
+    SAUGRINTE_UNKNOWN = 2,          /* unknown: code 0, 14, 16 or above in components */
     SAUGRINTE_RETIRED = 3,          /* retired: code 9 or 13 in components */
     SAUGRINTE_OUT_OF_ORDER = 4,     /* out of order: a code not above the one before */
     SAUGRINTE_OUT_OF_RANGE = 5,     /* out of range: an amount outside its range, or methane absent */
@@ -65,7 +67,7 @@ enum {
     SAUGRINTE_NO_MIXTURE = 12,      /* no mixture: amounts whose sum is 0 or above 1000000 */
     SAUGRINTE_NO_SYSTEM = 13,       /* no system: not one of those below, at saugrinte_partial_number */
     SAUGRINTE_SHORT_BLANK = 14,     /* short blank: the writer's buffer is too short */
-    SAUGRINTE_TOO_FEW = 16,         /* too few: fewer than two of the four components after simplification */
+    SAUGRINTE_TOO_FEW = 16,         /* too few: fewer than two of the five components after simplification */
     SAUGRINTE_SHARE = 17            /* share: a share outside the system's range of validity */
 };
 
@@ -82,7 +84,8 @@ enum {
     SAUGRINTE_HEXANES = 10,
     SAUGRINTE_CARBON_DIOXIDE = 11,
     SAUGRINTE_NITROGEN = 12,
-    SAUGRINTE_BUTANES = 14          /* in splits only */
+    SAUGRINTE_BUTANES = 14,         /* in splits only */
+    SAUGRINTE_HYDROGEN = 15
 };
 
 /* 0 for done, or the refusal's number with its place. */
@@ -126,7 +129,7 @@ saugrinte_answer saugrinte_rate(const uint8_t *sheet, size_t length, saugrinte_f
                                 uint32_t parts[SAUGRINTE_RECORDS]);
 
 /* Rates an analysis by the search, with at most `allowance` rounds; above 4000 counts as 4000.
-   Done: *figures holds rating, spread and rounds; *count, 6 or 9, and the three arrays the split found.
+   Done: *figures holds rating, spread and rounds; *count and the three arrays the split found.
    Refused 5, then 6, 16, 11: no buffer is changed. */
 saugrinte_answer saugrinte_search(const uint32_t amounts[SAUGRINTE_CODES], uint32_t allowance,
                                   saugrinte_figures *figures, size_t *count, uint8_t systems[SAUGRINTE_RECORDS],
@@ -170,8 +173,8 @@ saugrinte_answer saugrinte_partial_number(uint32_t system, uint32_t n1, uint32_t
                                           int64_t *number);
 
 /* Reads a sheet.
-   Done: amounts holds the analysis, *count 0, 6 or 9, the three arrays the split's records as they stand in the
-   sheet, and zeros after them.
+   Done: amounts holds the analysis, *count 0 or a multiple of three from 6 to 21, the three arrays the split's records
+   as they stand in the sheet, and zeros after them.
    Refused 1 to 6: no buffer is changed. */
 saugrinte_answer saugrinte_read(const uint8_t *sheet, size_t length, uint32_t amounts[SAUGRINTE_CODES],
                                 size_t *count, uint8_t systems[SAUGRINTE_RECORDS],
@@ -180,7 +183,8 @@ saugrinte_answer saugrinte_read(const uint8_t *sheet, size_t length, uint32_t am
 /* Writes the sheet of an analysis and a split, or of none (count 0), into a buffer of `room` bytes. The split's
    records are written as given.
    Done: *length holds the sheet's length, the buffer's first *length bytes the sheet; the others are unchanged.
-   Refused 1 (count not 0, 6 or 9), then 5, 6, 14: the buffer and *length are unchanged. */
+   Refused 1 (count neither 0 nor a multiple of three from 6 to 21), then 5, 6, 14: the buffer and *length are
+   unchanged. */
 saugrinte_answer saugrinte_write(const uint32_t amounts[SAUGRINTE_CODES], size_t count,
                                  const uint8_t systems[SAUGRINTE_RECORDS], const uint8_t codes[SAUGRINTE_RECORDS],
                                  const uint32_t parts[SAUGRINTE_RECORDS], uint8_t *buffer, size_t room,

@@ -119,7 +119,7 @@ class Line:
 
 # ------------------------------------------------------------ the reference's answers
 
-NO_CODE = 0, 9, 13, 14, 15
+NO_CODE = 0, 9, 13, 14
 
 
 def check(analysis):
@@ -309,8 +309,8 @@ def fitness_tie_gas(draw):
 
 
 def long_sheet(draw):
-    """A count above 11 with as many records, codes rising as long as they can."""
-    count = draw.pick((12, 12, 13, 14, 50, 51, 100, 255))
+    """A count above 12 with as many records, codes rising as long as they can."""
+    count = draw.pick((13, 13, 14, 15, 50, 51, 100, 255))
     listed = [(min(i + 1, 255), draw.below(U32)) for i in range(count)]
     return gases.sheet_of(listed, gases.random_records(draw) if draw.one_in(2) else None)
 
@@ -322,15 +322,16 @@ def seldom_cases(cases, exact, seed):
     for _ in range(5):
         sheet_cases(cases, exact, 'fitness tie', ref.layout(fitness_tie_gas(draw), None))
     for _ in range(20):
-        sheet_cases(cases, exact, 'count above 11', long_sheet(draw))
+        sheet_cases(cases, exact, 'count above 12', long_sheet(draw))
 
 
-# Counts of a split's records; the large ones have the last binary digits of 6 and 9.
-COUNTS = 0, 1, 3, 5, 6, 7, 8, 9, 10, 12, 21, 22, 255, 256 + 6, 256 + 9, U32 + 6, U32 + 9, U64 - 1
+# Counts of a split's records; the large ones have the last binary digits of 6, 9 and 15.
+COUNTS = (0, 1, 3, 5, 6, 7, 8, 9, 10, 12, 14, 15, 16, 18, 20, 21, 22, 24, 255, 256 + 6, 256 + 9, 256 + 15,
+          U32 + 6, U32 + 9, U32 + 15, U64 - 1)
 
-COMPONENTS = 'methane', 'ethane', 'propane', 'butane'
+COMPONENTS = 'methane', 'ethane', 'propane', 'butane', 'hydrogen'
 BUTANE_FROM = {'butanes': (4, 5), 'pentanes': (6, 7, 8), 'hexanes+': (10,), 'all': gases.BUTANE_CODES}
-SYSTEMS = {1: 'methane alone', 2: 'two systems', 3: 'three systems', 4: 'three systems'}   # by components present
+NUMBERS = {2: 'two', 3: 'three', 4: 'four', 5: 'five'}
 
 
 def set_kinds():
@@ -339,6 +340,13 @@ def set_kinds():
         kind = 'present: ' + ', '.join(COMPONENTS[c] for c in sorted({ref.M, *components}))
         for source in BUTANE_FROM if ref.B in components else ('',):
             yield kind + (' from ' + source if source else ''), components, BUTANE_FROM.get(source)
+
+
+def systems_word(analysis):
+    amounts = ref.simplify(analysis)
+    if len(ref.present(amounts)) < ref.FEWEST:
+        return 'methane alone'
+    return NUMBERS[len(ref.choose(amounts))] + ' systems'
 
 
 def split_sheet_cases(cases, kind, analysis, records):
@@ -350,23 +358,39 @@ def split_sheet_cases(cases, kind, analysis, records):
     cases.split(kind, analysis, len(records), records[:RECORDS], rate_split(analysis, len(records), records))
 
 
+def cut_to(records, count):
+    """The records, or so many of them, over again where they are too few."""
+    return (records * (count // len(records) + 1))[:count]
+
+
+# Counts that no sheet has, and counts that no gas here has; 12 and 18 beside five systems, 12 beside three.
+WRONG_COUNTS = 3, 7, 24, 255
+OTHER_COUNTS = 12, 18, 21
+
+
 def count_cases(cases, draw, analysis):
-    """Splits of six and of nine records, right ones and wrong, and of 3, 12 and 255."""
+    """Splits of as many records as the gas's systems take, right ones and wrong; of three more or less; of counts that
+    are allowed and fit no gas; and of counts that are not allowed."""
     got = gases.searched(analysis)
     right = gases.start_split(analysis) if isinstance(got, ref.Refusal) else got.split
-    systems = SYSTEMS[len(ref.present(ref.simplify(analysis)))]
+    systems = systems_word(analysis)
     for records in (right, gases.random_split(draw, analysis), gases.miscounted(draw, right)):
         split_sheet_cases(cases, '%d records, %s' % (len(records), systems), analysis, records)
-    for count in (3, 12, 255):
-        records, kind = (right * 43)[:count], '%d records' % count
+    for count in OTHER_COUNTS:
+        records = cut_to(right, count)
+        split_sheet_cases(cases, '%d records, %s' % (count, systems), analysis, records)
+        need = len(ref.layout(analysis, records))
+        cases.write('write, %d records' % count, analysis, count, records, need - 1, need + 1)
+    for count in WRONG_COUNTS:
+        records, kind = cut_to(right, count), '%d records' % count
         split_sheet_cases(cases, kind, analysis, records)
         room = draw.pick((0, ref.LONGEST, len(ref.layout(analysis, records))))
         cases.write('write, ' + kind, analysis, count, records[:RECORDS], room, room)
 
 
 def trace_gas(draw, code):
-    """Methane, one hydrocarbon at its least amount, carbon dioxide and perhaps nitrogen."""
-    a = [0] * 14
+    """Methane, one component at its least amount, carbon dioxide and perhaps nitrogen."""
+    a = [0] * ref.CODES
     a[code], a[11], a[12] = ref.RANGE[code][0], draw.between(300, 50000), draw.pick((0, draw.between(50, 50000)))
     a[1] = 1000000 - sum(a)
     return tuple(a)
@@ -395,6 +419,9 @@ def out_of_order_cases(cases, draw):
             cases.search(kind, analysis, allowance, search(analysis, allowance))
 
 
+TRACES = 2, 3, *gases.BUTANE_CODES, 15
+
+
 def lean_cases(cases, exact, seed):
     """Absent components: each set of those present, traces, counts of a split, the order of refusals."""
     draw = gases.Draw(seed + 4)
@@ -406,10 +433,113 @@ def lean_cases(cases, exact, seed):
         if isinstance(got, ref.Rating):
             for allowance in {max(got.rounds, 1) - 1, got.rounds}:
                 cases.search(kind, analysis, allowance, search(analysis, allowance))
-    for code in (2, 3, *gases.BUTANE_CODES):
+    for code in TRACES:
         sheet_cases(cases, exact, 'trace of code %d' % code, ref.layout(trace_gas(draw, code), None))
     for _ in range(5):
         out_of_order_cases(cases, draw)
+
+
+def both_cases(cases, exact, kind, analysis):
+    """An analysis as a sheet, and by the calls that take no sheet."""
+    sheet_cases(cases, exact, kind, ref.layout(analysis, None))
+    cases.search(kind, analysis, ref.MOST_ROUNDS, search(analysis, ref.MOST_ROUNDS))
+    records = gases.start_split(analysis)
+    cases.split(kind, analysis, len(records), records, rate_split(analysis, len(records), records))
+    cases.write(kind, analysis, 0, None, ref.LONGEST, ref.LONGEST)
+
+
+HYDROGEN_ENDS = 9, 10, 100000, 100001
+
+
+def with_hydrogen(draw, amount):
+    """A blend with so much hydrogen, in range but for that; methane makes up the total."""
+    while True:
+        a = list(draw.pick((gases.even_blend, gases.small_blend, gases.lean_blend))(draw))
+        a[15] = 0
+        a[1] = 0
+        a[1] = draw.between(999900, 1000100) - sum(a) - amount
+        if ref.RANGE[1][0] <= a[1] <= ref.RANGE[1][1]:
+            return (*a[:15], amount)
+
+
+def full_blend(draw):
+    """All twelve components listed."""
+    return gases.gas(draw, draw.pick((gases.amount_even, gases.amount_small)), None, True)
+
+
+def listed_cases(cases, exact, draw):
+    """Codes of components about 15: out of order, 14, 16, twice; hydrogen listed at 0; also where twelve are listed."""
+    for analysis in (gases.small_blend(draw), full_blend(draw)):
+        listed = gases.listed_of(analysis)
+        records = gases.start_split(analysis) if draw.one_in(2) else None
+        hydrogen = listed[-1]
+        for place in {*range(len(listed) - 1)} if len(listed) < 12 else {draw.below(11), 10}:
+            moved = [*listed[:place], hydrogen, *listed[place:-1]]
+            sheet_cases(cases, exact, '15 before another code', gases.sheet_of(moved, records))
+        for code, kind in ((14, '14 in components'), (16, '16 in components'), (255, '255 in components')):
+            sheet_cases(cases, exact, kind, gases.sheet_of([*listed[:-1], (code, hydrogen[1])], records))
+        for code, kind in ((14, '14 before 15'), (16, '16 after 15'), (15, '15 twice'), (13, '13 before 15')):
+            pair = [(code, 100), hydrogen] if code < 15 else [hydrogen, (code, 100)]
+            fewer = [*listed[:-2], *pair] if len(listed) == 12 else [*listed[:-1], *pair]
+            sheet_cases(cases, exact, kind, gases.sheet_of(fewer, records))
+        sheet_cases(cases, exact, '15 listed at 0', gases.sheet_of([*listed[:-1], (15, 0)], records))
+
+
+def length_cases(cases, exact, draw):
+    """Sheets of 112 to 189 bytes: whole ones of many lengths, and the longest cut short and made longer."""
+    analysis = full_blend(draw)
+    right = gases.start_split(analysis)
+    longest = ref.layout(analysis, cut_to(right, 21))
+    assert len(longest) == ref.LONGEST
+    for length in range(112, ref.LONGEST):
+        sheet_cases(cases, exact, 'cut to 112 to 187 bytes', longest[:length])
+    sheet_cases(cases, exact, '188 bytes', longest)
+    sheet_cases(cases, exact, '189 bytes', longest + bytes([draw.below(256)]))
+    # 189 bytes by their counts, each with all its records: 13 components and 20 split records
+    thirteen = gases.sheet_of([*gases.listed_of(analysis), (16, 100)], cut_to(right, 20))
+    sheet_cases(cases, exact, '13 components', thirteen)
+    for listed in range(6, 13):
+        while True:
+            few = gases.gas(draw, gases.amount_small, 2, True)
+            if sum(x > 0 for x in few) >= listed:
+                break
+        few = [(c, a) for c, a in gases.listed_of(few)]
+        while len(few) > listed:            # of others than methane; what they had is methane's
+            _, amount = few.pop(draw.between(1, len(few) - 1))
+            few[0] = (1, few[0][1] + amount)
+        for count in (12, 15, 18, 21):
+            sheet = gases.sheet_of(few, cut_to(right, count))
+            if len(sheet) >= 112:
+                sheet_cases(cases, exact, '112 to 188 bytes', sheet)
+
+
+def blend_split_cases(cases, draw, analysis):
+    """A blend's split without its last system, with another system for one of its own, with hydrogen before its
+    place."""
+    right = gases.start_split(analysis)
+    systems = sorted({s for s, _, _ in right})
+    split_sheet_cases(cases, '12 records, five systems', analysis, right[:12])
+    gone, other = draw.pick(systems), draw.pick([s for s in ref.BLEND_CANDIDATES if s not in systems])
+    more = [(other, ref.SPLIT_CODE[c], 0) for _, c in ref.expected((other,))]
+    swapped = sorted([*(r for r in right if r[0] != gone), *more])
+    split_sheet_cases(cases, 'another system of a blend', analysis, tuple(swapped))
+    place = draw.pick([i for i, r in enumerate(right) if r[1] == 15])
+    early = (*right[:place - 1], right[place], right[place - 1], *right[place + 1:])
+    split_sheet_cases(cases, 'hydrogen before its place', analysis, early)
+
+
+def blend_cases(cases, exact, seed):
+    """Hydrogen: the ends of its range, its code, ties of the choice, splits and sheets longer than other gases have."""
+    draw = gases.Draw(seed + 5)
+    for amount in HYDROGEN_ENDS:
+        for _ in range(4):
+            both_cases(cases, exact, 'hydrogen %d' % amount, with_hydrogen(draw, amount))
+    for _ in range(8):
+        both_cases(cases, exact, 'fitness tie of a blend', gases.fitness_tie_blend(draw))
+    listed_cases(cases, exact, draw)
+    length_cases(cases, exact, draw)
+    for _ in range(6):
+        blend_split_cases(cases, draw, gases.small_blend(draw))
 
 
 def at_no_code(draw, analysis):
@@ -539,6 +669,7 @@ def part_cases(seed, sheets, first):
             cases.partial('ends of shares, ' + system_word(case[0]), *case)
     seldom_cases(cases, exact, seed)
     lean_cases(cases, exact, seed)
+    blend_cases(cases, exact, seed)
     call_cases(cases, seed, sheets)
     for kind, sheet in itertools.islice(gases.sheets(seed, SEARCH_ONE_IN), sheets):
         sheet_cases(cases, exact, kind, sheet)

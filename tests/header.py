@@ -14,8 +14,7 @@ import sys
 
 ROOT = os.path.join(os.path.dirname(os.path.abspath(__file__)), '..')
 RETIRED, SPLITS_ONLY = 'retired', 'splitsOnly'
-NOT_YET = {15}              # refusals of requests that have not landed (Two)
-OTHER_ROOM = {'LISTED': 12, 'LONGEST_SPLIT': 21}     # what SAUGRINTE_SHEET leaves room for (request Seven)
+NOT_YET = {15, 18}          # refusals of mole analyses, which come with request Two
 
 
 def text(*path):
@@ -84,11 +83,11 @@ def same_promise(name, promise, body):
             fail('%s in the promises of %s and %s::%s is not the same' % (word, name, call[1], call[2]))
 
 
-def sheet_bytes(sizes):
-    """The bytes of the longest sheet by the source's own sum, with these figures in place of the source's."""
+def sheet_bytes():
+    """The bytes of the longest sheet by the source's own sum."""
     source = text('crates', 'sheet', 'src', 'lib.rt')
     rule = re.search(r'^pub const SHEET: usize = ([A-Z_0-9+* ]+);', source, re.M).group(1)
-    return eval(re.sub('[A-Z_]+', lambda m: str(sizes.get(m.group(), constant('sheet', m.group()))), rule))
+    return eval(re.sub('[A-Z_]+', lambda m: str(constant('sheet', m.group())), rule))
 
 
 def main():
@@ -105,9 +104,7 @@ def main():
          definition('sheet', 'Split.antt', 'RECORDS'), definition('split', 'Split.antt', 'RECORDS'))
     same('the greatest allowance', macros['ROUNDS'], constant('rating', 'ROUNDS'),
          definition('rating', 'Rate.antt', 'ROUNDS'))
-    same('the room for a sheet', macros['SHEET'], sheet_bytes(OTHER_ROOM))
-    longest = int(re.search(r'the longest today has ([0-9]+)', header).group(1))
-    same('the longest sheet', longest, sheet_bytes({}))
+    same('the longest sheet', macros['SHEET'], sheet_bytes())
     if re.search(r'\[(?!SAUGRINTE_CODES\]|SAUGRINTE_RECORDS\]|k\]|i\])', header):
         fail('an array without its named size')
 
@@ -125,9 +122,9 @@ def main():
     if sorted([*words, *NOT_YET]) != list(range(1, len(words) + len(NOT_YET) + 1)):
         fail('refusals are not numbered from 1, with %s left free' % sorted(NOT_YET))
 
-    # component codes: the register's entries, each under its name
+    # component codes: the register's entries, each under its name (a remark after it is left out)
     register = text('crates', 'analysis', 'specs', 'Register.antt')
-    entries = re.findall(r'-- ([^\n]+)\n    entry ([0-9]+) \(?(\w+)', register)
+    entries = re.findall(r'-- ([^\n(]+?)(?: \([^\n]*\))?\n    entry ([0-9]+) \(?(\w+)', register)
     wanted = {upper(name.split()[0] if status == SPLITS_ONLY else name): int(code)
               for name, code, status in entries if status != RETIRED}
     if codes != wanted or len(entries) != int(entries[-1][1]):

@@ -18,7 +18,7 @@ from differential import ref
 
 DATA = os.path.join(d.HERE, 'data')
 BOUND = 1                   # each difference from a published number is smaller
-GASES, COMPARED = 27, 14    # examples at least, and those of them with a published number that are rated
+GASES, COMPARED = 37, 16    # examples at least, and those of them with a published number that are rated
 # The annex's systems and ours where they differ, and the difference that this makes, to a hundredth.
 OTHER_SYSTEMS = {'A10-mix-1': ('A1, A4', '4, 8', '-2.64')}
 
@@ -32,7 +32,7 @@ def examples():
     """(name, analysis, published number or '-')."""
     for line in lines('published.txt'):
         words = line.split()
-        yield words[0], (0, *map(int, words[1:14])), words[14]
+        yield words[0], (0, *map(int, words[1:16])), words[16]
 
 
 def example_cases(cases, analysis):
@@ -85,8 +85,12 @@ def other_systems(name, published, result):
 PARTIAL = ((20, 1000000, 0, 0, 1000003000), (4, 1000000, 0, 0, 998693500), (7, 1000000, 0, 0, 973028600),
            (8, 1000000, 0, 0, 983775100), (2, 1000000, 0, 0, 335866010), (2, 0, 0, 1000000, 102451300))
 WHOLE = ((765000000, 77), (764999999, 76), (-5000000, 0), (-5000001, -1))
-METHANE = (0, 980000, 0, 0, 0, 0, 0, 0, 0, 0, 0, 10000, 10000, 0)
-TABLE_A1 = (0, 970797, 16658, 2417, 346, 245, 11, 73, 125, 0, 84, 528, 8715, 0)
+METHANE = (0, 980000, 0, 0, 0, 0, 0, 0, 0, 0, 0, 10000, 10000, 0, 0, 0)
+TABLE_A1 = (0, 970797, 16658, 2417, 346, 245, 11, 73, 125, 0, 84, 528, 8715, 0, 0, 0)
+EXAMPLE_3 = (0, 859910, 50360, 12000, 1909, 1727, 0, 364, 455, 0, 545, 13270, 9460, 0, 0, 50000)
+MIX_9 = (0, 800000, 50000, 50000, 25000, 25000, 0, 0, 0, 0, 0, 0, 0, 0, 0, 50000)
+# Blends with the systems that 000 prints for them.
+SYSTEMS = ((EXAMPLE_3, (1, 4, 5, 6, 8)), (MIX_9, (1, 5, 6, 7, 8)))
 
 
 def changed(**amounts):
@@ -94,6 +98,17 @@ def changed(**amounts):
     for code, amount in amounts.items():
         a[int(code[1:])] = amount
     return tuple(a)
+
+
+def hydrogen(amount):
+    """The gas of Table A.1 with so much hydrogen for methane."""
+    return changed(c1=970797 - amount, c15=amount)
+
+
+def chosen(line):
+    """The systems of the split that a driver printed for a search, without the guards."""
+    count, systems = (bytes.fromhex(word)[8:-8] for word in line.split()[3:5])
+    return tuple(systems[:int.from_bytes(count, 'big'):3])
 
 
 def fixed(driver):
@@ -113,13 +128,24 @@ def fixed(driver):
             (4000, (0, METHANE[1] - 101, *METHANE[2:]), 6)):
         asked.append('search 00 %d %s' % (allowance, d.amounts(analysis).hex()))
         wanted.append('%d %d' % (number, 2 if number == 5 else 0))
+    # the ends of hydrogen's range; in components 14 and 16 are unknown, and where 15 stands alone methane is at fault
+    for amount, number in ((9, 5), (10, 0), (100000, 0), (100001, 5)):
+        asked.append('search 00 4000 %s' % d.amounts(hydrogen(amount)).hex())
+        wanted.append('%d %d' % (number, 15 if number else 0))
+    for code, want in ((14, '2 0'), (15, '5 1'), (16, '2 0')):
+        asked.append('rate 00 01%02x0000006400' % code)
+        wanted.append(want)
     status, printed = d.run(driver, asked)
     if status != 0 or len(printed) != len(asked):
         sys.exit('published: the driver ended with status %d' % status)
     for line, want, got in zip(asked, wanted, printed):
         if got != want and not got.startswith(want + ' '):
             sys.exit('published: a fixed figure differs\n  case   %s\n  wanted %s\n  driver %s' % (line, want, got))
-    return len(asked)
+    for analysis, systems in SYSTEMS:
+        _, (line,) = d.run(driver, ['search 00 4000 ' + d.amounts(analysis).hex()])
+        if chosen(line) != systems:
+            sys.exit('published: systems %s chosen, published are %s' % (chosen(line), systems))
+    return len(asked) + len(SYSTEMS)
 
 
 def main():

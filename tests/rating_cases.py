@@ -44,6 +44,29 @@ ALONE_LESS = (0, 989899, 0, 0, 0, 0, 0, 0, 0, 0, 0, 10000, 0, 0, 0, 0)
 # No methane.
 NONE = (0, 0, 100000, 0, 0, 0, 0, 0, 0, 0, 0, 20000, 0, 0, 0, 0)
 
+# 000's example 3 and mix 9 of its Table A.10.
+EXAMPLE_3 = (0, 859910, 50360, 12000, 1909, 1727, 0, 364, 455, 0, 545, 13270, 9460, 0, 0, 50000)
+MIX_9 = (0, 800000, 50000, 50000, 25000, 25000, 0, 0, 0, 0, 0, 0, 0, 0, 0, 50000)
+# Hydrogen with methane; and ethane; propane; butane; ethane and propane; ethane and butane; propane and butane; with
+# methane and much butane, where system 2 is chosen.
+BLENDS = ((0, 900000, 0, 0, 0, 0, 0, 0, 0, 0, 0, 50000, 0, 0, 0, 50000),
+          (0, 900000, 30000, 0, 0, 0, 0, 0, 0, 0, 0, 20000, 0, 0, 0, 50000),
+          (0, 900000, 0, 30000, 0, 0, 0, 0, 0, 0, 0, 20000, 0, 0, 0, 50000),
+          (0, 900000, 0, 0, 10000, 20000, 0, 0, 0, 0, 0, 20000, 0, 0, 0, 50000),
+          (0, 880000, 30000, 20000, 0, 0, 0, 0, 0, 0, 0, 20000, 0, 0, 0, 50000),
+          (0, 880000, 30000, 0, 0, 20000, 0, 0, 0, 0, 0, 20000, 0, 0, 0, 50000),
+          (0, 880000, 0, 20000, 0, 30000, 0, 0, 0, 0, 0, 20000, 0, 0, 0, 50000),
+          (0, 404500, 100000, 60000, 40000, 40000, 500, 20000, 20000, 0, 15000, 50000, 150000, 0, 0, 100000))
+# Ethane 20000 beside hydrogen; the ends of hydrogen's range.
+HYDROGEN_9 = (0, 979991, 20000, 0, 0, 0, 0, 0, 0, 0, 0, 0, 0, 0, 0, 9)
+HYDROGEN_10 = (0, 979990, 20000, 0, 0, 0, 0, 0, 0, 0, 0, 0, 0, 0, 0, 10)
+HYDROGEN_100000 = (0, 880000, 20000, 0, 0, 0, 0, 0, 0, 0, 0, 0, 0, 0, 0, 100000)
+HYDROGEN_100001 = (0, 879999, 20000, 0, 0, 0, 0, 0, 0, 0, 0, 0, 0, 0, 0, 100001)
+# Methane and a trace of hydrogen.
+TRACE = (0, 989990, 0, 0, 0, 0, 0, 0, 0, 0, 0, 10000, 0, 0, 0, 10)
+# Butane and hydrogen have equal remainders: one part is given out.
+BUTANE_BEFORE_HYDROGEN = (0, 685996, 60000, 20000, 2000, 2002, 0, 0, 0, 0, 0, 50000, 150000, 0, 0, 30002)
+
 
 def search(gas, allowance=4000):
     return reference.display(reference.search(gas, allowance))
@@ -58,22 +81,33 @@ def cross(gas, other):
     return reference.display(reference.rate_split(gas, reference.search(other).split))
 
 
-def lean(gas):
+def cut(gas, count):
+    """A gas with the first records of the split that is found for it."""
+    return reference.display(reference.rate_split(gas, reference.search(gas).split[:count]))
+
+
+def gas_lines(gas):
     return mixture(gas), search(gas), back(gas)
 
 
 def mixture(gas):
     assert reference.check(gas) is None
-    return 'MIXTURE %d %d %d %d\n' % reference.simplify(gas)
+    return 'MIXTURE %d %d %d %d %d\n' % reference.simplify(gas)
 
 
 def text():
     lines = [search(GAS, 0), search(GAS), back(GAS), search(LESS), search(LEAST), search(ETHANE_99),
              search(ETHANE_100), *map(mixture, TIES), mixture(BUTANE), search(BUTANE), back(BUTANE),
-             *(line for gas in (*LEAN, MIX_1) for line in lean(gas)),
+             *(line for gas in (*LEAN, MIX_1) for line in gas_lines(gas)),
              mixture(ALONE), search(ALONE), search(ALONE, 0), search(ALONE_LESS), search(NONE),
              # six records and nine: for three systems, two, and methane alone, 16 before 7
              cross(GAS, LEAN[0]), cross(LEAN[0], GAS), cross(ALONE, LEAN[0]), cross(ALONE, GAS), cross(ALONE_LESS, GAS)]
+    # blends; fifteen, twelve, nine and six records for five systems, fifteen for three and for methane alone
+    blends = [*(line for gas in (EXAMPLE_3, MIX_9, *BLENDS) for line in gas_lines(gas)),
+              search(EXAMPLE_3, 0), *map(search, (HYDROGEN_9, HYDROGEN_10, HYDROGEN_100000, HYDROGEN_100001)),
+              search(TRACE), mixture(BUTANE_BEFORE_HYDROGEN),
+              cut(EXAMPLE_3, 15), cut(EXAMPLE_3, 12), cut(EXAMPLE_3, 9), cut(EXAMPLE_3, 6), cut(EXAMPLE_3, 0),
+              cross(EXAMPLE_3, MIX_9), cross(EXAMPLE_3, GAS), cross(GAS, EXAMPLE_3), cross(ALONE, EXAMPLE_3)]
     # what document 01 and 001 say of these gases
     assert lines[0] == 'REFUSED 11\n' and lines[3] == 'REFUSED 6\n' and lines[5] == 'REFUSED 5\n'
     assert (sum(LESS), sum(LEAST)) == (999899, 999900)
@@ -81,14 +115,21 @@ def text():
     # and request Five
     assert [len(reference.choose(reference.simplify(gas))) for gas in LEAN] == [2] * 6 + [3] * 3
     assert lines[-9:] == ['REFUSED %d\n' % n for n in (16, 16, 6, 5, 7, 7, 16, 16, 6)]
-    return ''.join(lines)
+    # and Seven
+    systems = [reference.choose(reference.simplify(gas)) for gas in (EXAMPLE_3, MIX_9, *BLENDS)]
+    assert systems[:2] == [(1, 4, 5, 6, 8), (1, 5, 6, 7, 8)] and 2 in systems[-1]
+    assert [len(s) for s in systems] == [5, 5, 2, 3, 3, 3, 3, 3, 3, 5]
+    assert blends[-8:] == ['REFUSED %d\n' % n for n in (7, 7, 7, 7, 7, 7, 7, 16)] and blends[-9].startswith('RATED')
+    return ''.join(lines + blends)
 
 
 def main():
     if sys.argv[1:] == ['--check']:
         source = open(os.path.join(CRATE, 'src', 'main.rt'), encoding='utf-8').read()
         listed = {tuple(map(int, re.findall('[0-9]+', row))) for row in re.findall(r'\[(\s*0,[0-9,\s]+)\]', source)}
-        if listed != {GAS, LESS, LEAST, ETHANE_99, ETHANE_100, *TIES, BUTANE, *LEAN, MIX_1, ALONE, ALONE_LESS, NONE}:
+        if listed != {GAS, LESS, LEAST, ETHANE_99, ETHANE_100, *TIES, BUTANE, *LEAN, MIX_1, ALONE, ALONE_LESS, NONE,
+                      EXAMPLE_3, MIX_9, *BLENDS, HYDROGEN_9, HYDROGEN_10, HYDROGEN_100000, HYDROGEN_100001, TRACE,
+                      BUTANE_BEFORE_HYDROGEN}:
             sys.exit('rating_cases.py: other gases than those of the program')
         if open(os.path.join(CRATE, 'stdout'), encoding='utf-8').read() != text():
             sys.exit('rating_cases.py: the file stdout holds other lines')

@@ -1,16 +1,16 @@
 #!/usr/bin/env python3
-"""Cases for reading and writing sheets, with the answers that document 01 and request Five fix.
+"""Cases for reading and writing sheets, with the answers that document 01 and requests Five and Seven fix.
 
 sheet_cases.py           writes crates/sheet_cases/data/ and crates/sheet_cases/stdout
 sheet_cases.py --check   compares those files with what is made here
 
 The reader below is written from document 01 ("The register and the sheet",
-"What is turned away") and request Five, apart from the program that is tested.
+"What is turned away") and these requests, apart from the program that is tested.
 
 A data file is a count of cases in two bytes and the cases, all numbers high
 byte first. A case is a length in two bytes, the codes at fault in two bytes
 (bit k for code k) and so many bytes: a sheet to read, or in `writings` 16
-amounts of four bytes, a split count, nine split records and the sheet that is
+amounts of four bytes, a split count, 21 split records and the sheet that is
 to be written. One line is printed for each:
 
   READ      16 amounts (indexed by code), SPLIT, split count, three fields a
@@ -18,7 +18,7 @@ to be written. One line is printed for each:
   REFUSED   number, and for 2 to 4 the place, for 5 FAULT where the code that
             came with it is at fault
 
-The counts after WRITE are over buffers of 0 to 112 bytes: refused 1, refused 5
+The counts after WRITE are over buffers of 0 to 189 bytes: refused 1, refused 5
 with a code at fault, refused 6, refused 14, written, and anything else. A refusal
 counts only where the buffer is unchanged; a writing only where the length is
 the sheet's, the sheet's bytes stand first and the bytes after them are
@@ -31,15 +31,17 @@ CRATE = os.path.join(os.path.dirname(os.path.abspath(__file__)), '..', 'crates',
 
 # Least and greatest amount in parts, by code.
 RANGE = {1: (400000, 999700), 2: (100, 150000), 3: (100, 60000), 4: (10, 40000), 5: (10, 40000), 6: (10, 500),
-         7: (10, 20000), 8: (10, 20000), 10: (10, 15000), 11: (50, 100000), 12: (50, 150000)}
+         7: (10, 20000), 8: (10, 20000), 10: (10, 15000), 11: (50, 100000), 12: (50, 150000), 15: (10, 100000)}
 RETIRED = (9, 13)
+UNKNOWN = (0, 14, *range(16, 256))      # as components
 REQUIRED = (1,)
 LEAST_TOTAL, GREATEST_TOTAL = 999900, 1000100
-MOST_COMPONENTS = 11
+MOST_COMPONENTS = 12
 CODES = 16
-SPLIT_COUNTS = (0, 6, 9)
+MOST_RECORDS = 21
+SPLIT_COUNTS = (0, *range(6, MOST_RECORDS + 1, 3))
 COMPONENT_SIZE, SPLIT_SIZE = 5, 6
-LARGEST_BUFFER = 112
+LARGEST_BUFFER = 189
 U32 = (1 << 32) - 1
 
 
@@ -87,7 +89,7 @@ def read(data):
     amounts, before = [0] * CODES, 0
     for place, record in enumerate(components):
         code = record[0]
-        if code == 0 or code >= 14:
+        if code in UNKNOWN:
             return 'REFUSED', 2, place
         if code in RETIRED:
             return 'REFUSED', 3, place
@@ -140,21 +142,34 @@ LEAN = [(1, 970000), (2, 10000), (11, 20000)]
 LEAN_START = [(4, 1, 494898), (4, 2, 5102), (4, 3, 0), (8, 1, 494898), (8, 2, 5102), (8, 14, 0)]
 ALONE = [(1, 980000), (11, 20000)]
 
+# All twelve components, and the fifteen records of five systems; as many records as there may be; methane and hydrogen.
+BLEND = [(1, 800000), (2, 60000), (3, 20000), (4, 1000), (5, 1000), (6, 100), (7, 1000), (8, 1000), (10, 1000),
+         (11, 50000), (12, 14900), (15, 50000)]
+BLEND_SPLIT = [(1, 1, 171000), (1, 2, 21000), (1, 15, 17800), (4, 1, 170999), (4, 2, 21000), (4, 3, 10667),
+               (5, 1, 170999), (5, 3, 10666), (5, 15, 17800), (6, 1, 170999), (6, 14, 6300), (6, 15, 17799),
+               (8, 1, 170999), (8, 2, 20999), (8, 14, 6299)]
+MOST = BLEND_SPLIT + ODD[:6]
+HYDROGEN = [(1, 950000), (15, 50000)]
+
 
 def truncations():
-    for good in (sheet(GAS), sheet(FIVE, ODD), sheet(GAS, START), sheet(LEAN, LEAN_START)):
+    for good in (sheet(GAS), sheet(FIVE, ODD), sheet(GAS, START), sheet(LEAN, LEAN_START), sheet(BLEND),
+                 sheet(BLEND, BLEND_SPLIT), sheet(BLEND, MOST)):
         for n in range(len(good) + 1):
             yield good[:n]
 
 
 def extensions():
-    for good in (sheet(FIVE), sheet(GAS, START), sheet(LEAN, LEAN_START)):
+    for good in (sheet(FIVE), sheet(GAS, START), sheet(LEAN, LEAN_START), sheet(BLEND, BLEND_SPLIT)):
         for byte in range(256):
             yield good + bytes([byte])
+    for byte in (0, 10, 15, 255):
+        yield sheet(BLEND, MOST) + bytes([byte])
+    yield sheet(BLEND, MOST) + bytes(6)
 
 
 def flips():
-    for good in (sheet(GAS), sheet(FIVE, ODD), sheet(LEAN, LEAN_START)):
+    for good in (sheet(GAS), sheet(FIVE, ODD), sheet(LEAN, LEAN_START), sheet(HYDROGEN, BLEND_SPLIT[:6])):
         for i in range(len(good)):
             for bit in range(8):
                 yield good[:i] + bytes([good[i] ^ 1 << bit]) + good[i + 1:]
@@ -163,19 +178,24 @@ def flips():
 def counts():
     """Counts, each with so many records after it, and with one byte less and more."""
     many = [(k, 100) for k in range(1, 256)]
-    for n in (0, 1, 10, 11, 12, 13, 128, 255):
+    for n in (0, 1, 10, 11, 12, 13, 14, 128, 255):
         whole = sheet(many[:n])
         yield from (whole, whole[:-1], whole + b'\0')
-    for n in (0, 1, 2, 3, 4, 5, 6, 7, 8, 9, 10, 12, 21, 128, 255):
-        for base in (GAS, LEAN, ALONE):
+    # Twelve components that are known, and thirteen.
+    for more in ([], [(15, 100)], [(16, 100)], [(255, 100)]):
+        for split in ((), BLEND_SPLIT, MOST):
+            yield sheet(BLEND + more, split)
+    for n in (*range(26), 127, 128, 255):
+        for base in (GAS, LEAN, ALONE, BLEND, HYDROGEN):
             whole = sheet(base, [(4, 1, n)] * n)
             yield from (whole, whole[:-1], whole + b'\0')
-    # The counts 6 and 9 with the other's records.
-    for split, n in ((LEAN_START, 9), (START, 6)):
-        whole = sheet(LEAN, split)
-        at = 1 + COMPONENT_SIZE * len(LEAN)
-        yield whole[:at] + bytes([n]) + whole[at + 1:]
-    for n in (8, 12, 255):
+    # Counts with another one's records.
+    for split, n in ((LEAN_START, 9), (START, 6), (BLEND_SPLIT, 12), (BLEND_SPLIT, 18), (BLEND_SPLIT[:12], 15), (MOST, 18)):
+        for base in (LEAN, BLEND):
+            whole = sheet(base, split)
+            at = 1 + COMPONENT_SIZE * len(base)
+            yield whole[:at] + bytes([n]) + whole[at + 1:]
+    for n in (8, 12, 13, 255):
         yield bytes([n]) + sheet(GAS)[1:]
         yield sheet(GAS)[:-1] + bytes([n])
         yield bytes([n]) + sheet(GAS, START)[1:]
@@ -189,15 +209,22 @@ def put(records, place, code=None, amount=None):
 
 def codes():
     for place in range(len(GAS)):
-        for code in (0, 9, 13, 14, 15, 128, 255):
+        for code in (0, 9, 13, 14, 15, 16, 128, 255):
             yield sheet(put(GAS, place, code))
             yield sheet(put(GAS, place, code), START)
+    for place in range(len(BLEND)):
+        for code in (0, 9, 13, 14, 15, 16, 17, 31, 255):
+            yield sheet(put(BLEND, place, code))
+            yield sheet(put(BLEND, place, code), BLEND_SPLIT)
+        # hydrogen's record before another
+        yield sheet(BLEND[:place] + BLEND[-1:] + BLEND[place:-1])
+    for place in range(len(GAS)):
         for code in sorted({1, GAS[place - 1][0] - 1, GAS[place - 1][0], GAS[(place + 1) % len(GAS)][0]}):
             yield sheet(put(GAS, place, code))
     yield sheet(GAS[::-1])
     # The earlier record decides, then 2 before 3 before 4; 1 before all, 5 and 6 after.
-    for first in (0, 9, 13, 14, 1):
-        for second in (0, 9, 13, 14, 1):
+    for first in (0, 9, 13, 14, 1, 15, 16):
+        for second in (0, 9, 13, 14, 1, 15, 16):
             both = put(put(GAS, 4, first), 7, second)
             yield from (sheet(both), sheet(both) + b'\0', sheet(put(both, 0, None, 0)), sheet(put(both, 10, None, U32), START))
     # The code before counts also where its amount is out of range, and a retired code below it stays retired.
@@ -207,30 +234,34 @@ def codes():
     yield sheet([(9, 100)])
     yield sheet([(13, 100)])
     yield sheet([(2, 100), (14, 100)])
+    yield from (sheet([(15, 100)]), sheet([(16, 100)]), sheet([(15, 100), (14, 100)]), sheet([(15, 100), (15, 100)]))
+    yield from (sheet([(15, 0), (12, 8715)]), sheet([(12, 8715), (15, 0)]), sheet([(15, 100), (13, 100)]))
     yield from (bytes([]), bytes([0]), bytes([0, 0]), bytes([0, 0, 0]))
     yield bytes.fromhex('01090000006400')
 
 
 def amounts():
     """Each code at and about its ends, listed with the total kept where methane can keep it."""
-    for place, (code, _) in enumerate(GAS):
+    for base, place in [(GAS, place) for place in range(len(GAS))] + [(BLEND, 1), (BLEND, 11), (HYDROGEN, 1)]:
+        code = base[place][0]
         least, greatest = RANGE[code]
         for amount in (0, 1, 49, 50, 99, 100, least - 1, least, least + 1, greatest - 1, greatest, greatest + 1, 1 << 24, 1 << 31, U32):
             if not 0 <= amount <= U32:
                 continue
-            changed = put(GAS, place, None, amount)
+            changed = put(base, place, None, amount)
             if code != 1:
                 rest = 1000000 - sum(x for c, x in changed if c != 1)
-                changed = put(changed, 0, None, rest if 0 <= rest <= U32 else GAS[0][1])
+                changed = put(changed, 0, None, rest if 0 <= rest <= U32 else base[0][1])
             yield sheet(changed)
     # Each code left out: methane is at fault, the others absent.
-    for place, (code, amount) in enumerate(GAS):
-        yield sheet(put(GAS, 0, None, GAS[0][1] + amount)[:place] + GAS[place + 1:])
-        yield sheet(GAS[:place] + GAS[place + 1:])
+    for base in (GAS, BLEND):
+        for place, (code, amount) in enumerate(base):
+            yield sheet(put(base, 0, None, base[0][1] + amount)[:place] + base[place + 1:])
+            yield sheet(base[:place] + base[place + 1:])
     # Every set of codes 2 to 5 absent, also with neither inert gases nor pentanes, and each of them listed at 0.
     for bits in range(16):
         absent = {2 + k for k in range(4) if bits >> k & 1}
-        for base in (GAS, FIVE):
+        for base in (GAS, FIVE, BLEND):
             left = sum(x for c, x in base if c in absent)
             yield sheet([(c, x + left if c == 1 else x) for c, x in base if c not in absent])
             yield sheet([(c, 0 if c in absent else x + left if c == 1 else x) for c, x in base])
@@ -253,10 +284,10 @@ def amounts():
 
 
 def totals():
-    for base in (GAS, FIVE, LEAN, ALONE):
+    for base in (GAS, FIVE, LEAN, ALONE, BLEND, HYDROGEN):
         rest = sum(x for c, x in base if c != 1)
         for total in (999899, 999900, 999901, 1000000, 1000099, 1000100, 1000101, 600000, 1100000):
-            for split in ((), START, LEAN_START):
+            for split in ((), START, LEAN_START, BLEND_SPLIT):
                 yield sheet(put(base, 0, None, total - rest), split)
     # Totals that come into range only where they wrap at 32 bits.
     yield sheet(FIVE + [(11, 1 << 31), (12, 1 << 31)])
@@ -272,9 +303,14 @@ def fields():
 
 def writings():
     """(amounts by code, split): what a reader would never hand on is refused too."""
-    gas, five, lean, alone = ([dict(base).get(code, 0) for code in range(CODES)] for base in (GAS, FIVE, LEAN, ALONE))
-    for split in ([], START, ODD, LEAN_START):
+    gas, five, lean, alone, blend, hydrogen = ([dict(base).get(code, 0) for code in range(CODES)]
+                                               for base in (GAS, FIVE, LEAN, ALONE, BLEND, HYDROGEN))
+    for split in ([], START, ODD, LEAN_START, BLEND_SPLIT, MOST):
         yield from ((gas, split), (five, split), (lean, split), (alone, split), ([0] * CODES, split))
+        yield from ((blend, split), (hydrogen, split))
+        for amount in (9, 10, 100000, 100001):
+            yield [0, 900000 - amount, 100000] + [0] * 12 + [amount], split
+        yield blend[:14] + [1] + blend[15:], split
         for code in range(CODES):
             for amount in (0, 1, 9, 99, 100, 40000, 1000000, U32):
                 yield gas[:code] + [amount] + gas[code + 1:], split
@@ -285,9 +321,10 @@ def writings():
         yield five[:11] + [1 << 31, 1 << 31] + five[13:], split
         yield five[:11] + [U32, 1] + five[13:], split
     # Counts that are not allowed, before 5 and 6.
-    for n in (1, 2, 3, 4, 5, 7, 8, 10, 12, 18, 21, 22, 128, 255):
-        for split in ([(4, 1, n)] * n, (START * 29)[:n]):
+    for n in (*range(1, 25), 127, 128, 255):
+        for split in ([(4, 1, n)] * n, (MOST * 13)[:n]):
             yield from ((gas, split), (lean, split), (alone, split), ([0] * CODES, split), ([0, 900000] + gas[2:], split))
+            yield blend, split
 
 
 def write_case(analysis, split):
@@ -295,7 +332,7 @@ def write_case(analysis, split):
     refused, wrong = checked(analysis, [c for c in range(CODES) if analysis[c]])
     if len(split) not in SPLIT_COUNTS:
         refused, wrong = 1, set()
-    records = (split + [(0, 0, 0)] * 9)[:9]
+    records = (split + [(0, 0, 0)] * MOST_RECORDS)[:MOST_RECORDS]
     body = b''.join(a.to_bytes(4, 'big') for a in analysis) + bytes([len(split)])
     body += b''.join(bytes([s, c]) + a.to_bytes(4, 'big') for s, c, a in records)
     if refused:
@@ -344,8 +381,17 @@ def self_test():
     assert line(sheet([(1, 969900), (2, 100), (3, 20000), (4, 5000), (5, 5000)])).startswith('READ')
     # and request Five
     assert line(sheet(LEAN, LEAN_START)).startswith('READ') and line(sheet(ALONE)).startswith('READ')
-    assert line(sheet(GAS, START[:3])) == line(sheet(LEAN, START + START[:3])) == 'REFUSED 1'
+    assert line(sheet(GAS, START[:3])) == line(sheet(LEAN, START + START[:1])) == 'REFUSED 1'
     assert line(sheet(GAS[1:])) == line(sheet(LEAN[:2] + [(3, 0)] + LEAN[2:])) == 'REFUSED 5 FAULT'
+    # and request Seven
+    assert sum(x for _, x in BLEND) == sum(x for _, x in HYDROGEN) == 1000000
+    assert len(sheet(BLEND, MOST)) == 188 == LARGEST_BUFFER - 1 and len(BLEND) == MOST_COMPONENTS
+    assert line(sheet(BLEND, MOST)).startswith('READ') and line(sheet(HYDROGEN)).startswith('READ')
+    assert line(sheet(BLEND, MOST) + b'\0') == line(sheet(BLEND + [(16, 1)])) == 'REFUSED 1'
+    assert line(sheet([(1, 950000), (15, 50000), (12, 50)])) == 'REFUSED 4 2'
+    assert line(sheet([(1, 950000), (14, 50000)])) == line(sheet([(1, 950000), (16, 50000)])) == 'REFUSED 2 1'
+    for amount, answer in ((0, 'REFUSED 5'), (9, 'REFUSED 5'), (10, 'READ'), (100000, 'READ'), (100001, 'REFUSED 5')):
+        assert line(sheet([(1, 900000 - amount), (2, 100000), (15, amount)])).startswith(answer)
 
 
 def main():

@@ -7,9 +7,10 @@ A line is a component and its amount in percent by volume, with at most four dec
 
   methane 97.0797
   n-butane 0.0245
+  hydrogen 5.0
 
 A component that is absent has no line; every gas has methane. Where a split is proposed, one line more for each of its
-six or nine records, in their order:
+records, three for each system, in their order:
 
   split 4 methane 31.0026
 
@@ -21,10 +22,10 @@ import sys
 
 CODES = {
     'methane': 1, 'ethane': 2, 'propane': 3, 'i-butane': 4, 'n-butane': 5, 'neo-pentane': 6, 'i-pentane': 7,
-    'n-pentane': 8, 'hexanes+': 10, 'carbon-dioxide': 11, 'nitrogen': 12,
+    'n-pentane': 8, 'hexanes+': 10, 'carbon-dioxide': 11, 'nitrogen': 12, 'hydrogen': 15,
 }
-SPLIT_CODES = {'methane': 1, 'ethane': 2, 'propane': 3, 'butane': 14}
-SPLIT_COUNTS = (0, 6, 9)
+SPLIT_CODES = {'methane': 1, 'ethane': 2, 'propane': 3, 'butane': 14, 'hydrogen': 15}
+SPLIT_COUNTS = (0, 6, 9, 12, 15, 18, 21)
 GREATEST = 4294967295
 
 
@@ -71,7 +72,7 @@ def read(lines):
         except ValueError as wrong:
             sys.exit(f'sheet: line {number}: {wrong}')
     if len(split) not in SPLIT_COUNTS:
-        sys.exit(f'sheet: a split has six or nine records, and {len(split)} are given')
+        sys.exit(f'sheet: a split has three records for each of two to seven systems, and {len(split)} are given')
     return components, split
 
 

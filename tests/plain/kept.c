@@ -21,10 +21,10 @@ static void forget(state *t, int row)
         t->less[row][c] = t->more[row][c] = NOT_KNOWN;
 }
 
-static void forget_all(state *t, uint32_t stride)
+static void forget_all(state *t, uint32_t stride, int count)
 {
     t->stride = stride;
-    for (int row = 0; row < CHOSEN; row++)
+    for (int row = 0; row < count; row++)
         forget(t, row);
 }
 
@@ -98,7 +98,7 @@ static void move(split *s, state *t, int c, int from, int to)
 static int first_move(split *s, uint32_t stride, state *t)
 {
     if (t->stride != stride)
-        forget_all(t, stride);
+        forget_all(t, stride, s->count);
     totals all = totals_of(s);
     int64_t was = imbalance_of(all, s->count);
     for (int c = 0; c < COMPONENTS; c++)

@@ -10,11 +10,11 @@ enum { TORN = 1, UNKNOWN, RETIRED, OUT_OF_ORDER, OUT_OF_RANGE, TOTAL, MISFIT, UN
 enum { CODES = SAUGRINTE_CODES, ROOM = SAUGRINTE_RECORDS, ROUNDS = SAUGRINTE_ROUNDS };
 
 /* Components of the simplified mixture. */
-enum { METHANE, ETHANE, PROPANE, BUTANE, COMPONENTS };
+enum { METHANE, ETHANE, PROPANE, BUTANE, HYDROGEN, COMPONENTS };
 
-/* The four systems to choose from, in the order of their numbers 2, 4, 7, 8; the inert system, 20; the others. At most
-   three are chosen. */
-enum { CANDIDATES = 4, INERT = 4, SYSTEMS = 16, CHOSEN = 3, MEMBERS = 3 };
+/* The systems to choose from, in the order of their numbers 1, 2, 4, 5, 6, 7, 8, those with hydrogen only where the gas
+   has some; the inert system, 20; the others. */
+enum { CANDIDATES = 7, INERT = 7, SYSTEMS = 16, CHOSEN = CANDIDATES, MEMBERS = 3 };
 
 #define WHOLE 1000000
 #define LIMIT 500000
@@ -45,7 +45,7 @@ static const struct { uint32_t least, greatest; int required; } ranges[CODES] = 
     { 50, 150000, 0 },
     { 0, 0, 0 },
     { 0, 0, 0 },
-    { 0, 0, 0 },
+    { 10, 100000, 0 },
 };
 
 static int in_range(int code, uint32_t amount)
@@ -72,6 +72,16 @@ static const int highest[8] = { 6, 3, 2, 1, 0, 0, 0, 0 };
 
 /* Systems 9, 10 and 11 are left out: the magnitudes in each of them add up to more than 2000000000000. */
 static const int64_t coefficients[SYSTEMS][8][7] = {
+    { /* 1: methane, hydrogen, ethane */
+        { 436281900, -10488580, -432027400, 685074200, -671380200, 0, 0 },
+        { -92508870, -250077300, -535280100, 297065800 },
+        { 1644927000, -604869600, 1210969000 },
+        { -3119169000, 2199370000 },
+        { 2122334000 },
+        { 0 },
+        { 0 },
+        { 0 },
+    },
     { /* 2: propane, ethane, butane */
         { 102451300, 149821300, 513697100, -568561500, 240394800, 0, 0 },
         { 85906610, 957050400, -458027700, -314015700 },
@@ -90,6 +100,26 @@ static const int64_t coefficients[SYSTEMS][8][7] = {
         { 20052880000 },
         { -21154170000 },
         { 9054020000 },
+        { 0 },
+    },
+    { /* 5: methane, hydrogen, propane */
+        { 347580400, 54737050, -1056781000, 2289769000, -1634024000, 0, 0 },
+        { -519490500, 2642531000, -3555327000, 748608500 },
+        { 4405446000, -10846450000, 7987488000 },
+        { -8743329000, 11309800000 },
+        { 5476742000 },
+        { 0 },
+        { 0 },
+        { 0 },
+    },
+    { /* 6: methane, hydrogen, butane */
+        { 122990200, -451037000, 1786630000, -1427912000, 0, 0, 0 },
+        { -751820700, 5126147000, -10022400000, 5249888000 },
+        { 5143333000, -16406520000, 15763060000 },
+        { -10241590000, 15661210000 },
+        { 6699563000 },
+        { 0 },
+        { 0 },
         { 0 },
     },
     { /* 7: methane, propane, butane */
@@ -122,16 +152,6 @@ static const int64_t coefficients[SYSTEMS][8][7] = {
         { 261057000000 },
         { -61439140000 },
     },
-    { /* 1: methane, hydrogen, ethane */
-        { 436281900, -10488580, -432027400, 685074200, -671380200, 0, 0 },
-        { -92508870, -250077300, -535280100, 297065800 },
-        { 1644927000, -604869600, 1210969000 },
-        { -3119169000, 2199370000 },
-        { 2122334000 },
-        { 0 },
-        { 0 },
-        { 0 },
-    },
     { /* 3: hydrogen, propane, propylene */
         { 186279400, 108710900, 179850000, -258366700, 119878900, 0, 0 },
         { -120358100, -130506300, 856137600, -626261300 },
@@ -141,26 +161,6 @@ static const int64_t coefficients[SYSTEMS][8][7] = {
         { -69526380000 },
         { 57989840000 },
         { -19133740000 },
-    },
-    { /* 5: methane, hydrogen, propane */
-        { 347580400, 54737050, -1056781000, 2289769000, -1634024000, 0, 0 },
-        { -519490500, 2642531000, -3555327000, 748608500 },
-        { 4405446000, -10846450000, 7987488000 },
-        { -8743329000, 11309800000 },
-        { 5476742000 },
-        { 0 },
-        { 0 },
-        { 0 },
-    },
-    { /* 6: methane, hydrogen, butane */
-        { 122990200, -451037000, 1786630000, -1427912000, 0, 0, 0 },
-        { -751820700, 5126147000, -10022400000, 5249888000 },
-        { 5143333000, -16406520000, 15763060000 },
-        { -10241590000, 15661210000 },
-        { 6699563000 },
-        { 0 },
-        { 0 },
-        { 0 },
     },
     { /* 12: methane, propylene */
         { 590955150, -3406924000, 15370325000, -36748700000, 46273625000, -29054230000, 7163830000 },
@@ -253,7 +253,7 @@ static int64_t partial_number(int system, int64_t n1, int64_t n2, int64_t n3)
 /* The place of a system's coefficients and shares, by its number. */
 enum { NONE = 255 };
 static const uint8_t places[21] = {
-    NONE, 5, 0, 6, 1, 7, 8, 2, 3, NONE, NONE, NONE, 9, 10, 11, 12, 13, 14, 15, NONE, INERT,
+    NONE, 0, 1, 8, 2, 3, 4, 5, 6, NONE, NONE, NONE, 9, 10, 11, 12, 13, 14, 15, NONE, INERT,
 };
 
 /* Least and greatest share of a component, in percent. */
@@ -266,15 +266,15 @@ typedef struct {
 #define ALL { 100, 100 }
 
 static const range shares[SYSTEMS][MEMBERS] = {
+    { ANY, ANY, ANY },                      /* 1 */
     { ANY, ANY, ANY },                      /* 2 */
     { ANY, ANY, ANY },                      /* 4 */
+    { ANY, ANY, ANY },                      /* 5 */
+    { ANY, ANY, ANY },                      /* 6 */
     { ANY, ANY, ANY },                      /* 7 */
     { ANY, ANY, ANY },                      /* 8 */
     { { 50, 100 }, { 0, 30 }, { 0, 50 } },  /* 20 */
-    { ANY, ANY, ANY },                      /* 1 */
     { ANY, ANY, ANY },                      /* 3 */
-    { ANY, ANY, ANY },                      /* 5 */
-    { ANY, ANY, ANY },                      /* 6 */
     { ANY, ANY, BLANK },                    /* 12 */
     { ANY, ANY, BLANK },                    /* 13 */
     { ANY, ANY, BLANK },                    /* 14 */
@@ -305,6 +305,7 @@ static mixture simplify(const uint32_t amounts[CODES])
     tenths[PROPANE] = 10 * (uint64_t)amounts[3];
     tenths[BUTANE] = 10 * ((uint64_t)amounts[4] + amounts[5])
         + 23 * ((uint64_t)amounts[6] + amounts[7] + amounts[8]) + 53 * (uint64_t)amounts[10];
+    tenths[HYDROGEN] = 10 * (uint64_t)amounts[15];
     for (int c = 0; c < COMPONENTS; c++)
         total += tenths[c];
     for (int c = 0; c < COMPONENTS; c++) {
@@ -329,29 +330,38 @@ static mixture simplify(const uint32_t amounts[CODES])
 
 /* ---- choice of systems (000 A.3.2) ---- */
 
-static const int system_numbers[CANDIDATES] = { 2, 4, 7, 8 };
+static const int system_numbers[CANDIDATES] = { 1, 2, 4, 5, 6, 7, 8 };
 
 /* Members as named: the first two are the formula's variables. */
 static const int formula[CANDIDATES][MEMBERS] = {
+    { METHANE, HYDROGEN, ETHANE },
     { PROPANE, ETHANE, BUTANE },
     { METHANE, ETHANE, PROPANE },
+    { METHANE, HYDROGEN, PROPANE },
+    { METHANE, HYDROGEN, BUTANE },
     { METHANE, PROPANE, BUTANE },
     { METHANE, ETHANE, BUTANE },
 };
 
 /* Members in the order of a split's records. */
 static const int members[CANDIDATES][MEMBERS] = {
+    { METHANE, ETHANE, HYDROGEN },
     { ETHANE, PROPANE, BUTANE },
     { METHANE, ETHANE, PROPANE },
+    { METHANE, PROPANE, HYDROGEN },
+    { METHANE, BUTANE, HYDROGEN },
     { METHANE, PROPANE, BUTANE },
     { METHANE, ETHANE, BUTANE },
 };
 
 static const int contains[CANDIDATES][COMPONENTS] = {
-    { 0, 1, 1, 1 },
-    { 1, 1, 1, 0 },
-    { 1, 0, 1, 1 },
-    { 1, 1, 0, 1 },
+    { 1, 1, 0, 0, 1 },
+    { 0, 1, 1, 1, 0 },
+    { 1, 1, 1, 0, 0 },
+    { 1, 0, 1, 0, 1 },
+    { 1, 0, 0, 1, 1 },
+    { 1, 0, 1, 1, 0 },
+    { 1, 1, 0, 1, 0 },
 };
 
 /* How many components are present: a choice is made for two or more. */
@@ -363,29 +373,34 @@ static int present(const mixture *m)
     return count;
 }
 
-/* A system with more of its components present goes before a fitter one; absent components choose none. The number of
-   systems. */
+/* A system with more of its components present goes before a fitter one; absent components choose none, and systems
+   with hydrogen are no candidates where there is none. The number of systems. */
 static int choose(const mixture *m, int systems[CHOSEN])
 {
-    static const uint64_t weights[COMPONENTS] = { 48, 75, 80, 100 };
-    static const int order[COMPONENTS] = { PROPANE, ETHANE, BUTANE, METHANE };
+    static const uint64_t weights[COMPONENTS] = { 48, 75, 80, 100, 96 };
+    static const int order[COMPONENTS] = { HYDROGEN, PROPANE, ETHANE, BUTANE, METHANE };
     uint64_t fitness[CANDIDATES] = { 0 };
     int there[CANDIDATES] = { 0 };
+    int candidate[CANDIDATES];
     int chosen[CANDIDATES] = { 0 };
     int times[COMPONENTS] = { 0 };
-    for (int s = 0; s < CANDIDATES; s++)
-        for (int c = 0; c < COMPONENTS; c++)
-            if (contains[s][c]) {
-                fitness[s] += weights[c] * m->amounts[c];
-                there[s] += m->amounts[c] > 0;
-            }
+    for (int s = 0; s < CANDIDATES; s++) {
+        candidate[s] = !contains[s][HYDROGEN] || m->amounts[HYDROGEN] > 0;
+        if (!candidate[s])
+            continue;
+        for (int i = 0; i < MEMBERS; i++) {
+            int c = formula[s][i];
+            fitness[s] += weights[c] * m->amounts[c];
+            there[s] += m->amounts[c] > 0;
+        }
+    }
     for (int wanted = 1; wanted <= 2; wanted++)
         for (int i = 0; i < COMPONENTS; i++) {
             if (m->amounts[order[i]] == 0 || times[order[i]] >= wanted)
                 continue;
             int best = -1;
             for (int s = 0; s < CANDIDATES; s++)
-                if (contains[s][order[i]] && !chosen[s]
+                if (candidate[s] && contains[s][order[i]] && !chosen[s]
                     && (best < 0 || there[s] > there[best]
                         || (there[s] == there[best] && fitness[s] > fitness[best])))
                     best = s;
@@ -394,22 +409,34 @@ static int choose(const mixture *m, int systems[CHOSEN])
                 times[c] += contains[best][c];
         }
     int count = 0;
-    for (int s = 0; s < CANDIDATES && count < CHOSEN; s++)
+    for (int s = 0; s < CANDIDATES; s++)
         if (chosen[s])
             systems[count++] = s;
     return count;
 }
 
+/* 16, or 13 for a chosen system that Table A.2's rule leaves out: it leaves out none of these. */
+static saugrinte_answer chosen_for(const mixture *m, int *count, int systems[CHOSEN])
+{
+    if (present(m) < 2)
+        return refused(TOO_FEW, 0);
+    *count = choose(m, systems);
+    for (int i = 0; i < *count; i++)
+        if (places[system_numbers[systems[i]]] == NONE)
+            return refused(NO_SYSTEM, 0);
+    return done;
+}
+
 /* ---- the split and the rating ---- */
 
 typedef struct {
-    int count;                          /* of systems, 2 or 3 */
+    int count;                          /* of systems, 2 at least */
     int systems[CHOSEN];
     uint32_t amounts[CHOSEN][COMPONENTS];
     int64_t numbers[CHOSEN];
 } split;
 
-static const uint8_t split_codes[COMPONENTS] = { 1, 2, 3, 14 };
+static const uint8_t split_codes[COMPONENTS] = { 1, 2, 3, 14, 15 };
 
 static int64_t number_of(int system, const uint32_t amounts[COMPONENTS])
 {
@@ -453,9 +480,9 @@ static saugrinte_answer rate_records(const uint32_t amounts[CODES], size_t count
     mixture m = simplify(amounts);
     split s = { 0 };
     uint64_t sums[COMPONENTS] = { 0 };
-    if (present(&m) < 2)
-        return refused(TOO_FEW, 0);
-    s.count = choose(&m, s.systems);
+    saugrinte_answer answer = chosen_for(&m, &s.count, s.systems);
+    if (answer.number)
+        return answer;
     int records = s.count * MEMBERS;
     if (count != (size_t)records)
         return refused(MISFIT, 0);
@@ -482,14 +509,15 @@ static saugrinte_answer rate_records(const uint32_t amounts[CODES], size_t count
 
 /* ---- the search ---- */
 
+/* Shares each component among the systems chosen; one that is in none of them is absent. */
 static void start(const mixture *m, split *s)
 {
-    memset(s, 0, sizeof *s);
-    s->count = choose(m, s->systems);
     for (int c = 0; c < COMPONENTS; c++) {
         uint32_t sharing = 0;
         for (int i = 0; i < s->count; i++)
             sharing += contains[s->systems[i]][c];
+        if (sharing == 0)
+            continue;
         uint32_t share = m->amounts[c] / sharing, odd = m->amounts[c] % sharing;
         for (int i = 0; i < s->count; i++)
             if (contains[s->systems[i]][c]) {
@@ -513,12 +541,14 @@ typedef struct {
 /* Over every pair of systems. */
 static uint64_t imbalance_of(const int64_t numbers[CHOSEN], int count)
 {
-    int64_t a = numbers[0] / 10000, b = numbers[1] / 10000;
-    uint64_t sum = (a - b) * (a - b);
-    if (count < CHOSEN)
-        return sum;
-    int64_t c = numbers[2] / 10000;
-    return sum + (b - c) * (b - c) + (a - c) * (a - c);
+    int64_t cut[CHOSEN];
+    uint64_t sum = 0;
+    for (int i = 0; i < count; i++) {
+        cut[i] = numbers[i] / 10000;
+        for (int j = 0; j < i; j++)
+            sum += (cut[i] - cut[j]) * (cut[i] - cut[j]);
+    }
+    return sum;
 }
 
 static void begin(const split *s, state *at)
@@ -532,7 +562,8 @@ static int move(split *s, int c, int from, int to, uint32_t stride, state *at)
 {
     if (s->amounts[from][c] < stride || parts_of(s->amounts[from]) == stride)
         return 0;
-    int64_t numbers[CHOSEN] = { s->numbers[0], s->numbers[1], s->numbers[2] };
+    int64_t numbers[CHOSEN];
+    memcpy(numbers, s->numbers, sizeof numbers);
     s->amounts[from][c] -= stride;
     s->amounts[to][c] += stride;
     numbers[from] = number_of(s->systems[from], s->amounts[from]);
@@ -566,8 +597,10 @@ static saugrinte_answer find(const uint32_t amounts[CODES], uint32_t allowance, 
     mixture m = simplify(amounts);
     uint32_t stride = 65536, rounds = 0;
     state at;
-    if (present(&m) < 2)
-        return refused(TOO_FEW, 0);
+    memset(s, 0, sizeof *s);
+    saugrinte_answer answer = chosen_for(&m, &s->count, s->systems);
+    if (answer.number)
+        return answer;
     start(&m, s);
     begin(s, &at);
     for (;;) {
@@ -612,13 +645,13 @@ static uint8_t *put_four_bytes(uint8_t *b, uint32_t value)
 /* How many records a split may have in a sheet. */
 static int allowed(size_t count)
 {
-    return count == 0 || count == 6 || count == 9;
+    return count == 0 || (count >= 6 && count <= 21 && count % 3 == 0);
 }
 
 static saugrinte_answer parse(const uint8_t *sheet, size_t length, contents *out)
 {
     memset(out, 0, sizeof *out);
-    if (length < 1 || sheet[0] > 11 || length < 2 + 5 * (size_t)sheet[0])
+    if (length < 1 || sheet[0] > 12 || length < 2 + 5 * (size_t)sheet[0])
         return refused(TORN, 0);
     size_t components = sheet[0];
     const uint8_t *second = sheet + 1 + 5 * components;
@@ -629,7 +662,7 @@ static saugrinte_answer parse(const uint8_t *sheet, size_t length, contents *out
     for (size_t r = 0; r < components; r++) {
         const uint8_t *record = sheet + 1 + 5 * r;
         int code = record[0];
-        if (code == 0 || code >= 14)
+        if (code == 0 || code == 14 || code > 15)
             return refused(UNKNOWN, r);
         if (code == 9 || code == 13)
             return refused(RETIRED, r);

@@ -28,9 +28,10 @@ CODES = sorted(ref.RANGE)
 FULL = (1, 2, 3, 4, 5)      # in every gas that is not lean
 BUTANE_CODES = (4, 5, 6, 7, 8, 10)      # what the mixture's butane comes from
 
-# The components present beside methane, every set of them, none to all.
-SETS = tuple(frozenset(c for place, c in enumerate((ref.E, ref.P, ref.B))
-                       if bits >> place & 1) for bits in range(8))
+# The components present beside methane, every set of them, none to all: the
+# eight sets without hydrogen, then the same with it.
+SETS = tuple(frozenset(c for place, c in enumerate((ref.E, ref.P, ref.B, ref.H))
+                       if bits >> place & 1) for bits in range(16))
 
 
 class Draw:
@@ -89,12 +90,17 @@ def amount_rich(draw, code):
     return draw.between(greatest - greatest // 8, greatest)
 
 
-def gas(draw, amount, absent_one_in=4):
-    """An analysis in range; methane takes the rest of the total."""
+def gas(draw, amount, absent_one_in=4, hydrogen=False):
+    """An analysis in range; methane takes the rest of the total.  No code is
+    absent where absent_one_in is None."""
     while True:
-        a = [0] * 14
+        a = [0] * ref.CODES
         for code in CODES[1:]:
-            if code not in FULL and draw.one_in(absent_one_in):
+            if code == 15:
+                if not hydrogen:
+                    continue
+            elif code not in FULL and absent_one_in \
+                    and draw.one_in(absent_one_in):
                 continue
             a[code] = amount(draw, code)
         total = draw.pick((1000000, 999900, 1000100,
@@ -112,9 +118,12 @@ def small_gas(draw):
     return gas(draw, amount_small)
 
 
+def limits(draw, code):
+    return draw.pick((amount_limit, amount_limit, amount_even))(draw, code)
+
+
 def limit_gas(draw):
-    return gas(draw, lambda d, c: d.pick(
-        (amount_limit, amount_limit, amount_even))(d, c))
+    return gas(draw, limits)
 
 
 def rich_gas(draw):
@@ -156,10 +165,10 @@ def set_gas(draw, components, butanes=BUTANE_CODES):
     """An analysis in range with just these components beside methane; butane
     from some of the codes named."""
     while True:
-        a = [0] * 14
+        a = [0] * ref.CODES
         amount = draw.pick((amount_small, amount_small, amount_even,
                             amount_limit))
-        codes = [code for c, code in ((ref.E, 2), (ref.P, 3))
+        codes = [code for c, code in ((ref.E, 2), (ref.P, 3), (ref.H, 15))
                  if c in components]
         if ref.B in components:
             codes += some_of(draw, butanes)
@@ -181,13 +190,13 @@ def lean_gas(draw):
 
 def heavy_gas(draw):
     """Pentanes and hexanes+ in place of butanes, with or without others."""
-    return set_gas(draw, draw.pick(SETS[4:]), BUTANE_CODES[2:])
+    return set_gas(draw, draw.pick(SETS[4:8]), BUTANE_CODES[2:])
 
 
 def rich_lean_gas(draw):
     """Much butane and no propane, so that system 2 can be chosen."""
     while True:
-        a = [0] * 14
+        a = [0] * ref.CODES
         a[2] = amount_even(draw, 2)
         for code in (*BUTANE_CODES, 11, 12):
             a[code] = amount_rich(draw, code)
@@ -197,9 +206,9 @@ def rich_lean_gas(draw):
 
 
 def trace_gas(draw):
-    """One hydrocarbon beside methane, at its least amount or little more."""
-    a = [0] * 14
-    code = draw.pick((2, 3, *BUTANE_CODES))
+    """One component beside methane, at its least amount or little more."""
+    a = [0] * ref.CODES
+    code = draw.pick((2, 3, *BUTANE_CODES, 15))
     a[code] = ref.RANGE[code][0] + draw.pick((0, 0, 1, draw.below(10)))
     inert = draw.pick((11, 12))
     a[inert] = draw.between(500, 100000)
@@ -215,9 +224,83 @@ def alone_gas(draw):
     return set_gas(draw, SETS[0])
 
 
+def even_blend(draw):
+    return gas(draw, amount_even, 4, True)
+
+
+def small_blend(draw):
+    return gas(draw, amount_small, 4, True)
+
+
+def limit_blend(draw):
+    return gas(draw, limits, 4, True)
+
+
+def rich_blend(draw):
+    return gas(draw, amount_rich, 64, True)
+
+
+def lean_blend(draw):
+    """Two to four components present, hydrogen one of them."""
+    return set_gas(draw, draw.pick(SETS[8:15]))
+
+
+def tie_blend(draw):
+    """Hydrogen equal to ethane, to propane, or to butane, or to several of
+    them: equal remainders."""
+    while True:
+        a = list(small_blend(draw))
+        for code in (6, 7, 8, 10):
+            a[code] = 0
+        x = draw.between(100, 60000)
+        first = draw.between(10, x - 10)
+        same = draw.between(1, 7)
+        a[15] = x
+        if same & 1:
+            a[2] = x
+        if same & 2:
+            a[3] = x
+        if same & 4:
+            a[4], a[5] = first, x - first
+        a[1] = 0
+        a[1] = draw.between(999900, 1000100) - sum(a)
+        if not ref.check(a):
+            return tuple(a)
+
+
+def fitness_tie_blend(draw):
+    """Systems that differ in one component are equally fit: two or more of
+    ethane, propane, butane and hydrogen add as much to the fitness.  T is
+    8000000, and all amounts are multiples of 4, so that the simplified ones
+    are exactly 5/4 of these."""
+    while True:
+        a = [0] * ref.CODES
+        k = draw.between(2, 500)
+        equal = draw.between(3, 15)     # a bit for each of the four
+        if equal in (4, 8):
+            continue
+        for bit, (code, share) in enumerate(((2, 128), (3, 120), (4, 96),
+                                             (15, 100))):
+            a[code] = share * k if equal >> bit & 1 else \
+                4 * (amount_small(draw, code) // 4)
+        a[4], a[5] = a[4] // 2, a[4] - a[4] // 2
+        a[1] = 800000 - sum(a)
+        a[11] = draw.between(50000, 100000)
+        a[12] = 200000 - a[11]
+        if not ref.check(a):
+            amounts = ref.simplify(a)
+            same = {ref.FITNESS_WEIGHT[c] * amounts[c]
+                    for bit, c in enumerate((ref.E, ref.P, ref.B, ref.H))
+                    if equal >> bit & 1}
+            assert len(same) == 1
+            return tuple(a)
+
+
+BLENDS = (even_blend, small_blend, small_blend, limit_blend, rich_blend,
+          lean_blend, lean_blend, tie_blend, fitness_tie_blend)
 GASES = (even_gas, even_gas, small_gas, small_gas, small_gas, limit_gas,
          limit_gas, rich_gas, rich_gas, tie_gas, lean_gas, lean_gas, heavy_gas,
-         rich_lean_gas, trace_gas, alone_gas)
+         rich_lean_gas, trace_gas, alone_gas, *BLENDS)
 
 
 def any_gas(draw):
@@ -249,8 +332,10 @@ def random_split(draw, analysis):
     amounts = ref.simplify(analysis)
     systems = ref.choose(amounts)
     held = {s: {} for s in systems}
-    for c in range(4):
+    for c in ref.COMPONENTS:
         sharing = [s for s in systems if c in ref.FORMULA_ORDER[s]]
+        if not sharing:     # it is absent
+            continue
         rest = amounts[c]
         for s in sharing[:-1]:
             held[s][c] = draw.between(0, rest)
@@ -342,8 +427,9 @@ def wrapped(draw, records):
     return tuple(map(tuple, out))
 
 
-# Two or three of the systems.
-CHOICES = tuple(s for n in (2, 3) for s in combinations(ref.CANDIDATES, n))
+# Two to five of the systems.
+CHOICES = tuple(s for n in (2, 3, 4, 5)
+                for s in combinations(ref.BLEND_CANDIDATES, n))
 
 
 def misfit(draw, records):
@@ -352,9 +438,9 @@ def misfit(draw, records):
     which = draw.below(4)
     i = draw.below(len(out))
     if which == 0:
-        out[i][0] = draw.pick((0, 1, 2, 4, 5, 7, 8, 20, 255))
+        out[i][0] = draw.pick((0, 1, 2, 3, 4, 5, 6, 7, 8, 20, 255))
     elif which == 1:
-        out[i][1] = draw.pick((0, 1, 2, 3, 4, 5, 9, 13, 14, 15, 255))
+        out[i][1] = draw.pick((0, 1, 2, 3, 4, 5, 9, 13, 14, 15, 16, 255))
     elif which == 2:
         j = draw.below(len(out))
         out[i], out[j] = out[j], out[i]
@@ -366,13 +452,13 @@ def misfit(draw, records):
 
 
 def miscounted(draw, records):
-    """A system's three records too few, or three too many: six for nine, and
-    nine for six."""
+    """A system's three records too few, or three too many: six for nine,
+    twelve for fifteen, and nine for six."""
     systems = sorted({s for s, _, _ in records})
-    if len(systems) == 3:
-        left_out = draw.pick((*systems, systems[2]))
+    if len(systems) > 3 and draw.one_in(2) or len(systems) == 3:
+        left_out = draw.pick((*systems, systems[-1]))
         return tuple(r for r in records if r[0] != left_out)
-    other = draw.pick([s for s in ref.CANDIDATES if s not in systems])
+    other = draw.pick([s for s in ref.BLEND_CANDIDATES if s not in systems])
     more = tuple((s, ref.SPLIT_CODE[c], draw.pick((0, draw.below(1000))))
                  for s, c in ref.expected((other,)))
     out = records + more
@@ -421,7 +507,13 @@ def any_split(draw, pool, kind):
         analysis = any_gas(draw)
         return analysis, start_split(analysis)
     if kind == "absent-held":
-        analysis = draw.pick((lean_gas, lean_gas, trace_gas))(draw)
+        while True:         # with a record of an absent component
+            analysis = draw.pick((lean_gas, lean_gas, trace_gas,
+                                  lean_blend))(draw)
+            there = ref.present(ref.simplify(analysis))
+            if any(ref.SPLIT_CODE.index(code) not in there
+                   for _, code, _ in start_split(analysis)):
+                break
         return analysis, absent_held(draw, analysis, draw.pick(
             (start_split(analysis), random_split(draw, analysis))))
     if kind == "alone":     # two systems' records, or three's
@@ -484,7 +576,7 @@ def listed_of(analysis):
 
 def random_records(draw):
     return tuple((draw.below(256), draw.below(256), draw.below(U32))
-                 for _ in range(draw.pick((6, 9))))
+                 for _ in range(draw.pick((6, 9, *ref.SPLIT_COUNTS[1:]))))
 
 
 def range_sheet(draw, records):
@@ -519,19 +611,19 @@ def codes_sheet(draw, records):
         i = draw.below(len(listed))
         which = draw.below(6)
         if which == 0:
-            code = draw.pick((0, 9, 13, 14, 15, 255, draw.below(256)))
+            code = draw.pick((0, 9, 13, 14, 15, 16, 255, draw.below(256)))
             listed[i] = (code, listed[i][1])
         elif which == 1:
             j = draw.below(len(listed))
             listed[i], listed[j] = listed[j], listed[i]
         elif which == 2 and len(listed) > 1:
             del listed[draw.pick((0, i))]       # methane, or any
-        elif which == 3 and len(listed) < 11:
+        elif which == 3 and len(listed) < ref.MOST_COMPONENTS:
             listed.insert(i, listed[i])
-        elif which == 4 and len(listed) < 11:
+        elif which == 4 and len(listed) < ref.MOST_COMPONENTS:
             listed.insert(i, (draw.pick((9, 13)), draw.below(1000)))
-        elif len(listed) < 11:
-            listed.insert(i, (draw.below(16), draw.below(20000)))
+        elif len(listed) < ref.MOST_COMPONENTS:
+            listed.insert(i, (draw.below(17), draw.below(20000)))
     return sheet_of(listed, records)
 
 
@@ -541,19 +633,19 @@ def torn_sheet(draw, good):
     if which == 0:
         return good[:draw.below(len(good))]
     if which == 1:
-        extra = draw.pick((1, 1, 5, 6, 18, 36, 54, draw.below(300)))
+        extra = draw.pick((1, 1, 5, 6, 18, 36, 54, 72, 90, draw.below(300)))
         return good + bytes(draw.pick((0, draw.below(256)))
                             for _ in range(extra))
     out = bytearray(good)
     second = 1 + 5 * out[0]
     if which == 2:
-        out[0] = draw.pick((0, out[0] - 1, out[0] + 1, 11, 12,
+        out[0] = draw.pick((0, out[0] - 1, out[0] + 1, 11, 12, 13,
                             draw.below(256)))
     elif which == 3:
-        out[second] = draw.pick((0, 1, 3, 6, 8, 9, 10, 12, 255,
-                                 draw.below(256)))
+        out[second] = draw.pick((0, 1, 3, 6, 7, 8, 9, 10, 12, 15, 18, 21, 24,
+                                 255, draw.below(256)))
     else:                   # both the count and the bytes
-        n = draw.pick((3, 6, 9, 12, 255, draw.below(16)))
+        n = draw.pick((3, 6, 7, 9, 12, 15, 18, 21, 24, 255, draw.below(26)))
         out[second:] = bytes([n]) + bytes(
             draw.below(256) for _ in range(6 * n))
     return bytes(out)
@@ -570,9 +662,9 @@ def flipped_sheet(draw, good):
 def wild_sheet(draw):
     """Random bytes; half with fitting counts and lengths."""
     if draw.one_in(2):
-        return bytes(draw.below(256) for _ in range(draw.below(130)))
-    listed = [(draw.below(17), draw.below(1 << draw.between(1, 32)))
-              for _ in range(draw.below(12))]
+        return bytes(draw.below(256) for _ in range(draw.below(200)))
+    listed = [(draw.below(18), draw.below(1 << draw.between(1, 32)))
+              for _ in range(draw.below(13))]
     if draw.one_in(2):
         listed.sort()
     return sheet_of(listed, random_records(draw) if draw.one_in(2) else ())
@@ -781,7 +873,8 @@ def writer_cases(seed):
             analysis = unfit(draw, analysis)
         need = len(ref.layout(analysis, records))
         yield analysis, records, draw.pick(
-            (need, need - 1, need + 1, 0, 1, 111, draw.below(140)))
+            (need, need - 1, need + 1, 0, 1, 111, ref.LONGEST,
+             draw.below(220)))
 
 
 # -------------------------------------------------------- command line
@@ -809,7 +902,7 @@ def timed(seed, count):
 
 def rounds_table(seed, count):
     for make in (even_gas, small_gas, limit_gas, rich_gas, tie_gas, lean_gas,
-                 heavy_gas, rich_lean_gas, trace_gas):
+                 heavy_gas, rich_lean_gas, trace_gas, *dict.fromkeys(BLENDS)):
         draw = Draw(seed)
         rounds, seconds, refused, chosen = [], [], 0, {}
         for _ in range(count):
@@ -825,7 +918,7 @@ def rounds_table(seed, count):
                 rounds.append(got.rounds)
         rounds.sort()
         at = [rounds[len(rounds) * p // 100] for p in (10, 50, 90, 99)]
-        print("%-10s rated %d, refused 11: %d; rounds mean %.1f, "
+        print("%-17s rated %d, refused 11: %d; rounds mean %.1f, "
               "10/50/90/99 %% %s, most %d; seconds mean %.4f, most %.3f; %s"
               % (make.__name__, len(rounds), refused,
                  sum(rounds) / len(rounds), "/".join(map(str, at)),

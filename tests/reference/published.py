@@ -1,9 +1,10 @@
 """The published examples through the reference.
 
-published.py          prints the tables; compares tests/data/published.txt and
-                      published-answers.txt with what is made here
+published.py          prints the tables; compares tests/data/published.txt,
+                      published-answers.txt and the table in README.md with
+                      what is made here
 published.py --brief  the same, and prints the last line only
-published.py --write  writes the two data files
+published.py --write  writes the two data files, and prints README's table
 
 A small difference from a published number is shown, and is no failure: 000
 and 001 solve for equal partial numbers, document 01 stops at 0.05.
@@ -23,6 +24,7 @@ from fractions import Fraction
 import saugrinte as ref
 
 DATA = os.path.join(os.path.dirname(os.path.abspath(__file__)), "..", "data")
+README = os.path.join(DATA, "..", "..", "README.md")
 GASES_FILE = os.path.join(DATA, "published.txt")
 ANSWERS_FILE = os.path.join(DATA, "published-answers.txt")
 
@@ -62,6 +64,12 @@ EXAMPLE_1 = {1: "90.0900", 2: "5.5400", 3: "1.3200", 4: "0.2100", 5: "0.1900",
 EXAMPLE_2 = {1: "86.6475", 2: "0.1169", 3: "9.4500", 5: "0.1461",
              8: "0.0292", 11: "3.6103"}
 
+# 000 Table A.8, volume shares in percent; codes 4 to 10 with the four decimals
+# of A.5.1.
+EXAMPLE_3 = {1: "85.991", 2: "5.036", 3: "1.200", 4: "0.1909", 5: "0.1727",
+             7: "0.0364", 8: "0.0455", 10: "0.0545", 12: "0.946",
+             11: "1.327", 15: "5.000"}
+
 # 000 Table A.10, Mixes 1 to 7: carbon dioxide, nitrogen, methane, ethane,
 # propane, butane, pentane, hexanes+, methane number.
 A10 = """
@@ -74,6 +82,14 @@ A10 = """
 7 3.90 0.40  85.58 5.70 2.10 0.90 0.82 0.60 59.97
 """
 
+# 000 Table A.10, those of Mixes 8 to 16 that have no component but these:
+# hydrogen, methane, ethane, propane, butane, methane number.
+A10_BLENDS = """
+8  70 15 5 5 5 21.55
+9   5 80 5 5 5 53.20
+16 90  4 2 2 2 10.04
+"""
+
 
 def parts(percent):
     """Percent as printed to parts of 0.0001 %."""
@@ -83,7 +99,8 @@ def parts(percent):
 
 
 def analysis_of(shares):
-    return tuple(parts(shares[c]) if c in shares else 0 for c in range(14))
+    return tuple(parts(shares[c]) if c in shares else 0
+                 for c in range(ref.CODES))
 
 
 def volumes_of(moles):
@@ -92,19 +109,26 @@ def volumes_of(moles):
               for c, x in moles.items()}
     total = sum(weight.values())
     return tuple((2000000 * weight[c] / total + 1) // 2 if c in weight else 0
-                 for c in range(14))
+                 for c in range(ref.CODES))
 
 
 def mix(line):
     name, carbon, nitrogen, m, e, p, b, pentane, hexane, number = line.split()
     butane = parts(b)
-    a = [0] * 14
+    a = [0] * ref.CODES
     a[1], a[2], a[3] = parts(m), parts(e), parts(p)
     a[4], a[5] = butane // 2, butane - butane // 2
     a[8], a[10], a[11], a[12] = (parts(x) for x in
                                  (pentane, hexane, carbon, nitrogen))
     return ("A10-mix-" + name, tuple(a), number,
             "000 Table A.10; butane to codes 4 and 5, pentane to code 8")
+
+
+def blend(line):
+    name, hydrogen, *others, butane, number = line.split()
+    analysis = mix("%s 0 0 %s 0 0 -" % (name, " ".join([*others, butane])))[1]
+    return ("A10-mix-" + name, (*analysis[:15], parts(hydrogen)), number,
+            "000 Table A.10; butane to codes 4 and 5")
 
 
 def gases():
@@ -122,14 +146,17 @@ def gases():
                 "000 Table A.1; number of Table A.5"))
     out.append(("example-2", analysis_of(EXAMPLE_2), "69.0336",
                 "000 Table A.6; out of range here"))
+    out.append(("example-3", analysis_of(EXAMPLE_3), "75.695",
+                "000 Table A.8, codes 4 to 10 by A.5.1"))
     out += [mix(line) for line in A10.split("\n") if line]
+    out += [blend(line) for line in A10_BLENDS.split("\n") if line]
     # Mix 4 as printed sums to 95; with ethane 8.70 for 3.70 to 100.
     out.append(("A10-mix-4-ethane", mix(
         "4 2.30 0.80 86.30 8.70 1.60 0.30 0 0 75.03")[1], "75.03",
         "000 Table A.10, mix 4 with ethane 8.70 for 3.70 to make the total"))
 
     made = "made for this test"
-    out += [(name, (0, *codes, 0), "-", made + "; " + why)
+    out += [(name, (0, *codes, 0, 0, 0), "-", made + "; " + why)
             for name, codes, why in (
         ("rich-2", (494500, 60000, 60000, 40000, 40000, 500, 20000, 20000, 0,
                     15000, 100000, 150000), "system 2 is chosen"),
@@ -138,34 +165,48 @@ def gases():
          "systems 2 and 4 equally fit"),
     )]
     # T is 8000000: an amount's remainder is a quarter of (amount mod 4).
-    for name, (m, e, p, b), why in (
-        ("tie-me", (2, 2, 0, 0), "methane before ethane"),
-        ("tie-ep", (0, 2, 2, 0), "ethane before propane"),
-        ("tie-eb", (0, 2, 0, 2), "ethane before butane"),
-        ("tie-pb", (0, 0, 2, 2), "propane before butane"),
-        ("tie-mb", (2, 0, 0, 2), "methane before butane"),
-        ("tie-one", (1, 1, 1, 1), "four equal, one part missing"),
-        ("tie-two", (2, 2, 2, 2), "four equal, two parts missing"),
-        ("tie-three", (3, 3, 3, 3), "four equal, three parts missing"),
+    for name, (m, e, p, b), h, why in (
+        ("tie-me", (2, 2, 0, 0), None, "methane before ethane"),
+        ("tie-ep", (0, 2, 2, 0), None, "ethane before propane"),
+        ("tie-eb", (0, 2, 0, 2), None, "ethane before butane"),
+        ("tie-pb", (0, 0, 2, 2), None, "propane before butane"),
+        ("tie-mb", (2, 0, 0, 2), None, "methane before butane"),
+        ("tie-one", (1, 1, 1, 1), None, "four equal, one part missing"),
+        ("tie-two", (2, 2, 2, 2), None, "four equal, two parts missing"),
+        ("tie-three", (3, 3, 3, 3), None, "four equal, three parts missing"),
+        ("tie-mh", (2, 0, 0, 0), 2, "methane before hydrogen"),
+        ("tie-eh", (0, 2, 0, 0), 2, "ethane before hydrogen"),
+        ("tie-ph", (0, 0, 2, 0), 2, "propane before hydrogen"),
+        ("tie-bh", (0, 0, 0, 2), 2, "butane before hydrogen"),
+        ("tie-blend-two", (0, 2, 2, 2), 2, "four equal, two parts missing"),
+        ("tie-blend-h", (0, 1, 0, 0), 3, "hydrogen's the larger"),
     ):
-        methane = 800000 - 60000 - e - 20000 - p - 4000 - b
+        hydrogen = 0 if h is None else 30000 + h
+        methane = 800000 - 60000 - e - 20000 - p - 4000 - b - hydrogen
         assert methane % 4 == m
         out.append((name, (0, methane, 60000 + e, 20000 + p, 2000, 2000 + b,
-                           0, 0, 0, 0, 0, 50000, 150000, 0), "-",
-                    made + "; largest remainders equal, " + why))
+                           0, 0, 0, 0, 0, 50000, 150000, 0, 0, hydrogen), "-",
+                    made + "; largest remainders equal, " + why
+                    if name != "tie-blend-h" else made + "; " + why))
     return out
 
 
 # What document 01 fixes of these, besides ratings.
-REFUSED = {"A6-3": 5, "example-2": 5, "A10-mix-4": 6}
-CHOICE = {"rich-2": (2, 7, 8), "fitness-tie": (2, 7, 8), "A10-mix-1": (4, 8)}
+REFUSED = {"A6-3": 5, "example-2": 5, "A10-mix-4": 6, "A10-mix-8": 5,
+           "A10-mix-16": 5}
+# Where it isn't 4, 7, 8.  000 takes A3 for mixes 8 and 16 as well.
+CHOICE = {"rich-2": (2, 7, 8), "fitness-tie": (2, 7, 8), "A10-mix-1": (4, 8),
+          "A10-mix-8": (1, 5, 6, 7, 8), "A10-mix-9": (1, 5, 6, 7, 8),
+          "A10-mix-16": (1, 5, 6, 7, 8), "example-3": (1, 4, 5, 6, 8),
+          **{"tie-" + name: (1, 4, 5, 6, 8)
+             for name in ("mh", "eh", "ph", "bh", "blend-two", "blend-h")}}
 # 000 took other systems than document 02's choice: the difference that this
 # makes, to a hundredth.
 OTHER_SYSTEMS = {"A10-mix-1": ((1, 4), "-2.64")}
-TIED = {"tie-me": (1, 0, 0, 0), "tie-ep": (0, 1, 0, 0), "tie-eb": (0, 1, 0, 0),
-        "tie-pb": (0, 0, 1, 0), "tie-mb": (1, 0, 0, 0),
-        "tie-one": (1, 0, 0, 0), "tie-two": (1, 1, 0, 0),
-        "tie-three": (1, 1, 1, 0)}
+TIED = {"tie-me": "M", "tie-ep": "E", "tie-eb": "E", "tie-pb": "P",
+        "tie-mb": "M", "tie-one": "M", "tie-two": "ME", "tie-three": "MEP",
+        "tie-mh": "M", "tie-eh": "E", "tie-ph": "P", "tie-bh": "B",
+        "tie-blend-two": "EP", "tie-blend-h": "H"}
 
 
 def show_gases():
@@ -192,8 +233,8 @@ def show_gases():
             raw = ref.tenths(analysis)
             total = sum(raw)
             down = [ref.PARTS * x // total for x in raw]
-            assert tuple(x - y for x, y in zip(ref.simplify(analysis), down)) \
-                == TIED[name], name
+            more = [x - y for x, y in zip(ref.simplify(analysis), down)]
+            assert more == [c in TIED[name] for c in "MEPBH"], name
         ours = Decimal(got.rating) / ref.UNITS
         difference = "-"
         if number != "-":
@@ -257,14 +298,22 @@ def show_steps():
         ("000 example 2", EXAMPLE_2, None,
          ("89.8575", "0.1212", "9.8001", "0.2212"),
          ("1.6984", "10.6380", "10.6652", "9.0508"), "103.7290"),
+        ("000 example 3", EXAMPLE_3, None,
+         ("87.6849", "5.1356", "1.2236", "0.8574", "5.0985"),
+         ("10.5906", "1.1850", "9.7749", "9.9921", "9.9668", "9.1510",
+          "9.7495"), "101.284"),
     ):
         analysis = analysis_of(shares)
         amounts = ref.simplify(analysis)
+        # The shares of example 3 have three decimals, as its inert number.
+        rough = shares is EXAMPLE_3
         for component, published, ours in zip(
-                ("methane", "ethane", "propane", "butane"), simple, amounts):
+                ("methane", "ethane", "propane", "butane", "hydrogen"), simple,
+                amounts):
             line("%s, simplified %s" % (name, component), published,
-                 Decimal(ours) / 10000, "0.0003")
-        for system, published in zip(ref.CANDIDATES, fit):
+                 Decimal(ours) / 10000, "0.0005" if rough else "0.0003")
+        assert len(fit) == len(ref.candidates(amounts))
+        for system, published in zip(ref.candidates(amounts), fit):
             line("%s, fitness of %d" % (name, system), published,
                  Decimal(ref.fitness(amounts)[system]) / 480 / 10000, "0.0001")
         systems = ref.choose(amounts)
@@ -274,7 +323,8 @@ def show_steps():
                  units(ref.number_of(system, held[system])), "0.01")
         n1, n2 = ref.inert(analysis)
         line("%s, inert number" % name, inert,
-             units(ref.partial_number(20, n1, n2, 0)), "0.0002")
+             units(ref.partial_number(20, n1, n2, 0)),
+             "0.001" if rough else "0.0002")
 
     # Splits as published, in parts, with the partial numbers printed there.
     for name, system, n, published in (
@@ -287,6 +337,11 @@ def show_steps():
         ("000 Table A.6", 4, (411188, 585, 51182), "65.3039"),
         ("000 Table A.6", 7, (463797, 46819, 954), "65.3059"),
         ("000 Table A.6", 8, (23590, 628, 1258), "65.3039"),
+        ("000 Table A.8", 1, (140010, 17850, 16670), "74.411"),
+        ("000 Table A.8", 4, (164240, 15990, 4770), "74.411"),
+        ("000 Table A.8", 5, (142700, 19520, 7470), "74.411"),
+        ("000 Table A.8", 6, (156010, 13610, 4290), "74.411"),
+        ("000 Table A.8", 8, (273890, 18700, 4290), "74.411"),
     ):
         line("%s, system %d at the published split" % (name, system),
              published, units(ref.partial_number(system, *n)), "0.01")
@@ -295,8 +350,8 @@ def show_steps():
     # So the choice makes the difference from the published number.
     name, analysis, published, _ = next(
         g for g in gases() if g[0] in OTHER_SYSTEMS)
-    methane, ethane, propane, butane = ref.simplify(analysis)
-    assert (propane, butane, ref.inert(analysis)) == (0, 0, (1000000, 0))
+    methane, ethane, *absent = ref.simplify(analysis)
+    assert (absent, ref.inert(analysis)) == ([0, 0, 0], (1000000, 0))
     line("000 Table A.10, mix 1 by systems 1 and 4", published,
          units(even(methane, ethane, *OTHER_SYSTEMS[name][0])), "0.05")
     assert abs(even(methane, ethane, *CHOICE[name])
@@ -305,7 +360,7 @@ def show_steps():
 
 
 def gases_text():
-    lines = ["# name, amounts in parts for codes 1 to 13, published methane "
+    lines = ["# name, amounts in parts for codes 1 to 15, published methane "
              "number or -, source"]
     for name, analysis, number, source in gases():
         lines.append(" ".join([name, *map(str, analysis[1:]), number, source]))
@@ -320,12 +375,38 @@ def answers_text():
     return "\n".join(lines) + "\n"
 
 
+def readme_name(name):
+    """000's examples and mixes, 001's gases, by the words of the papers."""
+    kind, *rest = name.split("-")
+    if kind == "example":
+        return "EN 16726 example " + rest[0]
+    if kind == "A10":
+        return "EN 16726 mix " + rest[1] + (", ethane 8.70" if rest[2:] else "")
+    return "GOST draft, Table A.1, %s" % rest[0] if kind == "A1" else \
+        "GOST draft, Table A.6, gas " + rest[0]
+
+
+def readme_table():
+    """README's rows: every gas with a published number that is rated."""
+    lines = []
+    for name, analysis, number, _ in gases():
+        got = ref.search(analysis) if number != "-" else None
+        if isinstance(got, ref.Rating):
+            ours = Decimal(got.rating) / ref.UNITS
+            systems = sorted({s for s, _, _ in got.split})
+            lines.append("| %s | %s | %.4f | %+.4f | %s |\n" % (
+                readme_name(name), number, ours, ours - Decimal(number),
+                ", ".join(map(str, systems))))
+    return "".join(lines)
+
+
 def main(arguments):
     files = ((GASES_FILE, gases_text()), (ANSWERS_FILE, answers_text()))
     if arguments == ["--write"]:
         for path, text in files:
             with open(path, "w") as f:
                 f.write(text)
+        print(readme_table(), end="")
         return
     tables = io.StringIO()
     with contextlib.redirect_stdout(tables):
@@ -336,6 +417,9 @@ def main(arguments):
     for path, text in files:
         with open(path) as f:
             assert f.read() == text, "data file differs: " + path
+    with open(README) as f:
+        assert "|---|\n" + readme_table() + "\n" in f.read(), \
+            "README.md has another table of published numbers"
     print("reference: %d published numbers, at most %.2f away but mix 1, %s by "
           "other systems; %d figures on the way; %d gases as in tests/data"
           % (numbers, largest, OTHER_SYSTEMS["A10-mix-1"][1], steps,

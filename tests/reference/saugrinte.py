@@ -1,10 +1,11 @@
 """Reference program for the methane number rating, written from document 01,
-for lean gases from request Five of document 02, and for single systems from
-its request Six, alone.  Whole numbers and exact fractions only.
+for lean gases from request Five of document 02, for single systems from its
+request Six and for hydrogen blends from its request Seven, alone.  Whole
+numbers and exact fractions only.
 
-An analysis is a tuple of 14 amounts in parts, indexed by code; 0 is absent,
-and places 0, 9 and 13 are always 0.  A split is six or nine records
-(system, code, amount).  A refusal is Refusal(number, at): `at` is the
+An analysis is a tuple of 16 amounts in parts, indexed by code; 0 is absent,
+and places 0, 9, 13 and 14 are always 0.  A split is three records (system,
+code, amount) for each system chosen.  A refusal is Refusal(number, at): `at` is the
 record's place for 2 to 4, the set of all codes at fault for 5, else None.
 
 Command line: reads a sheet on standard input, prints the display line.
@@ -24,29 +25,33 @@ FIRST_STRIDE = 65536
 MOST_ROUNDS = 4000
 METHANE_NUMBER = 1000003000
 LEAST_TOTAL, GREATEST_TOTAL = 999900, 1000100
-MOST_COMPONENTS = 11
-LONGEST = 111
+MOST_COMPONENTS = 12
+LONGEST = 188
 
 RANGE = {
     1: (400000, 999700), 2: (100, 150000), 3: (100, 60000),
     4: (10, 40000), 5: (10, 40000), 6: (10, 500),
     7: (10, 20000), 8: (10, 20000), 10: (10, 15000),
-    11: (50, 100000), 12: (50, 150000),
+    11: (50, 100000), 12: (50, 150000), 15: (10, 100000),
 }
+CODES = 16                 # places of an analysis
 RETIRED = (9, 13)
+SPLITS_ONLY = 14
 REQUIRED = (1,)
-SPLIT_COUNTS = (0, 6, 9)
+SPLIT_COUNTS = (0, 6, 9, 12, 15, 18, 21)
 FEWEST = 2                 # components present in a mixture that is rated
 
 # Components of the simplified mixture, and their codes in a split.
-M, E, P, B = 0, 1, 2, 3
-SPLIT_CODE = (1, 2, 3, 14)
-FITNESS_WEIGHT = (48, 75, 80, 100)
+COMPONENTS = M, E, P, B, H = 0, 1, 2, 3, 4
+SPLIT_CODE = (1, 2, 3, 14, 15)
+FITNESS_WEIGHT = (48, 75, 80, 100, 96)
 
 # Components of each system; the first two are the formula's variables.
-FORMULA_ORDER = {2: (P, E, B), 4: (M, E, P), 7: (M, P, B), 8: (M, E, B)}
-CANDIDATES = (2, 4, 7, 8)
-CHOICE_ORDER = (P, E, B, M)
+FORMULA_ORDER = {1: (M, H, E), 2: (P, E, B), 4: (M, E, P), 5: (M, H, P),
+                 6: (M, H, B), 7: (M, P, B), 8: (M, E, B)}
+BLEND_CANDIDATES = (1, 2, 4, 5, 6, 7, 8)    # where hydrogen is present
+CANDIDATES = (2, 4, 7, 8)                   # where it isn't
+CHOICE_ORDER = (H, P, E, B, M)
 
 # 000 Table A.2.  Each block begins with its systems; row akl has a(k,l), the
 # last six the greatest and least share of x, y, z in percent, - for a blank.
@@ -256,7 +261,7 @@ def read(sheet):
     for place in range(sheet[0]):
         at = 1 + 5 * place
         code = sheet[at]
-        if code == 0 or code >= 14:
+        if code == 0 or code == SPLITS_ONLY or code >= CODES:
             return Refusal(2, place)
         if code in RETIRED:
             return Refusal(3, place)
@@ -274,7 +279,7 @@ def read(sheet):
             (sheet[at], sheet[at + 1],
              int.from_bytes(sheet[at + 2:at + 6], "big"))
             for at in range(second + 1, size, 6))
-    return tuple(listed.get(c, 0) for c in range(14)), split
+    return tuple(listed.get(c, 0) for c in range(CODES)), split
 
 
 def check_listed(listed):
@@ -325,29 +330,35 @@ def write(analysis, split, buffer):
 # ------------------------------------------------------------ the mixture
 
 def tenths(analysis):
-    """The four components in tenths of a part, before scaling."""
+    """The five components in tenths of a part, before scaling."""
     a = analysis
     return (10 * a[1], 10 * a[2], 10 * a[3],
-            10 * (a[4] + a[5]) + 23 * (a[6] + a[7] + a[8]) + 53 * a[10])
+            10 * (a[4] + a[5]) + 23 * (a[6] + a[7] + a[8]) + 53 * a[10],
+            10 * a[15])
 
 
 def simplify(analysis):
-    """The simplified mixture: four amounts adding up to 1000000."""
+    """The simplified mixture: five amounts adding up to 1000000."""
     raw = tenths(analysis)
     total = sum(raw)
     amounts = [PARTS * x // total for x in raw]
     remainder = [PARTS * x % total for x in raw]
     missing = PARTS - sum(amounts)
-    largest = sorted((M, E, P, B), key=lambda c: (-remainder[c], c))
+    largest = sorted(COMPONENTS, key=lambda c: (-remainder[c], c))
     for c in largest[:missing]:
         amounts[c] += 1
     return tuple(amounts)
 
 
+def candidates(amounts):
+    """The systems to choose from."""
+    return BLEND_CANDIDATES if amounts[H] else CANDIDATES
+
+
 def fitness(amounts):
     """{system: fitness times 480}."""
     return {s: sum(FITNESS_WEIGHT[c] * amounts[c] for c in FORMULA_ORDER[s])
-            for s in CANDIDATES}
+            for s in candidates(amounts)}
 
 
 def present(amounts):
@@ -366,21 +377,27 @@ def choose(amounts):
             if c not in there:
                 continue
             if sum(c in FORMULA_ORDER[s] for s in chosen) < wanted:
-                free = [s for s in CANDIDATES
+                free = [s for s in fit
                         if c in FORMULA_ORDER[s] and s not in chosen]
                 chosen.append(min(free, key=lambda s: (
                     -len(there & set(FORMULA_ORDER[s])), -fit[s], s)))
     if len(there) >= FEWEST:
-        assert len(chosen) == min(len(there), 3)
+        assert 3 * len(chosen) in SPLIT_COUNTS
     return tuple(sorted(chosen))
 
 
 def turned_away(analysis):
-    """5, 6 or 16, else None."""
+    """5, 6, 16 or 13, else None.  13 is for a chosen system that the rule of
+    Table A.2 leaves out; it leaves out no candidate."""
     refusal = check(analysis)
-    if refusal is None and len(present(simplify(analysis))) < FEWEST:
-        refusal = Refusal(16)
-    return refusal
+    if refusal:
+        return refusal
+    amounts = simplify(analysis)
+    if len(present(amounts)) < FEWEST:
+        return Refusal(16)
+    if any(s not in COEFFICIENTS for s in choose(amounts)):
+        return Refusal(13)
+    return None
 
 
 def inert(analysis):
@@ -483,7 +500,7 @@ def mean_and_inert(analysis, parts, numbers):
 
 
 def rate_split(analysis, records):
-    """Refusal 5, 6, 16 or 7 to 10, or the rating of a proposed split."""
+    """Refusal 5, 6, 16, 13 or 7 to 10, or the rating of a proposed split."""
     refusal = turned_away(analysis)
     if refusal:
         return refusal
@@ -493,7 +510,7 @@ def rate_split(analysis, records):
     if [(s, code) for s, code, _ in records] != \
             [(s, SPLIT_CODE[c]) for s, c in pairs]:
         return Refusal(7)
-    sums = [0, 0, 0, 0]
+    sums = [0] * len(COMPONENTS)
     held = {s: {} for s in systems}
     for (s, c), (_, _, amount) in zip(pairs, records):
         sums[c] += amount
@@ -529,8 +546,10 @@ def exact_rating(analysis, records):
 def start(amounts, systems):
     """{system: {component: amount}}, shared equally."""
     held = {s: {} for s in systems}
-    for c in (M, E, P, B):
+    for c in COMPONENTS:
         sharing = [s for s in systems if c in FORMULA_ORDER[s]]
+        if not sharing:         # of an absent component
+            continue
         share, odd = divmod(amounts[c], len(sharing))
         for place, s in enumerate(sharing):
             held[s][c] = share + (1 if place < odd else 0)
@@ -540,7 +559,7 @@ def start(amounts, systems):
 def moves(systems):
     """(component, from, to) in the written order."""
     return [(c, giver, taker)
-            for c in (M, E, P, B)
+            for c in COMPONENTS
             for giver in systems if c in FORMULA_ORDER[giver]
             for taker in systems if c in FORMULA_ORDER[taker]
             and taker != giver]
@@ -574,7 +593,7 @@ def first_move(held, numbers, order, stride):
 
 
 def search(analysis, allowance=MOST_ROUNDS):
-    """Refusal 5, 6, 16 or 11, or the rating with its found split."""
+    """Refusal 5, 6, 16, 13 or 11, or the rating with its found split."""
     refusal = turned_away(analysis)
     if refusal:
         return refusal
@@ -605,7 +624,7 @@ def search(analysis, allowance=MOST_ROUNDS):
 
 
 def rate(sheet):
-    """The answer to a sheet: Refusal 1 to 11 or 16, or Rating."""
+    """The answer to a sheet: Refusal 1 to 11, 16 or 13, or Rating."""
     got = read(sheet)
     if isinstance(got, Refusal):
         return got

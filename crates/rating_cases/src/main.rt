@@ -4,6 +4,7 @@ use analysis::Analysis;
 use analysis::CODES;
 use display::LINE;
 use libc::STDOUT_FILENO;
+use sheet::Split;
 use split::Answer;
 
 // The gas of 001 Table A.1.
@@ -211,7 +212,7 @@ const TRACE_I_BUTANE: [u32; CODES] = [0, 989990, 0, 0, 10, 0, 0, 0, 0, 0, 0, 100
 
 const TRACE_NEO_PENTANE: [u32; CODES] = [0, 989990, 0, 0, 0, 0, 10, 0, 0, 0, 0, 10000, 0, 0, 0, 0];
 
-// Gases without one of the four.
+// Gases without one of the four hydrocarbons.
 const NO_BUTANE: [u32; CODES] = [
     0,
     950000,
@@ -296,6 +297,247 @@ const METHANE_ALONE_999899: [u32; CODES] = [
 
 const NO_METHANE: [u32; CODES] = [0, 0, 100000, 0, 0, 0, 0, 0, 0, 0, 0, 20000, 0, 0, 0, 0];
 
+// 000's example 3 and mix 9 of its Table A.10.
+const EXAMPLE_3: [u32; CODES] = [
+    0,
+    859910,
+    50360,
+    12000,
+    1909,
+    1727,
+    0,
+    364,
+    455,
+    0,
+    545,
+    13270,
+    9460,
+    0,
+    0,
+    50000,
+];
+
+const MIX_9: [u32; CODES] = [
+    0,
+    800000,
+    50000,
+    50000,
+    25000,
+    25000,
+    0,
+    0,
+    0,
+    0,
+    0,
+    0,
+    0,
+    0,
+    0,
+    50000,
+];
+
+// Hydrogen with methane and none, one or two of the others.
+const HYDROGEN: [u32; CODES] = [0, 900000, 0, 0, 0, 0, 0, 0, 0, 0, 0, 50000, 0, 0, 0, 50000];
+
+const HYDROGEN_ETHANE: [u32; CODES] = [
+    0,
+    900000,
+    30000,
+    0,
+    0,
+    0,
+    0,
+    0,
+    0,
+    0,
+    0,
+    20000,
+    0,
+    0,
+    0,
+    50000,
+];
+
+const HYDROGEN_PROPANE: [u32; CODES] = [
+    0,
+    900000,
+    0,
+    30000,
+    0,
+    0,
+    0,
+    0,
+    0,
+    0,
+    0,
+    20000,
+    0,
+    0,
+    0,
+    50000,
+];
+
+const HYDROGEN_BUTANE: [u32; CODES] = [
+    0,
+    900000,
+    0,
+    0,
+    10000,
+    20000,
+    0,
+    0,
+    0,
+    0,
+    0,
+    20000,
+    0,
+    0,
+    0,
+    50000,
+];
+
+const HYDROGEN_NO_BUTANE: [u32; CODES] = [
+    0,
+    880000,
+    30000,
+    20000,
+    0,
+    0,
+    0,
+    0,
+    0,
+    0,
+    0,
+    20000,
+    0,
+    0,
+    0,
+    50000,
+];
+
+const HYDROGEN_NO_PROPANE: [u32; CODES] = [
+    0,
+    880000,
+    30000,
+    0,
+    0,
+    20000,
+    0,
+    0,
+    0,
+    0,
+    0,
+    20000,
+    0,
+    0,
+    0,
+    50000,
+];
+
+const HYDROGEN_NO_ETHANE: [u32; CODES] = [
+    0,
+    880000,
+    0,
+    20000,
+    0,
+    30000,
+    0,
+    0,
+    0,
+    0,
+    0,
+    20000,
+    0,
+    0,
+    0,
+    50000,
+];
+
+// With much butane: system 2 is chosen.
+const HYDROGEN_MUCH_BUTANE: [u32; CODES] = [
+    0,
+    404500,
+    100000,
+    60000,
+    40000,
+    40000,
+    500,
+    20000,
+    20000,
+    0,
+    15000,
+    50000,
+    150000,
+    0,
+    0,
+    100000,
+];
+
+// The ends of hydrogen's range, and a trace of it beside methane.
+const HYDROGEN_9: [u32; CODES] = [0, 979991, 20000, 0, 0, 0, 0, 0, 0, 0, 0, 0, 0, 0, 0, 9];
+
+const HYDROGEN_10: [u32; CODES] = [0, 979990, 20000, 0, 0, 0, 0, 0, 0, 0, 0, 0, 0, 0, 0, 10];
+
+const HYDROGEN_100000: [u32; CODES] = [
+    0,
+    880000,
+    20000,
+    0,
+    0,
+    0,
+    0,
+    0,
+    0,
+    0,
+    0,
+    0,
+    0,
+    0,
+    0,
+    100000,
+];
+
+const HYDROGEN_100001: [u32; CODES] = [
+    0,
+    879999,
+    20000,
+    0,
+    0,
+    0,
+    0,
+    0,
+    0,
+    0,
+    0,
+    0,
+    0,
+    0,
+    0,
+    100001,
+];
+
+const TRACE_HYDROGEN: [u32; CODES] = [0, 989990, 0, 0, 0, 0, 0, 0, 0, 0, 0, 10000, 0, 0, 0, 10];
+
+// Butane and hydrogen have equal remainders: one part is given out.
+const REMAINDERS_BEFORE_HYDROGEN: [u32; CODES] = [
+    0,
+    685996,
+    60000,
+    20000,
+    2000,
+    2002,
+    0,
+    0,
+    0,
+    0,
+    0,
+    50000,
+    150000,
+    0,
+    0,
+    30002,
+];
+
 fn put(text: &[u8]) {
     io::write_all(STDOUT_FILENO, text);
 }
@@ -331,6 +573,22 @@ fn put_back(amounts: [u32; CODES]) {
     put_split_of(amounts, amounts);
 }
 
+// The first so many records of the split that the search finds, put back.
+fn put_cut(amounts: [u32; CODES], count: usize) {
+    let outcome = rating::rate_by_search(Analysis { amounts }, 4000);
+    let found = outcome.split;
+    let systems = found.systems;
+    let codes = found.codes;
+    let parts = found.amounts;
+    let split = Split {
+        count,
+        systems,
+        codes,
+        amounts: parts,
+    };
+    put_answer(rating::rate_split(Analysis { amounts }, split));
+}
+
 // A number of parts.
 fn put_parts(x: u32) {
     put_number(x as u64);
@@ -346,6 +604,7 @@ fn put_mixture(amounts: [u32; CODES]) {
     put_parts(mix[1]);
     put_parts(mix[2]);
     put_parts(mix[3]);
+    put_parts(mix[4]);
     put(b"\n");
 }
 
@@ -393,4 +652,33 @@ fn main() {
     put_split_of(WITH_ETHANE, METHANE_ALONE);
     put_split_of(GAS, METHANE_ALONE);
     put_split_of(GAS, METHANE_ALONE_999899);
+    // hydrogen blends: five systems, two, three, and five with system 2
+    put_gas(EXAMPLE_3);
+    put_gas(MIX_9);
+    put_gas(HYDROGEN);
+    put_gas(HYDROGEN_ETHANE);
+    put_gas(HYDROGEN_PROPANE);
+    put_gas(HYDROGEN_BUTANE);
+    put_gas(HYDROGEN_NO_BUTANE);
+    put_gas(HYDROGEN_NO_PROPANE);
+    put_gas(HYDROGEN_NO_ETHANE);
+    put_gas(HYDROGEN_MUCH_BUTANE);
+    put_search(EXAMPLE_3, 0);
+    put_search(HYDROGEN_9, 4000);
+    put_search(HYDROGEN_10, 4000);
+    put_search(HYDROGEN_100000, 4000);
+    put_search(HYDROGEN_100001, 4000);
+    put_search(TRACE_HYDROGEN, 4000);
+    put_mixture(REMAINDERS_BEFORE_HYDROGEN);
+    // all of the fifteen records for five systems, and fewer
+    put_cut(EXAMPLE_3, 15);
+    put_cut(EXAMPLE_3, 12);
+    put_cut(EXAMPLE_3, 9);
+    put_cut(EXAMPLE_3, 6);
+    put_cut(EXAMPLE_3, 0);
+    // the records of other systems; nine records for five systems, fifteen for three and for methane alone
+    put_split_of(MIX_9, EXAMPLE_3);
+    put_split_of(GAS, EXAMPLE_3);
+    put_split_of(EXAMPLE_3, GAS);
+    put_split_of(EXAMPLE_3, METHANE_ALONE);
 }

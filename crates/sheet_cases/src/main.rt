@@ -12,7 +12,7 @@ use sheet::Split;
 use sheet::Written;
 
 // The largest buffer, and the byte that stands in every buffer before a writing.
-const LARGEST: usize = 112;
+const LARGEST: usize = 189;
 
 const BEFORE: u8 = 165;
 
@@ -32,10 +32,10 @@ const WRITTEN: u8 = 4;
 
 const OTHER: u8 = 5;
 
-// Bytes of a case of `writings` before the sheet: the amounts, the split count, the records.
+// Bytes of a case of `writings` before the sheet: the amounts, the split count, 21 records.
 const AMOUNT_BYTES: usize = 64;
 
-const CASE_BYTES: usize = 119;
+const CASE_BYTES: usize = 191;
 
 // The code's bit among the codes at fault.
 const BITS: [u16; CODES] = [
@@ -150,7 +150,7 @@ fn refusal(number: u32, code: u32, faults: u16) -> u8 {
 
 // Writes into a buffer of `size` bytes: how did it go?
 fn trial(analysis: Analysis, split: Split, sheet: &[u8], faults: u16, size: usize) -> u8
-    requires { ⌜ size ≤ 112 ⌝ }
+    requires { ⌜ size ≤ 189 ⌝ }
 {
     let mut space = [BEFORE; LARGEST];
     let n = io::count(size as isize, &space);
@@ -173,7 +173,7 @@ fn trial(analysis: Analysis, split: Split, sheet: &[u8], faults: u16, size: usiz
     }
 }
 
-// Over buffers of 0 to 112 bytes, how many writings went so?
+// Over buffers of 0 to 189 bytes, how many writings went so?
 fn count(analysis: Analysis, split: Split, sheet: &[u8], faults: u16, so: u8) -> u64 {
     let mut n: u64 = 0;
     let mut size: usize = 0;
@@ -255,7 +255,7 @@ fn pair(high: u8, low: u8) -> u16
 
 // The amounts at the start of a case.
 fn amounts_of(bytes: &[u8]) -> [u32; CODES]
-    requires { ⌜ 119 ≤ length (now bytes) ⌝ }
+    requires { ⌜ 191 ≤ length (now bytes) ⌝ }
 {
     let mut amounts = [0u32; CODES];
     let mut code: usize = 0;
@@ -269,7 +269,7 @@ fn amounts_of(bytes: &[u8]) -> [u32; CODES]
 
 // The split after them; the places that no record uses are filled as a buffer is.
 fn split_of(bytes: &[u8]) -> Split
-    requires { ⌜ 119 ≤ length (now bytes) ⌝ }
+    requires { ⌜ 191 ≤ length (now bytes) ⌝ }
 {
     let mut systems = [BEFORE; RECORDS];
     let mut codes = [BEFORE; RECORDS];

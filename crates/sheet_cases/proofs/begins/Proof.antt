@@ -5,10 +5,10 @@ use Rattle.sheet_cases.proofs.begins.Statement.{statement}
 use Rattle.sheet_cases.proofs.begins.Tie as tie
 
 abbrev Inv-loop : tie.InvT-loop
-Inv-loop space sheet i₀ i = i ≤ 112
+Inv-loop space sheet i₀ i = i ≤ 189
 
 abbrev μ-loop : tie.MeasureT-loop
-μ-loop space sheet i₀ i = 112 - i
+μ-loop space sheet i₀ i = 189 - i
 
 loop-holds : tie.Need-loop-holds Inv-loop μ-loop
 loop-holds c = search needs
