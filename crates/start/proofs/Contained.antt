@@ -1,16 +1,22 @@
--- Whether a cell's system contains its component, as one or none.
-use Prim.Native.Nat.{ℕ, _/_, _%_, _≤_}
-use mathlib.Core.Path.{_≡_, sym, _∙_}
-use mathlib.Core.Bool.{Bool, true, false}
+-- Whether a row's system contains a component, as one or none.
+use Prim.Native.Nat.{ℕ, _+_, _*_, _/_, _%_, _≤_, _<_}
+use mathlib.Core.Path.{_≡_, sym, ap₂, _∙_}
+use mathlib.Core.Bool.{Bool, true, false, cond}
 use mathlib.Core.List.{List}
 use native.Mathlib.Omega.{arith}
 use Rattle.systems.specs.Systems.{COMPONENTS, hasOf}
 use Rattle.split.specs.Split.{systemOf}
 use Rattle.start.specs.Column.{containedAt}
 
-module _ (ch : List ℕ) (i : ℕ) (b : Bool) (e : b ≡ hasOf (systemOf ch (i / COMPONENTS)) (i % COMPONENTS)) where
-  pub contained-yes : b ≡ true → (1 ≡ containedAt ch i) × (1 ≤ 1)
-  contained-yes t = (sym (rw (sym e ∙ t, containedAt)), omega arith)
+module _ (ch : List ℕ) (s c : ℕ) (low : c < COMPONENTS) (b : Bool) (e : b ≡ hasOf (systemOf ch s) c) where
+  contained-row : cond (hasOf (systemOf ch s) c) 1 0 ≡ containedAt ch (s * COMPONENTS + c)
+  contained-row =
+      let row : s ≡ (s * COMPONENTS + c) / COMPONENTS = omega arith in
+      let column : c ≡ (s * COMPONENTS + c) % COMPONENTS = omega arith in
+      ap₂ (λ x u. cond (hasOf (systemOf ch x) u) 1 0) row column
 
-  pub contained-no : b ≡ false → (0 ≡ containedAt ch i) × (0 ≤ 1)
-  contained-no t = (sym (rw (sym e ∙ t, containedAt)), omega arith)
+  pub contained-yes : b ≡ true → (1 ≡ containedAt ch (s * COMPONENTS + c)) × (1 ≤ 1)
+  contained-yes t = (rw (sym e ∙ t) at contained-row, omega arith)
+
+  pub contained-no : b ≡ false → (0 ≡ containedAt ch (s * COMPONENTS + c)) × (0 ≤ 1)
+  contained-no t = (rw (sym e ∙ t) at contained-row, omega arith)

@@ -65,12 +65,12 @@ pub fn fit(mix: [u32; COMPONENTS], choice: Choice) -> bool
     chosen_fit(&ch, choice.count)
 }
 
-// One where cell i's system contains its component, else none.
-fn contains(ch: &[u8; SYSTEMS], i: usize) -> u32
-    requires { ⌜ i < CELLS ⌝ }
-    ensures { λ r. ⌜ (r ≡ containedAt (now (ch .entry)) i) × (r ≤ 1) ⌝ }
+// One where row s's system contains component c, else none.
+fn contains(ch: &[u8; SYSTEMS], s: usize, c: usize) -> u32
+    requires { ⌜ (s < SYSTEMS) × (c < COMPONENTS) ⌝ }
+    ensures { λ r. ⌜ (r ≡ containedAt (now (ch .entry)) (s * COMPONENTS + c)) × (r ≤ 1) ⌝ }
 {
-    if systems::has(ch[i / COMPONENTS], i % COMPONENTS) {
+    if systems::has(ch[s], c) {
         return 1;
     }
     0
@@ -84,11 +84,13 @@ fn sharers(a: &mut [u32; CELLS], ch: &[u8; SYSTEMS], end: usize, c: usize) -> u3
         × (now (a .exit) ≡ columnTo (now (ch .entry)) c 1 0 (now (a .entry)) (end / COMPONENTS)) ⌝ }
 {
     let mut r: u32 = 0;
+    let mut s = 0;
     let mut i = c;
     while i < end {
-        let here = contains(ch, i);
+        let here = contains(ch, s, c);
         a[i] = here;
         r += here;
+        s += 1;
         i += COMPONENTS;
     }
     if r == 0 { 1 } else { r }
