@@ -27,16 +27,16 @@ use Rattle.rating.proofs.CallCases.{misfit, fitting, answered-is}
 
 -- ---- the packed tables
 
-abbrev pub rising : List ℕ → ℕ → ℕ → ℕ
-rising packed system j = getD packed system 0 / 2 ^ (j * 3) % 8
+abbrev pub rising : ℕ → ℕ → ℕ → ℕ
+rising packed system j = packed / 2 ^ (system * 6 + j * 2) % 4 + j
 
-abbrev pub rises : List ℕ → ℕ → ℕ → Bool
+abbrev pub rises : ℕ → ℕ → ℕ → Bool
 rises packed system j = eqb (rising packed system j) (componentAt system j)
 
-abbrev pub risesAll : List ℕ → ℕ → Bool
+abbrev pub risesAll : ℕ → ℕ → Bool
 risesAll packed system = everyTo (rises packed system) 3
 
-pub component-is : (packed : List ℕ) → T (every (risesAll packed) candidates) → (system j : ℕ) → Candidate system → j < 3
+pub component-is : (packed : ℕ) → T (every (risesAll packed) candidates) → (system j : ℕ) → Candidate system → j < 3
     → (rising packed system j ≡ componentAt system j) × (rising packed system j < COMPONENTS)
 component-is packed t system j k h =
     let e = eqb→eq (rising packed system j) (componentAt system j) (eachTo (rises packed system) 3 (each-candidate (risesAll packed) t system k) j h) in

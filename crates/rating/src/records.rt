@@ -13,21 +13,9 @@ use split::CELLS;
 use systems::COMPONENTS;
 use systems::SYSTEMS;
 
-// System numbers are below this one.
-const NUMBERS: usize = 9;
-
-// The components of each system number, rising: an octal digit each, from the right. Only candidates' are read.
-const RISING: [u64; NUMBERS] = [
-    0o000,
-    0o410,
-    0o321,
-    0o000,
-    0o210,
-    0o420,
-    0o430,
-    0o320,
-    0o310,
-];
+// How far the component of each of a system's three records lies above the record's place: the components rise, so two
+// bits each hold it, six for a system number, from the right. Only candidates' are read.
+const RISING: u64 = 0b010000_010100_101000_100100_000000_000000_010101_100000_000000;
 
 // The components' codes in a split, a hexadecimal digit each, from the right.
 const CODES: u64 = 0xFE321;
@@ -37,8 +25,7 @@ fn component(system: u8, j: usize) -> usize
     requires { ⌜ Candidate system × (j < 3) ⌝ }
     ensures { λ r. ⌜ (r ≡ componentAt system j) × (r < COMPONENTS) ⌝ }
 {
-    let rising = RISING;
-    ((rising[system as usize] >> (j * 3)) % 8) as usize
+    ((RISING >> (system as usize * 6 + j * 2)) % 4) as usize + j
 }
 
 // A component's code in a split.
