@@ -14,9 +14,10 @@ use lib.ListN.{getD, set, length, drop, replicate, length-set, getD-replicate}
 use lib.Seq.{getD-set-same, getD-set-other}
 use borrow.Author.Tests.{lt-ltb, le-ltb, eqb-true, eqb-false, eq-eqb, ne-eqb}
 use Rattle.systems.specs.Systems.{COMPONENTS, memberOf, hasOf, elem, candidates}
-use Rattle.systems.specs.Choice.{NUMBERS, order, fold, weightedOf, fitnessOf, allTo, maskFrom, maskOf, inMask, presentOf, presentIn, standingOf, candidatesFor, keep, isChosen, oneIf, countOf, containingOf, scoreOf, betterOf, fittestOf, takeOf, passOf, marksOf}
+use Rattle.systems.specs.Choice.{NUMBERS, hydrocarbonOrder, order, fold, weightedOf, fitnessOf, allTo, maskFrom, maskOf, inMask, presentOf, presentIn, standingOf, candidatesFor, keep, isChosen, oneIf, countOf, containingOf, scoreOf, betterOf, fittestOf, takeOf, passOf, marksOf}
 use Rattle.systems.specs.Table.{none-has, to-true, everyTo, eachTo}
 use Rattle.systems.specs.Presence.{Every, every-elem, mask-lt}
+use Rattle.systems.specs.Without.{HYDROCARBONS}
 use Rattle.systems.specs.Scores.{better-next, better-before}
 use Rattle.choice.specs.Keys.{KEYS, weighedTo, keyOf, Keyed}
 use Rattle.choice.proofs.Loops.{next, done}
@@ -319,17 +320,28 @@ turn-is hy fit p wanted (c ∷ components) marks = go (inMask p c) refl (turn-is
     go true e f = rw (e, turnOf, keep) (f (takeOf fit (candidatesFor hy) wanted marks c))
     go false e f = rw (e, turnOf, keep) (f marks)
 
--- the marks after i turns
-unfoldable pub marksAfter : Bool → (ℕ → ℕ) → ℕ → ℕ → List Bool
-marksAfter hy fit p zero = replicate NUMBERS false
-marksAfter hy fit p (suc i) = turnOf hy fit p (1 + i / COMPONENTS) (marksAfter hy fit p i) (getD order (i % COMPONENTS) 0)
+-- the marks after i turns, of n components in an order
+unfoldable pub marksAfter : Bool → ℕ → List ℕ → (ℕ → ℕ) → ℕ → ℕ → List Bool
+marksAfter hy n components fit p zero = replicate NUMBERS false
+marksAfter hy n components fit p (suc i) =
+    turnOf hy fit p (1 + i / n) (marksAfter hy n components fit p i) (getD components (i % n) 0)
 
-after-folds : (hy : Bool) (fit : ℕ → ℕ) (p : ℕ) → marksAfter hy fit p (2 * COMPONENTS) ≡ fold (turnOf hy fit p 2) order (fold (turnOf hy fit p 1) order (replicate NUMBERS false))
+-- after two turns of each they are those of two passes
+abbrev pub Passes : Bool → ℕ → List ℕ → Type 0
+Passes hy n components = (fit : ℕ → ℕ) → (p : ℕ)
+    → marksAfter hy n components fit p (2 * n) ≡ fold (turnOf hy fit p 2) components (fold (turnOf hy fit p 1) components (replicate NUMBERS false))
+
+pub all-passes : Passes true COMPONENTS order
 unfolding marksAfter fold
-after-folds hy fit p = refl
+all-passes fit p = refl
 
-pub after-all : (hy : Bool) (fit : ℕ → ℕ) (p : ℕ) → marksAfter hy fit p (2 * COMPONENTS) ≡ marksOf fit (candidatesFor hy) (keep p order)
+pub hydrocarbon-passes : Passes false HYDROCARBONS hydrocarbonOrder
+unfolding marksAfter fold
+hydrocarbon-passes fit p = refl
+
+pub after-all : (hy : Bool) (n : ℕ) (components : List ℕ) → Passes hy n components → (fit : ℕ → ℕ) (p : ℕ)
+    → marksAfter hy n components fit p (2 * n) ≡ marksOf fit (candidatesFor hy) (keep p components)
 unfolding marksOf
-after-all hy fit p =
-    after-folds hy fit p ∙ turn-is hy fit p 2 order (fold (turnOf hy fit p 1) order (replicate NUMBERS false))
-    ∙ ap (passOf fit (candidatesFor hy) (keep p order) 2) (turn-is hy fit p 1 order (replicate NUMBERS false))
+after-all hy n components passes fit p =
+    passes fit p ∙ turn-is hy fit p 2 components (fold (turnOf hy fit p 1) components (replicate NUMBERS false))
+    ∙ ap (passOf fit (candidatesFor hy) (keep p components) 2) (turn-is hy fit p 1 components (replicate NUMBERS false))

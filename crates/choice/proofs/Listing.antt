@@ -8,13 +8,16 @@ use native.Mathlib.Omega.{arith}
 use lib.ListN.{getD, set, length, drop, replicate, length-append}
 use lib.Seq.{set-at, append-snoc}
 use Rattle.systems.specs.Systems.{COMPONENTS, HYDROGEN}
-use Rattle.systems.specs.Choice.{NUMBERS, SYSTEMS, order, takeOf, marksOf, fold, isChosen, keep, inMask, presentOf, standingOf, candidatesFor, candidatesOf}
-use Rattle.systems.specs.Choice.{listOf, chosenOf, chooseBy, chooseOf, paddedOf, answerOf, choiceOf}
+use Rattle.systems.specs.Choice.{NUMBERS, SYSTEMS, hydrocarbonOrder, order, takeOf, marksOf, fold, isChosen, keep, inMask, presentOf, standingOf, candidatesFor, candidatesOf}
+use Rattle.systems.specs.Choice.{listOf, chosenOf, chooseBy, paddedOf, answerOf, choiceOf}
+use Rattle.systems.specs.Presence.{choose-is}
+use Rattle.systems.specs.Without.{keep-without}
+use borrow.Author.Tests.{eq-eqb, ne-eqb}
 use Rattle.choice.specs.Keys.{Keyed}
 use Rattle.systems.specs.declared.Choice.{Choice}
 use Rattle.choice.proofs.Loops.{next, done}
 use Rattle.choice.proofs.Packed.{offered-few}
-use Rattle.choice.proofs.Keying.{chosen-of-key, open-of-key, turn-takes, turn-over, marksAfter, after-all}
+use Rattle.choice.proofs.Keying.{chosen-of-key, open-of-key, turn-takes, turn-over, marksAfter, Passes, after-all}
 
 -- one more system at the end
 padded-set : (l : List ℕ) (s : ℕ) → length l < SYSTEMS → set (paddedOf l) (length l) s ≡ paddedOf (l ++ (s ∷ []))
@@ -92,42 +95,59 @@ lists-all hy keys count systems i k h fit marks d = listed-all hy marks count sy
 
 -- ---- the turns of the components
 
-abbrev pub Turns : Bool → ℕ → List ℕ → List ℕ → ℕ → Type 0
-Turns hy p fresh keys i = (fit : ℕ → ℕ) → Keyed hy fit (replicate NUMBERS false) fresh → Keyed hy fit (marksAfter hy fit p i) keys
+module _ (hy : Bool) (n : ℕ) (components : List ℕ) (p : ℕ) (fresh : List ℕ) where
+  abbrev pub Turns : List ℕ → ℕ → Type 0
+  Turns keys i = (fit : ℕ → ℕ) → Keyed hy fit (replicate NUMBERS false) fresh → Keyed hy fit (marksAfter hy n components fit p i) keys
 
-pub turns-none : (hy : Bool) (p : ℕ) (fit : ℕ → ℕ) (keys : List ℕ) → Keyed hy fit (replicate NUMBERS false) keys → Keyed hy fit (marksAfter hy fit p 0) keys
-unfolding marksAfter
-turns-none hy p fit keys k = k
+  pub turns-none : Turns fresh 0
+  unfolding marksAfter
+  turns-none fit k = k
 
--- a component that is present takes its turn
-pub turns-next : (hy : Bool) (p : ℕ) (fresh keys later : List ℕ) (i c : ℕ) → Turns hy p fresh keys i → c ≡ getD order (i % COMPONENTS) 0 → p / 2 ^ c % 2 ≡ 1
-    → ((fit : ℕ → ℕ) → (marks : List Bool) → Keyed hy fit marks keys → Keyed hy fit (takeOf fit (candidatesFor hy) (1 + i / COMPONENTS) marks c) later)
-    → Turns hy p fresh later (i + 1)
-unfolding marksAfter
-turns-next hy p fresh keys later i c k e q t fit f = rw (add-one, ← e, turn-takes hy fit p (1 + i / COMPONENTS) (marksAfter hy fit p i) c q) (t fit (marksAfter hy fit p i) (k fit f))
+  -- a component that is present takes its turn
+  pub turns-next : (keys later : List ℕ) (i c : ℕ) → Turns keys i → c ≡ getD components (i % n) 0 → p / 2 ^ c % 2 ≡ 1
+      → ((fit : ℕ → ℕ) → (marks : List Bool) → Keyed hy fit marks keys → Keyed hy fit (takeOf fit (candidatesFor hy) (1 + i / n) marks c) later)
+      → Turns later (i + 1)
+  unfolding marksAfter
+  turns-next keys later i c k e q t fit f =
+      rw (add-one, ← e, turn-takes hy fit p (1 + i / n) (marksAfter hy n components fit p i) c q) (t fit (marksAfter hy n components fit p i) (k fit f))
 
--- one that is absent is passed over
-pub turns-over : (hy : Bool) (p : ℕ) (fresh keys : List ℕ) (i c : ℕ) → Turns hy p fresh keys i → c ≡ getD order (i % COMPONENTS) 0 → (p / 2 ^ c % 2 ≡ 1 → ⊥) → Turns hy p fresh keys (i + 1)
-unfolding marksAfter
-turns-over hy p fresh keys i c k e q fit f = rw (add-one, ← e, turn-over hy fit p (1 + i / COMPONENTS) (marksAfter hy fit p i) c q) (k fit f)
+  -- one that is absent is passed over
+  pub turns-over : (keys : List ℕ) (i c : ℕ) → Turns keys i → c ≡ getD components (i % n) 0 → (p / 2 ^ c % 2 ≡ 1 → ⊥) → Turns keys (i + 1)
+  unfolding marksAfter
+  turns-over keys i c k e q fit f = rw (add-one, ← e, turn-over hy fit p (1 + i / n) (marksAfter hy n components fit p i) c q) (k fit f)
 
-pub turns-all : (hy : Bool) (p : ℕ) (fresh keys : List ℕ) (i : ℕ) → Turns hy p fresh keys i → i ≤ 2 * COMPONENTS → 2 * COMPONENTS ≤ i
-    → (fit : ℕ → ℕ) → Keyed hy fit (replicate NUMBERS false) fresh → Keyed hy fit (marksOf fit (candidatesFor hy) (keep p order)) keys
-turns-all hy p fresh keys i k h l fit f =
-    let e : i ≡ 2 * COMPONENTS = omega arith in
-    rw (ap (marksAfter hy fit p) e ∙ after-all hy fit p) at (k fit f)
+  pub turns-all : Passes hy n components → (keys : List ℕ) (i : ℕ) → Turns keys i → i ≤ 2 * n → 2 * n ≤ i
+      → (fit : ℕ → ℕ) → Keyed hy fit (replicate NUMBERS false) fresh → Keyed hy fit (marksOf fit (candidatesFor hy) (keep p components)) keys
+  turns-all passes keys i k h l fit f =
+      let e : i ≡ 2 * n = omega arith in
+      rw (ap (marksAfter hy n components fit p) e ∙ after-all hy n components passes fit p) at (k fit f)
 
 -- the turns and the list make the choice
-pub choice-is : (hy : Bool) (mix keys : List ℕ) (p : ℕ) (r : Choice)
-    → Keyed hy (standingOf mix) (marksOf (standingOf mix) (candidatesFor hy) (keep p order)) keys
+pub choice-is : (hy : Bool) (mix keys components : List ℕ) (r : Choice)
+    → Keyed hy (standingOf mix) (marksOf (standingOf mix) (candidatesFor hy) components) keys
     → ((fit : ℕ → ℕ) → (marks : List Bool) → Keyed hy fit marks keys → r ≡ answerOf (chosenOf (candidatesFor hy) marks))
-    → r ≡ answerOf (chooseBy (standingOf mix) (candidatesFor hy) (keep p order))
-choice-is hy mix keys p r k t = t (standingOf mix) (marksOf (standingOf mix) (candidatesFor hy) (keep p order)) k
+    → r ≡ answerOf (chooseBy (standingOf mix) (candidatesFor hy) components)
+choice-is hy mix keys components r k t = t (standingOf mix) (marksOf (standingOf mix) (candidatesFor hy) components) k
 
 -- among the candidates that there are
-pub offered-choice : (hy : Bool) (mix : List ℕ) (p : ℕ) (r : Choice) → p ≡ presentOf mix → inMask p HYDROGEN ≡ hy
-    → r ≡ answerOf (chooseBy (standingOf mix) (candidatesFor hy) (keep p order)) → r ≡ choiceOf mix
-unfolding chooseOf candidatesOf standingOf presentOf
-offered-choice hy mix p r e h f =
-    f ∙ ap (λ b. answerOf (chooseBy (standingOf mix) (candidatesFor b) (keep p order))) (sym h)
-    ∙ ap (λ q. answerOf (chooseBy (standingOf mix) (candidatesOf q) (keep q order))) e
+module _ (mix : List ℕ) (p : ℕ) (r : Choice) (e : p ≡ presentOf mix) where
+  offered-choice : (hy : Bool) → inMask p HYDROGEN ≡ hy
+      → r ≡ answerOf (chooseBy (standingOf mix) (candidatesFor hy) (keep p order)) → r ≡ choiceOf mix
+  unfolding candidatesOf
+  offered-choice hy h f =
+      f ∙ ap (λ b. answerOf (chooseBy (standingOf mix) (candidatesFor b) (keep p order))) (sym h)
+      ∙ ap (λ q. answerOf (chooseBy (standingOf mix) (candidatesOf q) (keep q order))) e
+      ∙ ap answerOf (sym (choose-is mix))
+
+  pub choice-all : p / 2 ^ HYDROGEN % 2 ≡ 1
+      → r ≡ answerOf (chooseBy (standingOf mix) (candidatesFor true) (keep p order)) → r ≡ choiceOf mix
+  unfolding inMask
+  choice-all h = offered-choice true (eq-eqb (p / 2 ^ HYDROGEN % 2) 1 h)
+
+  pub choice-hydrocarbons : (p / 2 ^ HYDROGEN % 2 ≡ 1 → ⊥)
+      → r ≡ answerOf (chooseBy (standingOf mix) (candidatesFor false) (keep p hydrocarbonOrder)) → r ≡ choiceOf mix
+  unfolding inMask keep
+  choice-hydrocarbons h f =
+      let absent = ne-eqb (p / 2 ^ HYDROGEN % 2) 1 h in
+      offered-choice false absent
+      (f ∙ ap (λ l. answerOf (chooseBy (standingOf mix) (candidatesFor false) l)) (sym (keep-without p absent)))

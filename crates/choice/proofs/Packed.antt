@@ -1,6 +1,6 @@
 -- A packed table has the values of a list, by one computed test over its places. Assumes nothing.
-use Prim.Native.Nat.{ℕ, _+_, _*_, _/_, _%_, _^_, _≤_, _<_}
-use mathlib.Core.Path.{_≡_, refl, sym}
+use Prim.Native.Nat.{ℕ, suc, _+_, _*_, _/_, _%_, _^_, _≤_, _<_}
+use mathlib.Core.Path.{_≡_, refl, sym, ap}
 use mathlib.Core.Bool.{Bool, true, false, not, cond, _||_}
 use native.Mathlib.Nat.{mul-le-mul}
 use native.Mathlib.Omega.{arith}
@@ -8,7 +8,7 @@ use lib.Dec.{T, eqb, leb, leb→le}
 use lib.ListN.{getD, length}
 use borrow.Author.Tests.{eq-eqb, ne-eqb}
 use Rattle.systems.specs.Systems.{COMPONENTS}
-use Rattle.systems.specs.Choice.{NUMBERS, weights, order, candidatesFor}
+use Rattle.systems.specs.Choice.{NUMBERS, weights, hydrocarbonOrder, order, candidatesFor}
 use Rattle.systems.specs.Table.{of-true, everyTo, eachTo, agree, agree-at}
 use Rattle.choice.specs.Keys.{KEYS}
 
@@ -113,6 +113,10 @@ order-is table t = agree-at (digitAt table) (λ i. getD order i 0) COMPONENTS t
 known : ℕ → Bool
 known i = leb (getD order i 0 + 1) COMPONENTS
 
-pub order-lt : (i : ℕ) → getD order (i % COMPONENTS) 0 < COMPONENTS
+pub order-lt : (i : ℕ) → i < COMPONENTS → getD order i 0 < COMPONENTS
 unfolding known
-order-lt i = let l = leb→le (getD order (i % COMPONENTS) 0 + 1) COMPONENTS (eachTo known COMPONENTS tt (i % COMPONENTS) (omega arith)) in omega arith
+order-lt i h = let l = leb→le (getD order i 0 + 1) COMPONENTS (eachTo known COMPONENTS tt i h) in omega arith
+
+-- the hydrocarbons come after hydrogen
+pub order-next : (i : ℕ) → getD order (1 + i) 0 ≡ getD hydrocarbonOrder i 0
+order-next i = ap (λ (x : ℕ). getD order x 0) (let e : 1 + i ≡ suc i = omega arith in e)

@@ -8,7 +8,7 @@ ghost use lib.ListN.{getD, length, replicate};
 ghost use Rattle.systems.specs.Systems.{COMPONENTS, hasOf};
 ghost use Rattle.systems.specs.Choice.{NUMBERS, weights, order, allTo, presentOf, presentCount, presentIn};
 ghost use Rattle.systems.specs.Choice.{standingOf, candidatesFor, keep, takeOf, marksOf, answerOf, chosenOf, chooseBy};
-ghost use Rattle.systems.specs.Choice.{choiceOf};
+ghost use Rattle.systems.specs.Choice.{hydrocarbonOrder, choiceOf};
 ghost use Rattle.choice.specs.Keys.{KEYS, Keyed, weighedTo};
 use systems::COMPONENTS;
 use systems::Choice;
@@ -21,6 +21,9 @@ const WEIGHTS: u64 = 0x6064504B30;
 // The order in which components take systems: hydrogen, propane, ethane, butane, methane, an octal digit each, from the
 // right.
 const ORDER: u64 = 0o03124;
+
+// The components after hydrogen.
+const HYDROCARBONS: usize = 4;
 
 // The systems that can be chosen, a hexadecimal digit each, from the right, and how many there are.
 const SYSTEM_NUMBERS: u64 = 0x8765421;
@@ -212,16 +215,31 @@ fn take(keys: &mut [u64; KEYS], hydrogen: bool, wanted: usize, c: usize)
     }
 }
 
-// The components present do so, one after the other, for one system each and then for two.
-fn turns(keys: &mut [u64; KEYS], p: u32, hydrogen: bool)
-    ensures { λ _. ⌜ ((standing : ℕ → ℕ) → Keyed hydrogen standing (replicate NUMBERS false) (now (keys .entry))
-        → Keyed hydrogen standing (marksOf standing (candidatesFor hydrogen) (keep p order)) (now (keys .exit))) ⌝ }
+// The components present do so, one after the other, for one system each and then for two, among all candidates.
+fn turns(keys: &mut [u64; KEYS], p: u32)
+    ensures { λ _. ⌜ ((standing : ℕ → ℕ) → Keyed true standing (replicate NUMBERS false) (now (keys .entry))
+        → Keyed true standing (marksOf standing (candidatesFor true) (keep p order)) (now (keys .exit))) ⌝ }
 {
     let mut i: usize = 0;
     while i < 2 * COMPONENTS {
         let c = ordered(i % COMPONENTS);
         if (p >> c) % 2 == 1 {
-            take(keys, hydrogen, 1 + i / COMPONENTS, c);
+            take(keys, true, 1 + i / COMPONENTS, c);
+        }
+        i += 1;
+    }
+}
+
+// The same among those of hydrocarbons. A loop of its own: compiled, each then has its candidates and its turns as constants.
+fn hydrocarbon_turns(keys: &mut [u64; KEYS], p: u32)
+    ensures { λ _. ⌜ ((standing : ℕ → ℕ) → Keyed false standing (replicate NUMBERS false) (now (keys .entry))
+        → Keyed false standing (marksOf standing (candidatesFor false) (keep p hydrocarbonOrder)) (now (keys .exit))) ⌝ }
+{
+    let mut i: usize = 0;
+    while i < 2 * HYDROCARBONS {
+        let c = ordered(1 + i % HYDROCARBONS);
+        if (p >> c) % 2 == 1 {
+            take(keys, false, 1 + i / HYDROCARBONS, c);
         }
         i += 1;
     }
@@ -252,17 +270,17 @@ fn among_all(m: [u32; COMPONENTS], p: u32) -> Choice
     ensures { λ r. ⌜ r ≡ answerOf (chooseBy (standingOf m) (candidatesFor true) (keep p order)) ⌝ }
 {
     let mut keys = keys_of(m, p, true);
-    turns(&mut keys, p, true);
+    turns(&mut keys, p);
     listed(keys, true)
 }
 
 // The same among those of hydrocarbons. Of its own, so that each has its number of candidates as a constant.
 fn among_hydrocarbons(m: [u32; COMPONENTS], p: u32) -> Choice
     requires { ⌜ p ≡ presentOf m ⌝ }
-    ensures { λ r. ⌜ r ≡ answerOf (chooseBy (standingOf m) (candidatesFor false) (keep p order)) ⌝ }
+    ensures { λ r. ⌜ r ≡ answerOf (chooseBy (standingOf m) (candidatesFor false) (keep p hydrocarbonOrder)) ⌝ }
 {
     let mut keys = keys_of(m, p, false);
-    turns(&mut keys, p, false);
+    hydrocarbon_turns(&mut keys, p);
     listed(keys, false)
 }
 

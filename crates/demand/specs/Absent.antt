@@ -29,7 +29,7 @@ use Rattle.systems.specs.Members.{countTo}
 use Rattle.systems.specs.Choice.{fold, maskFrom, maskOf, inMask, presentAt, presentOf, presentCount, presentIn, keep}
 use Rattle.systems.specs.Choice as choice
 use Rattle.systems.specs.Choice.{fitnessOf, standingOf, containingOf, scoreOf, betterOf, fittestOf, takeOf}
-use Rattle.systems.specs.Choice.{passOf, marksOf, listOf, chosenOf, chooseOf, paddedOf}
+use Rattle.systems.specs.Choice.{passOf, marksOf, listOf, chosenOf, candidatesOf, chooseOf, paddedOf}
 use Rattle.systems.specs.Presence.{present-count, two-present}
 use Rattle.split.specs.Fold.{sumTo, sumToZ, greatestTo, leastTo, allTo, someTo, table}
 use Rattle.split.specs.Folds.{sum-has}
@@ -166,14 +166,20 @@ module _ (a : List ℕ) (long : length a ≡ CODES) (passed : InRange a) where
 -- ---- worked examples
 
 -- methane with ethane alone is rated on, and has systems 4 and 8
+two-passes : InRange methaneEthane
+unfolding refusalOf inRange totalFits statusOf
+two-passes = refl
+
+two-count : presentCount (mixOf methaneEthane) ≡ 2
+unfolding scaling.greatestTo distributed scaledOf tenthsOf presentOf maskFrom ones
+two-count = refl
+
 pub two-on : ratingRefusal methaneEthane ≡ 0
-unfolding ratingRefusal refusalOf inRange totalFits statusOf scaling.greatestTo distributed scaledOf tenthsOf presentOf
-    maskFrom ones
-two-on = refl
+two-on = enough-on methaneEthane two-passes (omega (arith, two-count))
 
 pub two-systems : chooseOf (mixOf methaneEthane) ≡ 4 ∷ 8 ∷ []
 unfolding chooseOf marksOf passOf takeOf containingOf fittestOf betterOf scoreOf chosenOf listOf fold fitnessOf
-    standingOf choice.allTo keep inMask presentOf presentIn maskOf maskFrom ones hasOf memberOf
+    standingOf choice.allTo keep inMask presentOf presentIn maskOf maskFrom ones hasOf memberOf candidatesOf
 two-systems = ap chooseOf methane-ethane
 
 -- with six records, as the search finds them, it has a rating and a spread
@@ -201,7 +207,13 @@ two-rated =
 abbrev alone : List ℕ
 alone = 0 ∷ 990000 ∷ 0 ∷ 0 ∷ 0 ∷ 0 ∷ 0 ∷ 0 ∷ 0 ∷ 0 ∷ 0 ∷ 10000 ∷ 0 ∷ 0 ∷ 0 ∷ 0 ∷ []
 
+alone-passes : InRange alone
+unfolding refusalOf inRange totalFits statusOf
+alone-passes = refl
+
+alone-count : presentCount (mixOf alone) ≡ 1
+unfolding scaling.greatestTo distributed scaledOf tenthsOf presentOf maskFrom ones
+alone-count = refl
+
 pub alone-refused : ratingRefusal alone ≡ TOO_FEW
-unfolding ratingRefusal refusalOf inRange totalFits statusOf scaling.greatestTo distributed scaledOf tenthsOf presentOf
-    maskFrom ones
-alone-refused = refl
+alone-refused = too-few alone alone-passes (omega (arith, alone-count))

@@ -9,7 +9,7 @@ use lib.ListN.{getD}
 use lib.IntN.{ℤ, pos, negsuc, _+ℤ_, _*ℤ_}
 use lib.Signed.{quotZ}
 use Rattle.formula.specs.Partial.{partialNumber}
-use Rattle.systems.specs.Systems.{memberOf, hasOf}
+use Rattle.systems.specs.Systems.{COMPONENTS, memberOf, hasOf}
 use Rattle.split.specs.Fold.{sumTo, sumToZ, allTo, someTo, first, table}
 use Rattle.split.specs.Split.{SYSTEMS, RECORDS, systemOf, both, heldOf, rankOf}
 use Rattle.split.specs.Rating.{spreadOf, inertNumber, verdict}
@@ -27,9 +27,9 @@ use Rattle.split.specs.declared.Found.{Found}
 abbrev pub BEFORE : ℕ
 BEFORE = 4
 
--- and with it
+-- the components with hydrogen: today's
 abbrev pub BLEND : ℕ
-BLEND = 5
+BLEND = COMPONENTS
 
 -- the amount of component c in row s, of amounts in record order
 abbrev pub recorded : List ℕ → ℕ → List ℕ → ℕ → ℕ → ℕ

@@ -8,7 +8,7 @@ use mathlib.Core.Path.{_≡_, refl, sym, ap, ap₂, _∙_}
 use mathlib.Core.Bool.{Bool, true, false, not}
 use mathlib.Core.List.{List, [], _∷_, _++_}
 use mathlib.Core.Logic.{_↔_}
-use Prim.Native.Nat.{ℕ, zero, suc, _*_, _/_, _%_, _<_}
+use Prim.Native.Nat.{ℕ, zero, suc, _*_, _/_, _%_, _<_, min}
 use native.Mathlib.Omega.{arith}
 use lib.Count.{ones}
 use lib.Dec.{eqb, ltb}
@@ -35,7 +35,7 @@ use Rattle.systems.specs.Without.{HYDROCARBONS, chooseBefore, present-before, c
 use Rattle.systems.specs.Without.{present-same, before-same}
 use Rattle.systems.specs.declared.Choice.{Choice}
 use Rattle.split.specs.Fold.{allTo, table}
-use Rattle.split.specs.Split.{RECORDS, both, systemOf, componentAt, cellsOf, amountsOf}
+use Rattle.split.specs.Split.{RECORDS, both, systemOf}
 use Rattle.split.specs.Rating.{ratingOf, proposedOf}
 use Rattle.split.specs.Start.{startOf}
 use Rattle.split.specs.Search.{LEVEL, searchOf}
@@ -44,9 +44,9 @@ use Rattle.split.specs.declared.Answer.the-variants.{Rated, Refused}
 use Rattle.split.specs.declared.Search.{Search}
 use Rattle.split.specs.declared.Search.the-variants.{Balanced, Unbalanced, Unfit}
 use Rattle.split.specs.declared.Found.{Found}
-use Rattle.rating.specs.Records.{codeOf, codeAt, codesOf, systemsOf, matchesAt, fitsOf}
-use Rattle.rating.specs.Rate.{LIMIT, ROUNDS, FEWEST, mixOf, systemsFor, countFor, ratingRefusal, splitBy, splitAnswer}
-use Rattle.rating.specs.Rate.{outcome, recordsOf, foundBy, foundOutcome, searched, searchOutcome, sheetOutcome}
+use Rattle.rating.specs.Records.{codeOf, systemAt, codeAt, codesOf, systemsOf, matchesAt, fitsOf}
+use Rattle.rating.specs.Rate.{LIMIT, ROUNDS, mixOf, systemsFor, countFor, ratingRefusal, checkedBy, splitBy, splitAnswer}
+use Rattle.rating.specs.Rate.{outcome, recordsOf, foundBy, foundOutcome, searchOutcomeBy, searchOutcome, sheetOutcome}
 use Rattle.rating.specs.LeftOut.{mixture-number}
 use Rattle.rating.specs.RatedOn.{InRange, RatedOn}
 use Rattle.rating.specs.Ready.{choosable, chosen}
@@ -92,7 +92,7 @@ module _ (ch : List ℕ) (k : ℕ) (without : Without ch k) where
   fits-same count systems codes =
       ap (both (eqb count (3 * k)))
       (all-same (matchesBefore ch k systems codes) (matchesAt ch k systems codes) count
-      (λ r l. ap (λ (c : ℕ). both (eqb (getD systems r 0) _) (eqb (getD codes r 0) c)) (code-same r)))
+      (λ r l. ap (λ (c : ℕ). both (eqb (getD systems r 0) (systemAt ch k r)) (eqb (getD codes r 0) c)) (code-same r)))
 
 -- ---- so are the answers, where the mixture has no hydrogen
 
@@ -129,7 +129,7 @@ getD-end (x ∷ xs) (suc c) = getD-end xs c
 
 module _ (a : List ℕ) (none : getD a 15 0 ≡ 0) where
   -- has the same amounts of each component
-  amount-same : (c : ℕ) → getD (mixOf a) c 0 ≡ getD (simplifiedBefore a) c 0
+  pub amount-same : (c : ℕ) → getD (mixOf a) c 0 ≡ getD (simplifiedBefore a) c 0
   amount-same c = ap (λ (l : List ℕ). getD l c 0) (simplified-kept a none) ∙ getD-end (simplifiedBefore a) c
 
   no : NoHydrogen (simplifiedBefore a) (mixOf a)
@@ -157,7 +157,7 @@ module _ (a : List ℕ) (none : getD a 15 0 ≡ 0) where
     where
       negation : (b : Bool) → true ≡ not b → b ≡ false
       negation false e = refl
-      negation true e = sym e
+      negation true e = e
 
       lacks : (s : ℕ) → s < countFor a → hasOf (systemOf (systemsFor a) s) BEFORE ≡ false
       lacks s h =
@@ -169,27 +169,36 @@ module _ (a : List ℕ) (none : getD a 15 0 ≡ 0) where
   -- so it is answered as it was: to every proposed split,
   pub split-kept : (p : Split) (code : ℕ) → splitAnswer a p code ≡ splitBefore a p code
   unfolding splitAnswer splitBefore
-  split-kept p code = go (eqb (ratingRefusal a) 0) refl
+  split-kept p code =
+      go (eqb (ratingRefusal a) 0) refl
+      ∙ (λ j. checkedBy (refusal-kept j) code (splitWith (choice-kept j .systems) (choice-kept j .count) (simplifiedBefore a) (inert-kept a none j) p))
     where
-      go : (b : Bool) → eqb (ratingRefusal a) 0 ≡ b → splitAnswer a p code ≡ splitBefore a p code
+      go : (b : Bool) → eqb (ratingRefusal a) 0 ≡ b
+          → checkedBy (ratingRefusal a) code (splitBy (systemsFor a) (countFor a) (mixOf a) (inertFirst a) p)
+          ≡ checkedBy (ratingRefusal a) code (splitWith (systemsFor a) (countFor a) (simplifiedBefore a) (inertFirst a) p)
       go true e =
           let on = eqb-true (ratingRefusal a) 0 e in
-          rw (sym refusal-kept, on, sym choice-kept, sym (inert-kept a none))
+          ap (checkedBy (ratingRefusal a) code)
           (sym (split-same (systemsFor a) (countFor a) (without on) (simplifiedBefore a) (mixOf a) no (inertFirst a) p))
-      go false e = rw (sym refusal-kept, e)
+      go false e = rw e
 
   -- and by the search with every allowance
   pub search-kept-all : (allowance code : ℕ) → searchOutcome a allowance code ≡ searchBefore a allowance code
   unfolding searchOutcome searchBefore
-  search-kept-all allowance code = go (eqb (ratingRefusal a) 0) refl
+  search-kept-all allowance code =
+      go (eqb (ratingRefusal a) 0) refl
+      ∙ (λ j. searchOutcomeWith (refusal-kept j) (choice-kept j) (simplifiedBefore a) (inert-kept a none j) allowance code)
     where
-      go : (b : Bool) → eqb (ratingRefusal a) 0 ≡ b → searchOutcome a allowance code ≡ searchBefore a allowance code
+      go : (b : Bool) → eqb (ratingRefusal a) 0 ≡ b
+          → searchOutcomeBy (ratingRefusal a) (choiceOf (mixOf a)) a allowance code
+          ≡ searchOutcomeWith (ratingRefusal a) (choiceOf (mixOf a)) (simplifiedBefore a) (inertFirst a) allowance code
       go true e =
           let on = eqb-true (ratingRefusal a) 0 e in
-          rw (sym refusal-kept, on, sym choice-kept, sym (inert-kept a none))
+          ap (λ (x : Outcome). ifElse (eqb (ratingRefusal a) 0) x
+          (outcome (Refused (ratingRefusal a) (ifElse (eqb (ratingRefusal a) 5) code 0)) noSplit))
           (sym (found-same (systemsFor a) (countFor a) (without on) (simplifiedBefore a) (mixOf a) no (inertFirst a) _ _
-          (search-kept (systemsFor a) (countFor a) (without on) (simplifiedBefore a) (mixOf a) no LIMIT LEVEL _)))
-      go false e = rw (sym refusal-kept, e)
+          (search-kept (systemsFor a) (countFor a) (without on) (simplifiedBefore a) (mixOf a) no LIMIT LEVEL (min allowance ROUNDS))))
+      go false e = rw e
 
 -- ---- a sheet
 

@@ -11,7 +11,7 @@ use Rattle.refusal.specs.Register.{NO_SYSTEM, TOO_FEW}
 use Rattle.formula.specs.WorkingRule.{sumAbs}
 use Rattle.formula.specs.Coefficients.{placeIn, keepsRule, isSystem}
 use Rattle.analysis.specs.Register.{ifElse}
-use Rattle.systems.specs.Systems.{candidates}
+use Rattle.systems.specs.Systems.{HYDROGEN, candidates}
 use Rattle.systems.specs.Choice.{inMask, presentOf, presentCount, fold, isChosen, listOf, chosenOf, candidatesFor, candidatesOf}
 use Rattle.systems.specs.Choice.{chooseOf}
 use Rattle.rating.specs.Rate.{FEWEST, mixtureRefusal}
@@ -22,8 +22,8 @@ unfolding placeIn keepsRule isSystem sumAbs
 candidates-kept = refl
 
 offered-kept : (present : ℕ) → each isSystem (candidatesOf present) ≡ true
-unfolding placeIn keepsRule isSystem sumAbs candidatesFor candidatesOf
-offered-kept present = go (inMask present 4)
+unfolding placeIn keepsRule isSystem sumAbs candidatesOf
+offered-kept present = go (inMask present HYDROGEN)
   where
     go : (b : Bool) → each isSystem (candidatesFor b) ≡ true
     go true = refl
@@ -46,15 +46,14 @@ chosen-from : (test : ℕ → Bool) (marks : List Bool) (systems chosen : List �
     → each test chosen ≡ true → each test (fold (listOf marks) systems chosen) ≡ true
 unfolding fold listOf
 chosen-from test marks [] chosen h c = c
-chosen-from test marks (s ∷ ss) chosen h c = go (isChosen marks s) (both-of (test s) (each test ss) h)
+chosen-from test marks (s ∷ ss) chosen h c =
+    go (isChosen marks s) (both-of (test s) (each test ss) h) (λ l u v. chosen-from test marks ss l u v)
   where
-    rest : (l : List ℕ) → each test ss ≡ true → each test l ≡ true → each test (fold (listOf marks) ss l) ≡ true
-    rest l u v = chosen-from test marks ss l u v
-
     go : (b : Bool) → (test s ≡ true) × (each test ss ≡ true)
+        → ((l : List ℕ) → each test ss ≡ true → each test l ≡ true → each test (fold (listOf marks) ss l) ≡ true)
         → each test (fold (listOf marks) ss (elim b [ true ↦ chosen ++ (s ∷ []) | false ↦ chosen ])) ≡ true
-    go true (t, u) = rest (chosen ++ (s ∷ [])) u (each-end test chosen s c t)
-    go false (t, u) = rest chosen u c
+    go true (t, u) rest = rest (chosen ++ (s ∷ [])) u (each-end test chosen s c t)
+    go false (t, u) rest = rest chosen u c
 
 pub chosen-each : (test : ℕ → Bool) (marks : List Bool) (systems : List ℕ) → each test systems ≡ true
     → each test (chosenOf systems marks) ≡ true

@@ -7,6 +7,7 @@ use mathlib.Core.Logic.{inl, inr}
 use Prim.Native.Nat.{ℕ, zero, suc, _+_, _*_, _≤_, _<_}
 use native.Mathlib.Omega.{arith}
 use native.Mathlib.Numerals.{add-one}
+use native.Mathlib.Nat.{zero-add}
 use lib.ListN.{getD, length, drop}
 use Rattle.analysis.specs.Register.{CODES}
 use borrow.Author.Tests.{ltb-false}
@@ -40,7 +41,7 @@ count-sharers ch c (suc n) = ap (λ (x : ℕ). x + cond (hasOf (getD ch n 0) c) 
 total-to : (mix : List ℕ) (n : ℕ) → n ≤ length mix
     → sumTo (λ c. getD mix c 0) n + analysis.totalOf (drop n mix) ≡ analysis.totalOf mix
 unfolding sumTo
-total-to mix zero h = refl
+total-to mix zero h = zero-add (analysis.totalOf mix)
 total-to mix (suc n) h =
     omega (arith, total-to mix n (omega arith), total-go n mix (omega arith), ap (λ (k : ℕ). analysis.totalOf (drop k mix)) (add-one n))
 

@@ -17,7 +17,7 @@ use systems::SYSTEMS;
 const NUMBERS: usize = 9;
 
 // The components of each system number, rising: an octal digit each, from the right. Only candidates' are read.
-const RISING: [u32; NUMBERS] = [
+const RISING: [u64; NUMBERS] = [
     0o000,
     0o410,
     0o321,

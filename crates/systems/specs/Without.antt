@@ -34,6 +34,11 @@ mask-short f zero i e = rw (ap f (sym (add-zero i)) ∙ e)
 mask-short f (suc n) i e =
     ap (λ (x : ℕ). x * 2 + cond (f i) 1 0) (mask-short f n (i + 1) (ap f (omega arith) ∙ e))
 
+-- hydrogen is passed over
+pub keep-without : (present : ℕ) → inMask present HYDROGEN ≡ false → keep present order ≡ keep present hydrocarbonOrder
+unfolding keep
+keep-without present e = rw (e, keep)
+
 module _ (mix : List ℕ) (none : getD mix HYDROGEN 0 ≡ 0) where
   hydrogen-absent : presentAt mix HYDROGEN ≡ false
   hydrogen-absent = le-ltb 0 (getD mix HYDROGEN 0) (omega arith)
@@ -51,21 +56,17 @@ module _ (mix : List ℕ) (none : getD mix HYDROGEN 0 ≡ 0) where
   unfolding allTo
   all-before = omega (arith, none)
 
-  -- the candidates are the four,
+  -- and the candidates are the four
   pub candidates-before : candidatesOf (presentOf mix) ≡ hydrocarbonSystems
   unfolding candidatesOf
   candidates-before = ap candidatesFor not-in
-
-  -- and hydrogen is passed over
-  order-before : keep (presentOf mix) order ≡ keep (presentOf mix) hydrocarbonOrder
-  unfolding keep
-  order-before = rw (not-in, keep)
 
   -- so the choice is the one before
   pub choose-before : chooseOf mix ≡ chooseBefore mix
   unfolding chooseOf presentOf
   choose-before =
-      ap₂ (chooseBy (standingBy (presentOf mix) (allTo mix COMPONENTS) mix)) candidates-before order-before
+      ap₂ (chooseBy (standingBy (presentOf mix) (allTo mix COMPONENTS) mix)) candidates-before
+      (keep-without (presentOf mix) not-in)
       ∙ ap₂ (λ (p all : ℕ). chooseBy (standingBy p all mix) hydrocarbonSystems (keep p hydrocarbonOrder))
       present-before all-before
 
@@ -82,14 +83,18 @@ module _ (mix other : List ℕ) (same : (c : ℕ) → getD mix c 0 ≡ getD othe
   all-same zero = refl
   all-same (suc n) = ap₂ (λ (all x : ℕ). all + getD weights n 0 * x) (all-same n) (same n)
 
-  fitness-same : (s : ℕ) → fitnessOf mix s ≡ fitnessOf other s
+  pub fitness-same : (s : ℕ) → fitnessOf mix s ≡ fitnessOf other s
   unfolding fitnessOf
   fitness-same s = λ j.
       getD weights (memberOf s 0) 0 * same (memberOf s 0) j + getD weights (memberOf s 1) 0 * same (memberOf s 1) j
       + getD weights (memberOf s 2) 0 * same (memberOf s 2) j
 
-  -- have the same choice
-  before-same : chooseBefore mix ≡ chooseBefore other
+  -- have the same components present
+  pub present-same : (n : ℕ) → presentTo n mix ≡ presentTo n other
+  present-same n = λ j. maskFrom (λ c. ltb 0 (same c j)) n 0
+
+  -- and the same choice
+  pub before-same : chooseBefore mix ≡ chooseBefore other
   before-same = λ j.
       let present = maskFrom (λ c. ltb 0 (same c j)) HYDROCARBONS 0 in
       chooseBy (λ s. presentIn present s * (all-same HYDROCARBONS j + 1) + fitness-same s j) hydrocarbonSystems

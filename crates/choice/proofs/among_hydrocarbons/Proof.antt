@@ -5,19 +5,19 @@ use Rattle.choice.proofs.among_hydrocarbons.Statement.{statement}
 use Rattle.choice.proofs.among_hydrocarbons.Tie as tie
 use Rattle.choice.proofs.keys_of.Reads as keys-of-reads
 use Rattle.choice.proofs.listed.Reads as listed-reads
-use Rattle.choice.proofs.turns.Reads as turns-reads
+use Rattle.choice.proofs.hydrocarbon_turns.Reads as hydrocarbon-turns-reads
 
 keys-of-requires : tie.Need-keys-of-requires
 keys-of-requires c κs = search needs
 
-turns-requires : tie.Need-turns-requires
-turns-requires c κs = search needs
+hydrocarbon-turns-requires : tie.Need-hydrocarbon-turns-requires
+hydrocarbon-turns-requires c κs = search needs
 
 listed-requires : tie.Need-listed-requires
 listed-requires c κs = search needs
 
 returns : tie.Need-returns
-returns c = choice-is _ _ _ _ _ (c .before .turns .ensures _ (c .before .before .before .keys-of .ensures)) (c .listed .ensures)
+returns c = choice-is _ _ _ _ _ (c .before .hydrocarbon-turns .ensures _ (c .before .before .before .keys-of .ensures)) (c .listed .ensures)
 
 pub among-hydrocarbons-spec : {M : Type 1} → statement M
-among-hydrocarbons-spec = tie.close (tie.spec keys-of-requires turns-requires listed-requires returns)
+among-hydrocarbons-spec = tie.close (tie.spec keys-of-requires hydrocarbon-turns-requires listed-requires returns)

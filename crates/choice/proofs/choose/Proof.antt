@@ -1,8 +1,5 @@
 -- `choice::choose` meets its contract. Assumes nothing.
-use mathlib.Core.Bool.{true, false}
-use borrow.Author.Tests.{eq-eqb, ne-eqb}
-use Rattle.systems.specs.Choice.{inMask}
-use Rattle.choice.proofs.Listing.{offered-choice}
+use Rattle.choice.proofs.Listing.{choice-all, choice-hydrocarbons}
 use borrow.Author.Needs.{needs}
 use Rattle.choice.proofs.choose.Statement.{statement}
 use Rattle.choice.proofs.choose.Tie as tie
@@ -20,15 +17,13 @@ among-all-requires : tie.Need-among-all-requires
 among-all-requires c κs = search needs
 
 returns : tie.Need-returns
-unfolding inMask
-returns c = offered-choice true _ _ _ (c .before .before .present .ensures) (eq-eqb _ 1 (c .before .if1 .taken)) (c .among-all .ensures)
+returns c = choice-all _ _ _ (c .before .before .present .ensures) (c .before .if1 .taken) (c .among-all .ensures)
 
 among-hydrocarbons-requires : tie.Need-among-hydrocarbons-requires
 among-hydrocarbons-requires c κs = search needs
 
 returns-2 : tie.Need-returns-2
-unfolding inMask
-returns-2 c = offered-choice false _ _ _ (c .before .before .present .ensures) (ne-eqb _ 1 (c .before .if1 .left)) (c .among-hydrocarbons .ensures)
+returns-2 c = choice-hydrocarbons _ _ _ (c .before .before .present .ensures) (c .before .if1 .left) (c .among-hydrocarbons .ensures)
 
 pub choose-spec : {M : Type 1} → statement M
 choose-spec = tie.close (tie.spec present-requires cast-if1 shr-if1 among-all-requires returns among-hydrocarbons-requires returns-2)

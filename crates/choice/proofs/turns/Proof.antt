@@ -1,9 +1,12 @@
 -- `choice::turns` meets its contract. Assumes nothing.
-use Prim.Native.Nat.{_*_, _-_, _≤_}
+use Prim.Native.Nat.{_*_, _-_, _%_, _≤_}
+use mathlib.Core.Bool.{true}
 use mathlib.Core.Logic.{⊎-elim}
 use native.Mathlib.Omega.{arith}
+use Rattle.systems.specs.Choice.{order}
 use Rattle.systems.specs.Systems.{COMPONENTS}
 use Rattle.choice.proofs.Packed.{order-lt}
+use Rattle.choice.proofs.Keying.{all-passes}
 use Rattle.choice.proofs.Listing.{Turns, turns-none, turns-next, turns-over, turns-all}
 use borrow.Author.Needs.{needs}
 use Rattle.choice.proofs.turns.Statement.{statement}
@@ -12,13 +15,13 @@ use Rattle.choice.proofs.ordered.Reads as ordered-reads
 use Rattle.choice.proofs.take.Reads as take-reads
 
 abbrev Inv-loop : tie.InvT-loop
-Inv-loop keys₀ p hydrogen i₀ keys i = (i ≤ 2 * COMPONENTS) × Turns hydrogen p keys₀ keys i
+Inv-loop keys₀ p i₀ keys i = (i ≤ 2 * COMPONENTS) × Turns true COMPONENTS order p keys₀ keys i
 
 abbrev μ-loop : tie.MeasureT-loop
-μ-loop keys₀ p hydrogen i₀ keys i = 2 * COMPONENTS - i
+μ-loop keys₀ p i₀ keys i = 2 * COMPONENTS - i
 
 loop-holds : tie.Need-loop-holds Inv-loop μ-loop
-loop-holds c = (omega arith, λ fit k. turns-none _ _ fit _ k)
+loop-holds c = (omega arith, turns-none true COMPONENTS order _ _)
 
 mul-loop : tie.Need-mul-loop Inv-loop μ-loop
 mul-loop c = search needs
@@ -27,16 +30,16 @@ ordered-requires : tie.Need-ordered-requires Inv-loop μ-loop
 ordered-requires c κs = omega arith
 
 cast-if1 : tie.Need-cast-if1 Inv-loop μ-loop
-cast-if1 c = record { fits = omega (arith, c .ordered .ensures, order-lt (c .before .before .loop .i)) }
+cast-if1 c = record { fits = omega (arith, c .ordered .ensures, order-lt (c .before .before .loop .i % COMPONENTS) (omega arith)) }
 
 shr-if1 : tie.Need-shr-if1 Inv-loop μ-loop
-shr-if1 c = omega (arith, c .ordered .ensures, order-lt (c .before .before .loop .i))
+shr-if1 c = omega (arith, c .ordered .ensures, order-lt (c .before .before .loop .i % COMPONENTS) (omega arith))
 
 add-take : tie.Need-add-take Inv-loop μ-loop
 add-take c = search needs
 
 take-requires : tie.Need-take-requires Inv-loop μ-loop
-take-requires c κs = rw (c .before .before .ordered .ensures) (order-lt (c .before .before .before .before .loop .i))
+take-requires c κs = rw (c .before .before .ordered .ensures) (order-lt (c .before .before .before .before .loop .i % COMPONENTS) (omega arith))
 
 add-i : tie.Need-add-i Inv-loop μ-loop
 add-i c = search needs
@@ -48,13 +51,13 @@ loop-again : tie.Need-loop-again Inv-loop μ-loop
 loop-again c = (
   omega arith,
   ⊎-elim
-      (λ w. rw (w .3) (turns-next _ _ _ _ _ _ _ (c .before .before .before .loop .inv .1) (c .before .ordered .ensures) (w .0 .taken) (w .2 .ensures)))
-      (λ w. rw (w .1) (turns-over _ _ _ _ _ _ (c .before .before .before .loop .inv .1) (c .before .ordered .ensures) (w .0 .left)))
+      (λ w. rw (w .3) (turns-next true COMPONENTS order _ _ _ _ _ _ (c .before .before .before .loop .inv .1) (c .before .ordered .ensures) (w .0 .taken) (w .2 .ensures)))
+      (λ w. rw (w .1) (turns-over true COMPONENTS order _ _ _ _ _ (c .before .before .before .loop .inv .1) (c .before .ordered .ensures) (w .0 .left)))
       (c .if1 .came),
 )
 
 returns : tie.Need-returns Inv-loop μ-loop
-returns c = turns-all _ _ _ _ _ (c .before .loop .inv .1) (c .before .loop .inv .0) (c .loop-test .left)
+returns c = turns-all true COMPONENTS order _ _ all-passes _ _ (c .before .loop .inv .1) (c .before .loop .inv .0) (c .loop-test .left)
 
 pub turns-spec : {M : Type 1} → statement M
 turns-spec =

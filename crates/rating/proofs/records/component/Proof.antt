@@ -1,5 +1,6 @@
 -- `rating::records::component` meets its contract. Assumes nothing.
 use native.Mathlib.Omega.{arith}
+use mathlib.Core.List.{[], _∷_}
 use Rattle.systems.specs.Systems.{memberOf, hasOf}
 use Rattle.systems.specs.Members.{candidate-le}
 use Rattle.split.specs.Fold.{sumTo, first}
@@ -10,20 +11,20 @@ use Rattle.rating.proofs.records.component.Statement.{statement}
 use Rattle.rating.proofs.records.component.Tie as tie
 
 mul-result : tie.Need-mul-result
-mul-result c = search needs
+mul-result c = omega (arith, candidate-le (c .args .system) (c .pre .0))
+
+array-read-result : tie.Need-array-read-result
+array-read-result c = omega (arith, candidate-le (c .args .system) (c .pre .0))
 
 mul-result-2 : tie.Need-mul-result-2
 mul-result-2 c = search needs
 
-add-result : tie.Need-add-result
-add-result c = search needs
-
 shr-result : tie.Need-shr-result
-shr-result c = omega (arith, candidate-le (c .args .system) (c .pre .0))
+shr-result c = search needs
 
 returns : tie.Need-returns
 unfolding componentAt rankOf sumTo first hasOf memberOf
-returns c = component-is _ tt (c .args .system) (c .args .j) (c .pre .0) (c .pre .1)
+returns c = component-is (0 ∷ 264 ∷ 209 ∷ 0 ∷ 136 ∷ 272 ∷ 280 ∷ 208 ∷ 200 ∷ []) tt (c .args .system) (c .args .j) (c .pre .0) (c .pre .1)
 
 pub component-spec : {M : Type 1} → statement M
-component-spec = tie.close (tie.spec mul-result mul-result-2 add-result shr-result returns)
+component-spec = tie.close (tie.spec mul-result array-read-result mul-result-2 shr-result returns)
