@@ -29,7 +29,7 @@ import saugrinte as ref  # noqa: E402
 
 DEFAULT_SHEETS, DEFAULT_SEED = 100000, 1
 PART = 5000                 # sheets of one part: a seed and a run of the driver of its own
-SEARCH_ONE_IN = 24          # good sheets that ask for a search
+SEARCH_ONE_IN = 16          # good sheets that ask for a search
 EXACT = 150                 # ratings of proposed splits compared with the exact fraction, in a part
 SECONDS = 600               # the longest that the driver may take for a part, or to be built
 DISTANCE = 40               # units; every rating is nearer than this to the exact one
@@ -719,25 +719,59 @@ LEAST = {
     'search rich_lean_gas': {0: 4, 11: 100},
     'search trace_gas': {0: 120},
     'search alone_gas': {16: 120},
+    'search even_blend': {0: 130, 11: 3},
+    'search small_blend': {0: 270},
+    'search limit_blend': {0: 90, 11: 15},
+    'search rich_blend': {0: 120, 11: 1},
+    'search lean_blend': {0: 240, 11: 15},
+    'search tie_blend': {0: 140},
+    'search fitness_tie_blend': {0: 125},
     'inert at a half': {0: 200},
     'fitness tie': {0: 50},
-    'found': {0: 2000},
-    'found, put back': {0: 2000},
-    'found, put back as a sheet': {0: 2000},
+    'found': {0: 3000},
+    'found, put back': {0: 3000},
+    'found, put back as a sheet': {0: 3000},
     # absent components
     **{kind: {0: 16, 11: 10} if components else {16: 10} for kind, components, _ in set_kinds()},
-    **{'trace of code %d' % code: {0: 10} for code in (2, 3, *gases.BUTANE_CODES)},
+    **{'trace of code %d' % code: {11 if code == 15 else 0: 10} for code in TRACES},
     '6 records, methane alone': {16: 40},
     '6 records, two systems': {0: 120, 10: 120},
-    '6 records, three systems': {7: 260},
+    '6 records, three systems': {7: 540},
     '9 records, methane alone': {16: 20},
-    '9 records, two systems': {7: 120},
-    '9 records, three systems': {0: 250, 10: 250},
-    **{'%d records' % n: {1: 200, 7: 190, 16: 10} for n in (3, 12, 255)},
-    **{'write, %d records' % n: {1: 200} for n in (3, 12, 255)},
+    '9 records, two systems': {7: 140},
+    '9 records, three systems': {0: 500, 10: 500},
+    '15 records, five systems': {0: 80, 10: 80},
+    **{'%d records, methane alone' % n: {16: 20} for n in OTHER_COUNTS},
+    **{'%d records, two systems' % n: {7: 140} for n in OTHER_COUNTS},
+    **{'%d records, three systems' % n: {7: 560} for n in OTHER_COUNTS},
+    '12 records, five systems': {7: 230},
+    '18 records, five systems': {7: 120},
+    '21 records, five systems': {7: 80},
+    **{'write, %d records' % n: {0: 800, 14: 400} for n in OTHER_COUNTS},
+    **{'%d records' % n: {1: 400, 7: 390, 16: 10} for n in WRONG_COUNTS},
+    **{'write, %d records' % n: {1: 400} for n in WRONG_COUNTS},
     'methane alone': {16: 450},
     'methane alone, out of total': {6: 450},
     'methane alone, out of range': {5: 450},
+    # hydrogen
+    'hydrogen 9': {5: 160},
+    'hydrogen 10': {0: 100, 10: 40, 11: 15},
+    'hydrogen 100000': {0: 120, 10: 40},
+    'hydrogen 100001': {5: 160},
+    'fitness tie of a blend': {0: 240, 10: 80},
+    '15 before another code': {4: 100},
+    **{kind: {2: 20} for kind in ('14 in components', '14 before 15', '16 in components', '16 after 15',
+                                  '255 in components')},
+    '13 before 15': {3: 20},
+    '15 twice': {4: 20},
+    '15 listed at 0': {5: 20},
+    'another system of a blend': {7: 120},
+    'hydrogen before its place': {7: 120},
+    'cut to 112 to 187 bytes': {1: 760},
+    '112 to 188 bytes': {7: 240, 8: 15},
+    '188 bytes': {7: 10},
+    '189 bytes': {1: 10},
+    '13 components': {1: 10},
     # sheets with a split
     'split absent-held': {8: 800},
     'split alone': {16: 800},
@@ -755,8 +789,8 @@ LEAST = {
     'split wide': {10: 900},
     'split wrap': {8: 1500},
     # damaged sheets
-    'codes': {0: 80, 2: 1500, 3: 1500, 4: 3000, 5: 500, 6: 300, 7: 300, 8: 500, 11: 40, 16: 30},
-    'count above 11': {1: 200},
+    'codes': {0: 40, 2: 1300, 3: 2200, 4: 4000, 5: 560, 6: 350, 7: 280, 8: 35, 11: 3, 16: 20},
+    'count above 12': {1: 200},
     'flipped': {0: 40, 1: 150, 2: 300, 3: 30, 4: 150, 5: 800, 6: 300, 7: 300, 8: 600},
     'range': {0: 80, 5: 4000, 6: 600, 7: 300, 8: 300, 11: 5, 16: 10},
     'torn': {0: 200, 1: 5000, 7: 80},
@@ -776,7 +810,7 @@ LEAST = {
     'rate split all-zero': {8: 200},
     'rate split border': {0: 200, 10: 200},
     'rate split empty': {9: 300, 10: 100},
-    'rate split misfit': {0: 30, 7: 400, 10: 30},
+    'rate split misfit': {0: 15, 7: 350, 10: 13},
     'rate split miss': {8: 200},
     'rate split miss-by-one': {8: 200},
     'rate split near': {0: 300, 5: 20, 6: 10, 10: 300},
@@ -805,7 +839,19 @@ LEAST = {
     'controller': {0: 5000},
     'whole number': {0: 2500},
     # kept in tests/data
-    'spread at the limit': {0: 8, 10: 6},
+    'spread at the limit': {0: 15, 10: 9},
+    'kept: blend-ends-at-500000': {0: 14, 11: 2},
+    'kept: blend-lean-ends-at-500000': {0: 7, 11: 1},
+    'kept: blend-lean-needs-more-than-4000': {11: 8},
+    'kept: blend-lean-needs-stride-1': {0: 14, 11: 2},
+    'kept: blend-lean-passes-500001': {0: 14, 11: 2},
+    'kept: blend-lean-rated-at-the-start': {0: 8},
+    'kept: blend-lean-unbalanced': {11: 8},
+    'kept: blend-lean-would-empty': {11: 16},
+    'kept: blend-needs-more-than-4000': {11: 8},
+    'kept: blend-needs-stride-1': {0: 14, 11: 2},
+    'kept: blend-unbalanced': {11: 8},
+    'kept: blend-would-empty': {0: 7, 11: 9},
     'kept: ends-at-500000': {0: 21, 11: 3},
     'kept: lean-needs-stride-1': {0: 21, 11: 3},
     'kept: lean-rated-at-the-start': {0: 16},
@@ -818,9 +864,9 @@ LEAST = {
     'kept: would-empty': {11: 24},
 }
 # Each number, of all kinds together; and ratings compared with the exact fraction.
-LEAST_NUMBERS = {0: 70000, 1: 15000, 2: 4000, 3: 4000, 4: 8000, 5: 10000, 6: 6000, 7: 3000, 8: 9000, 9: 1500, 10: 6000,
-                 11: 700, 12: 2000, 13: 1000, 14: 8000, 16: 2500, 17: 700}
-LEAST_EXACT = 3000
+LEAST_NUMBERS = {0: 90000, 1: 20000, 2: 4500, 3: 5000, 4: 9000, 5: 14000, 6: 6300, 7: 11000, 8: 9000, 9: 1500,
+                 10: 6000, 11: 1000, 12: 2000, 13: 1000, 14: 10000, 16: 2500, 17: 700}
+LEAST_EXACT = 4000
 
 
 def too_few(tally, compared):

@@ -381,13 +381,13 @@ static int choose(const mixture *m, int systems[CHOSEN])
     static const int order[COMPONENTS] = { HYDROGEN, PROPANE, ETHANE, BUTANE, METHANE };
     uint64_t fitness[CANDIDATES] = { 0 };
     int there[CANDIDATES] = { 0 };
-    int candidate[CANDIDATES];
+    int candidates[CANDIDATES], number = 0;
     int chosen[CANDIDATES] = { 0 };
     int times[COMPONENTS] = { 0 };
     for (int s = 0; s < CANDIDATES; s++) {
-        candidate[s] = !contains[s][HYDROGEN] || m->amounts[HYDROGEN] > 0;
-        if (!candidate[s])
+        if (contains[s][HYDROGEN] && m->amounts[HYDROGEN] == 0)
             continue;
+        candidates[number++] = s;
         for (int i = 0; i < MEMBERS; i++) {
             int c = formula[s][i];
             fitness[s] += weights[c] * m->amounts[c];
@@ -399,19 +399,21 @@ static int choose(const mixture *m, int systems[CHOSEN])
             if (m->amounts[order[i]] == 0 || times[order[i]] >= wanted)
                 continue;
             int best = -1;
-            for (int s = 0; s < CANDIDATES; s++)
-                if (candidate[s] && contains[s][order[i]] && !chosen[s]
+            for (int j = 0; j < number; j++) {
+                int s = candidates[j];
+                if (contains[s][order[i]] && !chosen[s]
                     && (best < 0 || there[s] > there[best]
                         || (there[s] == there[best] && fitness[s] > fitness[best])))
                     best = s;
+            }
             chosen[best] = 1;
             for (int c = 0; c < COMPONENTS; c++)
                 times[c] += contains[best][c];
         }
     int count = 0;
-    for (int s = 0; s < CANDIDATES; s++)
-        if (chosen[s])
-            systems[count++] = s;
+    for (int j = 0; j < number; j++)
+        if (chosen[candidates[j]])
+            systems[count++] = candidates[j];
     return count;
 }
 

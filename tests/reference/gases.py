@@ -545,8 +545,13 @@ def any_split(draw, pool, kind):
         return analysis, misfit(draw, found)
     if kind == "miscount":
         return analysis, miscounted(draw, found)
-    if kind == "other-gas":
-        return any_gas(draw), found
+    if kind == "other-gas":     # often one of the same systems
+        systems = tuple(sorted({s for s, _, _ in found}))
+        for _ in range(draw.pick((1, 20))):
+            other = any_gas(draw)
+            if ref.choose(ref.simplify(other)) == systems:
+                break
+        return other, found
     raise ValueError(kind)
 
 
@@ -579,10 +584,18 @@ def random_records(draw):
                  for _ in range(draw.pick((6, 9, *ref.SPLIT_COUNTS[1:]))))
 
 
+def own_records(draw, analysis, records):
+    """The records, or as often some of this gas's systems."""
+    if records and draw.one_in(2):
+        return random_split(draw, analysis)
+    return records
+
+
 def range_sheet(draw, records):
     """One or two amounts at or over a limit.  Half of the time methane makes
     up the total, so that only the limit decides."""
     a = list(any_gas(draw))
+    records = own_records(draw, a, records)
     changed = set()
     for _ in range(draw.pick((1, 1, 1, 2))):
         code = draw.pick(CODES)
@@ -598,6 +611,7 @@ def range_sheet(draw, records):
 
 def total_sheet(draw, records):
     a = list(any_gas(draw))
+    records = own_records(draw, a, records)
     total = draw.pick((999899, 999900, 1000000, 1000100, 1000101,
                        draw.between(900000, 1100000)))
     a[1] += total - sum(a)
