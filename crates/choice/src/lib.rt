@@ -190,7 +190,8 @@ fn keys_of(m: [u32; COMPONENTS], p: u32, hydrogen: bool) -> [u64; KEYS]
 // are not chosen, where fewer than the wanted number of chosen systems contain c.
 fn take(keys: &mut [u64; KEYS], hydrogen: bool, wanted: usize, c: usize)
     requires { ⌜ c < COMPONENTS ⌝ }
-    ensures { λ _. ⌜ ((standing : ℕ → ℕ) → (marks : List Bool) → Keyed hydrogen standing marks (now (keys .entry))
+    ensures { λ _. ⌜ ((standing : ℕ → ℕ) → (marks : List Bool)
+        → Keyed hydrogen standing marks (now (keys .entry))
         → Keyed hydrogen standing (takeOf standing (candidatesFor hydrogen) wanted marks c) (now (keys .exit))) ⌝ }
 {
     let n = candidates(hydrogen);
@@ -230,10 +231,11 @@ fn turns(keys: &mut [u64; KEYS], p: u32)
     }
 }
 
-// The same among those of hydrocarbons. A loop of its own: compiled, each then has its candidates and its turns as constants.
+// The same among those of hydrocarbons. A loop of its own: compiled, each has its candidates and turns as constants.
 fn hydrocarbon_turns(keys: &mut [u64; KEYS], p: u32)
     ensures { λ _. ⌜ ((standing : ℕ → ℕ) → Keyed false standing (replicate NUMBERS false) (now (keys .entry))
-        → Keyed false standing (marksOf standing (candidatesFor false) (keep p hydrocarbonOrder)) (now (keys .exit))) ⌝ }
+        → Keyed false standing (marksOf standing (candidatesFor false) (keep p hydrocarbonOrder))
+        (now (keys .exit))) ⌝ }
 {
     let mut i: usize = 0;
     while i < 2 * HYDROCARBONS {

@@ -35,7 +35,8 @@ mask-short f (suc n) i e =
     ap (λ (x : ℕ). x * 2 + cond (f i) 1 0) (mask-short f n (i + 1) (ap f (omega arith) ∙ e))
 
 -- hydrogen is passed over
-pub keep-without : (present : ℕ) → inMask present HYDROGEN ≡ false → keep present order ≡ keep present hydrocarbonOrder
+pub keep-without : (present : ℕ) → inMask present HYDROGEN ≡ false
+    → keep present order ≡ keep present hydrocarbonOrder
 unfolding keep
 keep-without present e = rw (e, keep)
 
@@ -97,7 +98,8 @@ module _ (mix other : List ℕ) (same : (c : ℕ) → getD mix c 0 ≡ getD othe
       (keep present hydrocarbonOrder)
 
 -- the choice of four amounts is that of the five with no hydrogen
-pub choose-four : (m e p b : ℕ) → chooseOf (m ∷ e ∷ p ∷ b ∷ 0 ∷ []) ≡ chooseBefore (m ∷ e ∷ p ∷ b ∷ [])
+pub choose-four : (m e p b : ℕ)
+    → chooseOf (m ∷ e ∷ p ∷ b ∷ 0 ∷ []) ≡ chooseBefore (m ∷ e ∷ p ∷ b ∷ [])
 choose-four m e p b = choose-before five refl ∙ before-same five four same
   where
     four : List ℕ
