@@ -11,7 +11,7 @@ use lib.Count.{ones, ones-step}
 use lib.ListN.{getD}
 use lib.Pow.{shr-shr}
 use borrow.Author.Tests.{eqb-true, eqb-false, ltb-true, ltb-false, lt-ltb, le-ltb}
-use Rattle.systems.specs.Systems.{COMPONENTS, HYDROGEN, memberOf, hasOf, elem, candidates, hydrocarbonSystems}
+use Rattle.systems.specs.Systems.{COMPONENTS, HYDROGEN, memberOf, hasOf, elem, candidates}
 use Rattle.systems.specs.Table.{of-true, to-true, each}
 use Rattle.systems.specs.Members.{countTo}
 use Rattle.systems.specs.Choice.{fitnessOf, allTo, maskFrom, inMask, presentAt, presentOf, presentCount, maskOf}
@@ -210,8 +210,8 @@ unfolding candidatesOf listed elem
 offered-candidate present s = go (inMask present HYDROGEN)
   where
     go : (hydrogen : Bool) → elem s (candidatesFor hydrogen) ≡ true → elem s candidates ≡ true
-    go true e = e
-    go false e = to-true (listed s) (each listed hydrocarbonSystems tt s e)
+    go true e = to-true (listed s) (each listed (candidatesFor true) tt s e)
+    go false e = to-true (listed s) (each listed (candidatesFor false) tt s e)
 
 -- no candidate's fitness is above that of everything
 pub fitness-le : (mix : List ℕ) (s : ℕ) → elem s candidates ≡ true → fitnessOf mix s ≤ allTo mix COMPONENTS
