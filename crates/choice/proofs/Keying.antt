@@ -320,28 +320,43 @@ turn-is hy fit p wanted (c ∷ components) marks = go (inMask p c) refl (turn-is
     go true e f = rw (e, turnOf, keep) (f (takeOf fit (candidatesFor hy) wanted marks c))
     go false e f = rw (e, turnOf, keep) (f marks)
 
--- the marks after i turns, of n components in an order
-unfoldable pub marksAfter : Bool → ℕ → List ℕ → (ℕ → ℕ) → ℕ → ℕ → List Bool
-marksAfter hy n components fit p zero = replicate NUMBERS false
-marksAfter hy n components fit p (suc i) =
-    turnOf hy fit p (1 + i / n) (marksAfter hy n components fit p i) (getD components (i % n) 0)
+-- the marks after i turns, each of a component for a wanted number of systems
+unfoldable pub turnsAfter : Bool → (ℕ → ℕ) → ℕ → (ℕ → ℕ) → (ℕ → ℕ) → List Bool → ℕ → List Bool
+turnsAfter hy fit p wantedAt componentAt marks zero = marks
+turnsAfter hy fit p wantedAt componentAt marks (suc i) =
+    turnOf hy fit p (wantedAt i) (turnsAfter hy fit p wantedAt componentAt marks i) (componentAt i)
 
--- after two turns of each they are those of two passes
-abbrev pub Passes : Bool → ℕ → List ℕ → Type 0
-Passes hy n components = (fit : ℕ → ℕ) → (p : ℕ)
-    → marksAfter hy n components fit p (2 * n) ≡ fold (turnOf hy fit p 2) components (fold (turnOf hy fit p 1) components (replicate NUMBERS false))
+-- one pass of all components
+abbrev pub passAt : ℕ → ℕ
+passAt i = getD order i 0
 
-pub all-passes : Passes true COMPONENTS order
-unfolding marksAfter fold
-all-passes fit p = refl
+pass-folds : (fit : ℕ → ℕ) (p wanted : ℕ) (marks : List Bool)
+    → turnsAfter true fit p (λ i. wanted) passAt marks COMPONENTS ≡ fold (turnOf true fit p wanted) order marks
+unfolding turnsAfter fold
+pass-folds fit p wanted marks = refl
 
-pub hydrocarbon-passes : Passes false HYDROCARBONS hydrocarbonOrder
-unfolding marksAfter fold
-hydrocarbon-passes fit p = refl
+pub after-pass : (fit : ℕ → ℕ) (p wanted : ℕ) (marks : List Bool)
+    → turnsAfter true fit p (λ i. wanted) passAt marks COMPONENTS ≡ passOf fit (candidatesFor true) (keep p order) wanted marks
+after-pass fit p wanted marks = pass-folds fit p wanted marks ∙ turn-is true fit p wanted order marks
 
-pub after-all : (hy : Bool) (n : ℕ) (components : List ℕ) → Passes hy n components → (fit : ℕ → ℕ) (p : ℕ)
-    → marksAfter hy n components fit p (2 * n) ≡ marksOf fit (candidatesFor hy) (keep p components)
+-- two passes of the hydrocarbons
+abbrev pub wantedAt : ℕ → ℕ
+wantedAt i = 1 + i / HYDROCARBONS
+
+abbrev pub turnAt : ℕ → ℕ
+turnAt i = getD hydrocarbonOrder (i % HYDROCARBONS) 0
+
+turns-fold : (fit : ℕ → ℕ) (p : ℕ) (marks : List Bool)
+    → turnsAfter false fit p wantedAt turnAt marks (2 * HYDROCARBONS)
+    ≡ fold (turnOf false fit p 2) hydrocarbonOrder (fold (turnOf false fit p 1) hydrocarbonOrder marks)
+unfolding turnsAfter fold
+turns-fold fit p marks = refl
+
+pub after-turns : (fit : ℕ → ℕ) (p : ℕ)
+    → turnsAfter false fit p wantedAt turnAt (replicate NUMBERS false) (2 * HYDROCARBONS)
+    ≡ marksOf fit (candidatesFor false) (keep p hydrocarbonOrder)
 unfolding marksOf
-after-all hy n components passes fit p =
-    passes fit p ∙ turn-is hy fit p 2 components (fold (turnOf hy fit p 1) components (replicate NUMBERS false))
-    ∙ ap (passOf fit (candidatesFor hy) (keep p components) 2) (turn-is hy fit p 1 components (replicate NUMBERS false))
+after-turns fit p =
+    turns-fold fit p (replicate NUMBERS false)
+    ∙ turn-is false fit p 2 hydrocarbonOrder (fold (turnOf false fit p 1) hydrocarbonOrder (replicate NUMBERS false))
+    ∙ ap (passOf fit (candidatesFor false) (keep p hydrocarbonOrder) 2) (turn-is false fit p 1 hydrocarbonOrder (replicate NUMBERS false))

@@ -8,16 +8,16 @@ use native.Mathlib.Omega.{arith}
 use lib.ListN.{getD, set, length, drop, replicate, length-append}
 use lib.Seq.{set-at, append-snoc}
 use Rattle.systems.specs.Systems.{COMPONENTS, HYDROGEN}
-use Rattle.systems.specs.Choice.{NUMBERS, SYSTEMS, hydrocarbonOrder, order, takeOf, marksOf, fold, isChosen, keep, inMask, presentOf, standingOf, candidatesFor, candidatesOf}
+use Rattle.systems.specs.Choice.{NUMBERS, SYSTEMS, hydrocarbonOrder, order, takeOf, passOf, marksOf, fold, isChosen, keep, inMask, presentOf, standingOf, candidatesFor, candidatesOf}
 use Rattle.systems.specs.Choice.{listOf, chosenOf, chooseBy, paddedOf, answerOf, choiceOf}
 use Rattle.systems.specs.Presence.{choose-is}
-use Rattle.systems.specs.Without.{keep-without}
+use Rattle.systems.specs.Without.{HYDROCARBONS, keep-without}
 use borrow.Author.Tests.{eq-eqb, ne-eqb}
 use Rattle.choice.specs.Keys.{Keyed}
 use Rattle.systems.specs.declared.Choice.{Choice}
 use Rattle.choice.proofs.Loops.{next, done}
 use Rattle.choice.proofs.Packed.{offered-few}
-use Rattle.choice.proofs.Keying.{chosen-of-key, open-of-key, turn-takes, turn-over, marksAfter, Passes, after-all}
+use Rattle.choice.proofs.Keying.{chosen-of-key, open-of-key, turn-takes, turn-over, turnsAfter, passAt, after-pass, wantedAt, turnAt, after-turns}
 
 -- one more system at the end
 padded-set : (l : List ℕ) (s : ℕ) → length l < SYSTEMS → set (paddedOf l) (length l) s ≡ paddedOf (l ++ (s ∷ []))
@@ -95,32 +95,42 @@ lists-all hy keys count systems i k h fit marks d = listed-all hy marks count sy
 
 -- ---- the turns of the components
 
-module _ (hy : Bool) (n : ℕ) (components : List ℕ) (p : ℕ) (fresh : List ℕ) where
+module _ (hy : Bool) (wantedAt componentAt : ℕ → ℕ) (p : ℕ) (fresh : List ℕ) where
   abbrev pub Turns : List ℕ → ℕ → Type 0
-  Turns keys i = (fit : ℕ → ℕ) → Keyed hy fit (replicate NUMBERS false) fresh → Keyed hy fit (marksAfter hy n components fit p i) keys
+  Turns keys i = (fit : ℕ → ℕ) → (marks : List Bool) → Keyed hy fit marks fresh → Keyed hy fit (turnsAfter hy fit p wantedAt componentAt marks i) keys
 
   pub turns-none : Turns fresh 0
-  unfolding marksAfter
-  turns-none fit k = k
+  unfolding turnsAfter
+  turns-none fit marks k = k
 
   -- a component that is present takes its turn
-  pub turns-next : (keys later : List ℕ) (i c : ℕ) → Turns keys i → c ≡ getD components (i % n) 0 → p / 2 ^ c % 2 ≡ 1
-      → ((fit : ℕ → ℕ) → (marks : List Bool) → Keyed hy fit marks keys → Keyed hy fit (takeOf fit (candidatesFor hy) (1 + i / n) marks c) later)
+  pub turns-next : (keys later : List ℕ) (i c : ℕ) → Turns keys i → c ≡ componentAt i → p / 2 ^ c % 2 ≡ 1
+      → ((fit : ℕ → ℕ) → (marks : List Bool) → Keyed hy fit marks keys → Keyed hy fit (takeOf fit (candidatesFor hy) (wantedAt i) marks c) later)
       → Turns later (i + 1)
-  unfolding marksAfter
-  turns-next keys later i c k e q t fit f =
-      rw (add-one, ← e, turn-takes hy fit p (1 + i / n) (marksAfter hy n components fit p i) c q) (t fit (marksAfter hy n components fit p i) (k fit f))
+  unfolding turnsAfter
+  turns-next keys later i c k e q t fit marks f =
+      rw (add-one, ← e, turn-takes hy fit p (wantedAt i) (turnsAfter hy fit p wantedAt componentAt marks i) c q)
+      (t fit (turnsAfter hy fit p wantedAt componentAt marks i) (k fit marks f))
 
   -- one that is absent is passed over
-  pub turns-over : (keys : List ℕ) (i c : ℕ) → Turns keys i → c ≡ getD components (i % n) 0 → (p / 2 ^ c % 2 ≡ 1 → ⊥) → Turns keys (i + 1)
-  unfolding marksAfter
-  turns-over keys i c k e q fit f = rw (add-one, ← e, turn-over hy fit p (1 + i / n) (marksAfter hy n components fit p i) c q) (k fit f)
+  pub turns-over : (keys : List ℕ) (i c : ℕ) → Turns keys i → c ≡ componentAt i → (p / 2 ^ c % 2 ≡ 1 → ⊥) → Turns keys (i + 1)
+  unfolding turnsAfter
+  turns-over keys i c k e q fit marks f =
+      rw (add-one, ← e, turn-over hy fit p (wantedAt i) (turnsAfter hy fit p wantedAt componentAt marks i) c q) (k fit marks f)
 
-  pub turns-all : Passes hy n components → (keys : List ℕ) (i : ℕ) → Turns keys i → i ≤ 2 * n → 2 * n ≤ i
-      → (fit : ℕ → ℕ) → Keyed hy fit (replicate NUMBERS false) fresh → Keyed hy fit (marksOf fit (candidatesFor hy) (keep p components)) keys
-  turns-all passes keys i k h l fit f =
-      let e : i ≡ 2 * n = omega arith in
-      rw (ap (marksAfter hy n components fit p) e ∙ after-all hy n components passes fit p) at (k fit f)
+-- one pass of all components
+pub pass-all : (p wanted : ℕ) (fresh keys : List ℕ) (i : ℕ) → Turns true (λ i. wanted) passAt p fresh keys i → i ≤ COMPONENTS → COMPONENTS ≤ i
+    → (fit : ℕ → ℕ) → (marks : List Bool) → Keyed true fit marks fresh → Keyed true fit (passOf fit (candidatesFor true) (keep p order) wanted marks) keys
+pass-all p wanted fresh keys i k h l fit marks f =
+    let e : i ≡ COMPONENTS = omega arith in
+    rw (ap (turnsAfter true fit p (λ i. wanted) passAt marks) e ∙ after-pass fit p wanted marks) at (k fit marks f)
+
+-- two of the hydrocarbons
+pub turns-all : (p : ℕ) (fresh keys : List ℕ) (i : ℕ) → Turns false wantedAt turnAt p fresh keys i → i ≤ 2 * HYDROCARBONS → 2 * HYDROCARBONS ≤ i
+    → (fit : ℕ → ℕ) → Keyed false fit (replicate NUMBERS false) fresh → Keyed false fit (marksOf fit (candidatesFor false) (keep p hydrocarbonOrder)) keys
+turns-all p fresh keys i k h l fit f =
+    let e : i ≡ 2 * HYDROCARBONS = omega arith in
+    rw (ap (turnsAfter false fit p wantedAt turnAt (replicate NUMBERS false)) e ∙ after-turns fit p) at (k fit (replicate NUMBERS false) f)
 
 -- the turns and the list make the choice
 pub choice-is : (hy : Bool) (mix keys components : List ℕ) (r : Choice)

@@ -118,5 +118,5 @@ unfolding known
 order-lt i h = let l = leb→le (getD order i 0 + 1) COMPONENTS (eachTo known COMPONENTS tt i h) in omega arith
 
 -- the hydrocarbons come after hydrogen
-pub order-next : (i : ℕ) → getD order (1 + i) 0 ≡ getD hydrocarbonOrder i 0
-order-next i = ap (λ (x : ℕ). getD order x 0) (let e : 1 + i ≡ suc i = omega arith in e)
+pub order-next : (i : ℕ) → getD order (i + 1) 0 ≡ getD hydrocarbonOrder i 0
+order-next i = ap (λ (x : ℕ). getD order x 0) (let e : i + 1 ≡ suc i = omega arith in e)

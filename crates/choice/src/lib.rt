@@ -7,8 +7,8 @@ ghost use mathlib.Core.List.{List};
 ghost use lib.ListN.{getD, length, replicate};
 ghost use Rattle.systems.specs.Systems.{COMPONENTS, hasOf};
 ghost use Rattle.systems.specs.Choice.{NUMBERS, weights, order, allTo, presentOf, presentCount, presentIn};
-ghost use Rattle.systems.specs.Choice.{standingOf, candidatesFor, keep, takeOf, marksOf, answerOf, chosenOf, chooseBy};
-ghost use Rattle.systems.specs.Choice.{hydrocarbonOrder, choiceOf};
+ghost use Rattle.systems.specs.Choice.{standingOf, candidatesFor, keep, takeOf, passOf, answerOf, chosenOf, chooseBy};
+ghost use Rattle.systems.specs.Choice.{hydrocarbonOrder, marksOf, choiceOf};
 ghost use Rattle.choice.specs.Keys.{KEYS, Keyed, weighedTo};
 use systems::COMPONENTS;
 use systems::Choice;
@@ -190,7 +190,8 @@ fn keys_of(m: [u32; COMPONENTS], p: u32, hydrogen: bool) -> [u64; KEYS]
 // are not chosen, where fewer than the wanted number of chosen systems contain c.
 fn take(keys: &mut [u64; KEYS], hydrogen: bool, wanted: usize, c: usize)
     requires { ⌜ c < COMPONENTS ⌝ }
-    ensures { λ _. ⌜ ((standing : ℕ → ℕ) → (marks : List Bool) → Keyed hydrogen standing marks (now (keys .entry))
+    ensures { λ _. ⌜ ((standing : ℕ → ℕ) → (marks : List Bool)
+        → Keyed hydrogen standing marks (now (keys .entry))
         → Keyed hydrogen standing (takeOf standing (candidatesFor hydrogen) wanted marks c) (now (keys .exit))) ⌝ }
 {
     let n = candidates(hydrogen);
@@ -215,29 +216,33 @@ fn take(keys: &mut [u64; KEYS], hydrogen: bool, wanted: usize, c: usize)
     }
 }
 
-// The components present do so, one after the other, for one system each and then for two, among all candidates.
-fn turns(keys: &mut [u64; KEYS], p: u32)
-    ensures { λ _. ⌜ ((standing : ℕ → ℕ) → Keyed true standing (replicate NUMBERS false) (now (keys .entry))
-        → Keyed true standing (marksOf standing (candidatesFor true) (keep p order)) (now (keys .exit))) ⌝ }
+// The components present do so, one after the other, among all candidates.
+fn pass(keys: &mut [u64; KEYS], p: u32, wanted: usize)
+    ensures { λ _. ⌜ ((standing : ℕ → ℕ) → (marks : List Bool)
+        → Keyed true standing marks (now (keys .entry))
+        → Keyed true standing (passOf standing (candidatesFor true) (keep p order) wanted marks)
+        (now (keys .exit))) ⌝ }
 {
     let mut i: usize = 0;
-    while i < 2 * COMPONENTS {
-        let c = ordered(i % COMPONENTS);
+    while i < COMPONENTS {
+        let c = ordered(i);
         if (p >> c) % 2 == 1 {
-            take(keys, true, 1 + i / COMPONENTS, c);
+            take(keys, true, wanted, c);
         }
         i += 1;
     }
 }
 
-// The same among those of hydrocarbons. A loop of its own: compiled, each then has its candidates and its turns as constants.
+// The components present do so for one system each and then for two, among those of hydrocarbons: both in one loop,
+// which is quicker where there are four.
 fn hydrocarbon_turns(keys: &mut [u64; KEYS], p: u32)
     ensures { λ _. ⌜ ((standing : ℕ → ℕ) → Keyed false standing (replicate NUMBERS false) (now (keys .entry))
-        → Keyed false standing (marksOf standing (candidatesFor false) (keep p hydrocarbonOrder)) (now (keys .exit))) ⌝ }
+        → Keyed false standing (marksOf standing (candidatesFor false) (keep p hydrocarbonOrder))
+        (now (keys .exit))) ⌝ }
 {
     let mut i: usize = 0;
     while i < 2 * HYDROCARBONS {
-        let c = ordered(1 + i % HYDROCARBONS);
+        let c = ordered(i % HYDROCARBONS + 1);
         if (p >> c) % 2 == 1 {
             take(keys, false, 1 + i / HYDROCARBONS, c);
         }
@@ -264,17 +269,18 @@ fn listed(keys: [u64; KEYS], hydrogen: bool) -> Choice
     Choice { count, systems }
 }
 
-// The choice among all candidates.
+// The choice among all candidates: the components present take one system each and then two.
 fn among_all(m: [u32; COMPONENTS], p: u32) -> Choice
     requires { ⌜ p ≡ presentOf m ⌝ }
     ensures { λ r. ⌜ r ≡ answerOf (chooseBy (standingOf m) (candidatesFor true) (keep p order)) ⌝ }
 {
     let mut keys = keys_of(m, p, true);
-    turns(&mut keys, p);
+    pass(&mut keys, p, 1);
+    pass(&mut keys, p, 2);
     listed(keys, true)
 }
 
-// The same among those of hydrocarbons. Of its own, so that each has its number of candidates as a constant.
+// The same among those of hydrocarbons. Of its own: compiled, each has its number of candidates as a constant.
 fn among_hydrocarbons(m: [u32; COMPONENTS], p: u32) -> Choice
     requires { ⌜ p ≡ presentOf m ⌝ }
     ensures { λ r. ⌜ r ≡ answerOf (chooseBy (standingOf m) (candidatesFor false) (keep p hydrocarbonOrder)) ⌝ }

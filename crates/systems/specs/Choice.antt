@@ -136,7 +136,10 @@ fittestOf key systems marks c = fold (betterOf key marks c) systems 0
 -- component c takes it where fewer than the wanted number of chosen systems contain c
 unfoldable pub takeOf : (ℕ → ℕ) → List ℕ → ℕ → List Bool → ℕ → List Bool
 takeOf key systems wanted marks c =
-    elim (ltb (containingOf systems marks c) wanted) [ true ↦ set marks (fittestOf key systems marks c) true | false ↦ marks ]
+    elim (ltb (containingOf systems marks c) wanted) [
+      | true ↦ set marks (fittestOf key systems marks c) true
+      | false ↦ marks
+    ]
 
 -- the components of an order do so, one after the other
 unfoldable pub passOf : (ℕ → ℕ) → List ℕ → List ℕ → ℕ → List Bool → List Bool

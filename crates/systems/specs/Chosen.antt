@@ -156,7 +156,10 @@ MOST = 5
 -- four or five for five
 abbrev pub chosenFor : ℕ → ℕ → Bool
 chosenFor n k =
-    elim (eqb n 2) [ true ↦ eqb k 2 | false ↦ elim (eqb n 5) [ true ↦ leb 4 k && leb k MOST | false ↦ eqb k 3 ] ]
+    elim (eqb n 2) [
+      | true ↦ eqb k 2
+      | false ↦ elim (eqb n 5) [ true ↦ leb 4 k && leb k MOST | false ↦ eqb k 3 ]
+    ]
 
 pub two-chosen : (n k : ℕ) → n ≡ 2 → chosenFor n k ≡ true → k ≡ 2
 two-chosen n k e h = eqb-true k 2 (rw (chosenFor, eq-eqb n 2 e) at h)
@@ -179,7 +182,8 @@ pub record Choosable (present : ℕ) (ch : List ℕ) (k : ℕ) : Type 0 where
   pub offered : (i : ℕ) → i < k → elem (getD ch i 0) (candidatesOf present) ≡ true
   pub known : (i : ℕ) → i < k → Candidate (getD ch i 0)
   pub rising : (i j : ℕ) → i < j → j < k → getD ch i 0 < getD ch j 0
-  pub twice : (c : ℕ) → c < COMPONENTS → inMask present c ≡ true → 2 ≤ countTo (λ i. hasOf (getD ch i 0) c) k
+  pub twice : (c : ℕ) → c < COMPONENTS → inMask present c ≡ true
+      → 2 ≤ countTo (λ i. hasOf (getD ch i 0) c) k
   pub supplied : (i : ℕ) → i < k → 1 ≤ presentIn present (getD ch i 0)
 
 -- and besides where methane is one of them
@@ -277,7 +281,8 @@ enough present = not (leb 2 (ones present)) || first present
 
 each-set : T (everyTo enough (2 ^ COMPONENTS))
 unfolding enough first second goodMarks goodBoth good full choosable offeredAt risesAt twiceAt filledAt paddedOf
-    chosenOf listOf fold containingOf hasOf memberOf elem countTo keep inMask presentIn maskOf maskFrom ones candidatesOf
+    chosenOf listOf fold containingOf hasOf memberOf elem countTo keep inMask presentIn maskOf maskFrom ones
+    candidatesOf
 each-set = tt
 
 rising-offered : (present : ℕ) → T (rises 0 (candidatesOf present))
@@ -290,7 +295,8 @@ rising-offered present = go (inMask present HYDROGEN)
 
 -- so for every key that puts the systems with more components present first
 passes-always : (present : ℕ) (key : ℕ → ℕ) → present < 2 ^ COMPONENTS → 2 ≤ ones present
-    → ((s t : ℕ) → elem s (candidatesOf present) ≡ true → presentIn present s < presentIn present t → key s < key t)
+    → ((s t : ℕ) → elem s (candidatesOf present) ≡ true → presentIn present s < presentIn present t
+    → key s < key t)
     → T (goodBoth present (chooseBy key (candidatesOf present) (keep present order)))
 unfolding marksOf enough first second goodMarks
 passes-always present key l h b =

@@ -21,9 +21,12 @@ rises b (s ∷ systems) = leb b s && rises s systems
 rises-lower : (b s : ℕ) (systems : List ℕ) → b ≤ s → T (rises s systems) → T (rises b systems)
 rises-lower b s [] h t = tt
 rises-lower b s (x ∷ systems) h t =
-    and-i (leb b x) (rises x systems) (le→leb b x (omega (arith, leb→le s x (and-l (leb s x) (rises x systems) t)))) (and-r (leb s x) (rises x systems) t)
+    and-i (leb b x) (rises x systems)
+    (le→leb b x (omega (arith, leb→le s x (and-l (leb s x) (rises x systems) t))))
+    (and-r (leb s x) (rises x systems) t)
 
-elem-cases : (P : Type 0) (n x : ℕ) (xs : List ℕ) → elem n (x ∷ xs) ≡ true → (n ≡ x → P) → (elem n xs ≡ true → P) → P
+elem-cases : (P : Type 0) (n x : ℕ) (xs : List ℕ) → elem n (x ∷ xs) ≡ true
+    → (n ≡ x → P) → (elem n xs ≡ true → P) → P
 unfolding elem
 elem-cases P n x xs h f g = go (eqb n x) refl
   where
@@ -77,18 +80,23 @@ module _ (key : ℕ → ℕ) (marks : List Bool) (c : ℕ) where
   unfolding fold
   stays [] b h = refl
   stays (x ∷ systems) b h =
-      let e : betterOf key marks c b x ≡ b = better-before key marks c b x (omega (arith, grows systems (betterOf key marks c b x), better-tops b x)) in
+      let e : betterOf key marks c b x ≡ b =
+      better-before key marks c b x (omega (arith, grows systems (betterOf key marks c b x), better-tops b x)) in
       rw e (stays systems b (rw e at h))
 
   -- it is what it began with or one of the list
-  among : (P : ℕ → Type 0) (systems : List ℕ) (b : ℕ) → P b → ((s : ℕ) → elem s systems ≡ true → P s) → P (best systems b)
+  among : (P : ℕ → Type 0) (systems : List ℕ) (b : ℕ) → P b
+      → ((s : ℕ) → elem s systems ≡ true → P s) → P (best systems b)
   unfolding fold
   among P [] b p f = p
   among P (x ∷ systems) b p f =
-      among P systems (betterOf key marks c b x) (better-cases key marks c P b x (λ h. f x (elem-here x systems)) (λ h. p)) (λ s e. f s (elem-there s x systems e))
+      among P systems (betterOf key marks c b x)
+      (better-cases key marks c P b x (λ h. f x (elem-here x systems)) (λ h. p))
+      (λ s e. f s (elem-there s x systems e))
 
   -- and none that scores as much has a lower number
-  lowest-best : (systems : List ℕ) (b s : ℕ) → T (rises b systems) → elem s systems ≡ true → score s ≡ score (best systems b) → best systems b ≤ s
+  lowest-best : (systems : List ℕ) (b s : ℕ) → T (rises b systems) → elem s systems ≡ true
+      → score s ≡ score (best systems b) → best systems b ≤ s
   unfolding fold elem
   lowest-best [] b s t e q = absurd (of-true false e)
   lowest-best (x ∷ systems) b s t e q =
@@ -96,11 +104,14 @@ module _ (key : ℕ → ℕ) (marks : List Bool) (c : ℕ) where
       let u : T (rises x systems) = and-r (leb b x) (rises x systems) t in
       elem-cases (best (x ∷ systems) b ≤ s) s x systems e
       (λ p.
-      let z : best systems (betterOf key marks c b x) ≡ betterOf key marks c b x = stays systems (betterOf key marks c b x) (omega (arith, better-tops b x, ap score p)) in
+      let z : best systems (betterOf key marks c b x) ≡ betterOf key marks c b x =
+      stays systems (betterOf key marks c b x) (omega (arith, better-tops b x, ap score p)) in
       omega (arith, z, better-cases key marks c (λ y. y ≤ x) b x (λ h. omega arith) (λ h. l)))
-      (λ r. lowest-best systems (betterOf key marks c b x) s (better-cases key marks c (λ y. T (rises y systems)) b x (λ h. u) (λ h. rises-lower b x systems l u)) r q)
+      (λ r. lowest-best systems (betterOf key marks c b x) s
+      (better-cases key marks c (λ y. T (rises y systems)) b x (λ h. u) (λ h. rises-lower b x systems l u)) r q)
 
--- f contains component c and is not chosen, no such system of the list has a greater key, and none with an equal key a lower number
+-- f contains component c and is not chosen, no such system of the list has a greater key, and none with an equal key a
+-- lower number
 pub record Fittest (key : ℕ → ℕ) (systems : List ℕ) (marks : List Bool) (c f : ℕ) : Type 0 where
   pub listed : elem f systems ≡ true
   pub free : openOf marks c f ≡ true
@@ -108,7 +119,8 @@ pub record Fittest (key : ℕ → ℕ) (systems : List ℕ) (marks : List Bool) 
   pub lowest : (s : ℕ) → elem s systems ≡ true → openOf marks c s ≡ true → key s ≡ key f → f ≤ s
 
 -- so it is wherever a system of a rising list can be taken
-module _ (key : ℕ → ℕ) (systems : List ℕ) (marks : List Bool) (c : ℕ) (t : T (rises 0 systems)) (n : openOf marks c 0 ≡ false)
+module _ (key : ℕ → ℕ) (systems : List ℕ) (marks : List Bool) (c : ℕ) (t : T (rises 0 systems))
+    (n : openOf marks c 0 ≡ false)
     (s : ℕ) (e : elem s systems ≡ true) (o : openOf marks c s ≡ true) where
   abbrev f : ℕ
   f = fittestOf key systems marks c
@@ -124,10 +136,20 @@ module _ (key : ℕ → ℕ) (systems : List ℕ) (marks : List Bool) (c : ℕ) 
   unfolding fittestOf
   fittest-is =
       record {
-        listed = among key marks c (λ x. 0 < scoreOf key marks c x → elem x systems ≡ true) systems 0 (λ h. let z = score-closed key marks c 0 n in absurd (omega arith)) (λ x p h. p) some-score;
+        listed =
+            among key marks c (λ x. 0 < scoreOf key marks c x → elem x systems ≡ true) systems 0
+            (λ h. let z = score-closed key marks c 0 n in absurd (omega arith)) (λ x p h. p) some-score;
         free = f-open;
-        greatest = λ x p q. omega (arith, tops key marks c systems 0 x p, score-open key marks c x q, score-open key marks c f f-open);
-        lowest = λ x p q r. lowest-best key marks c systems 0 x t p (score-open key marks c x q ∙ ap (λ (k : ℕ). k + 1) r ∙ sym (score-open key marks c f f-open));
+        greatest = λ x p q.
+            omega (
+              arith,
+              tops key marks c systems 0 x p,
+              score-open key marks c x q,
+              score-open key marks c f f-open,
+            );
+        lowest = λ x p q r.
+            lowest-best key marks c systems 0 x t p
+            (score-open key marks c x q ∙ ap (λ (k : ℕ). k + 1) r ∙ sym (score-open key marks c f f-open));
       }
 
 -- number 0 contains no component
@@ -135,10 +157,12 @@ lacks : ℕ → Bool
 lacks c = not (hasOf 0 c)
 
 -- the fittest candidate, for every mixture or other key
-pub fittest-candidate : (key : ℕ → ℕ) (marks : List Bool) (c : ℕ) → c < COMPONENTS → (s : ℕ) → elem s candidates ≡ true → openOf marks c s ≡ true
+pub fittest-candidate : (key : ℕ → ℕ) (marks : List Bool) (c : ℕ) → c < COMPONENTS
+    → (s : ℕ) → elem s candidates ≡ true → openOf marks c s ≡ true
     → Fittest key candidates marks c (fittestOf key candidates marks c)
 unfolding lacks hasOf memberOf
-fittest-candidate key marks c h = fittest-is key candidates marks c tt (closed (hasOf 0 c) (eachTo lacks COMPONENTS tt c h))
+fittest-candidate key marks c h =
+    fittest-is key candidates marks c tt (closed (hasOf 0 c) (eachTo lacks COMPONENTS tt c h))
   where
     closed : (a : Bool) → T (not a) → (a && not (isChosen marks 0)) ≡ false
     closed true t = absurd t

@@ -31,7 +31,8 @@ ltb-suc a b = go (ltb a b) refl
 -- ---- two keys that order the systems alike choose alike
 
 module _ (k l : ℕ → ℕ) (systems : List ℕ)
-    (alike : (s t : ℕ) → elem s systems ≡ true → elem t systems ≡ true → ltb (k s) (k t) ≡ ltb (l s) (l t)) where
+    (alike : (s t : ℕ) → elem s systems ≡ true → elem t systems ≡ true
+    → ltb (k s) (k t) ≡ ltb (l s) (l t)) where
   module _ (marks : List Bool) (c : ℕ) where
     -- what can be taken is one of the systems
     abbrev Known : ℕ → Type 0
@@ -44,14 +45,17 @@ module _ (k l : ℕ → ℕ) (systems : List ℕ)
         go : (a b : Bool) → openOf marks c s ≡ a → openOf marks c t ≡ b
             → ltb (scoreOf k marks c s) (scoreOf k marks c t) ≡ ltb (scoreOf l marks c s) (scoreOf l marks c t)
         go true true e f =
-            ap₂ ltb (score-open k marks c s e) (score-open k marks c t f) ∙ ltb-suc (k s) (k t) ∙ alike s t (p e) (q f)
+            ap₂ ltb (score-open k marks c s e) (score-open k marks c t f) ∙ ltb-suc (k s) (k t)
+            ∙ alike s t (p e) (q f)
             ∙ sym (ap₂ ltb (score-open l marks c s e) (score-open l marks c t f) ∙ ltb-suc (l s) (l t))
         go true false e f =
             ap₂ ltb (score-open k marks c s e) (score-closed k marks c t f) ∙ le-ltb (k s + 1) 0 (omega arith)
-            ∙ sym (ap₂ ltb (score-open l marks c s e) (score-closed l marks c t f) ∙ le-ltb (l s + 1) 0 (omega arith))
+            ∙ sym (ap₂ ltb (score-open l marks c s e) (score-closed l marks c t f)
+            ∙ le-ltb (l s + 1) 0 (omega arith))
         go false true e f =
             ap₂ ltb (score-closed k marks c s e) (score-open k marks c t f) ∙ lt-ltb 0 (k t + 1) (omega arith)
-            ∙ sym (ap₂ ltb (score-closed l marks c s e) (score-open l marks c t f) ∙ lt-ltb 0 (l t + 1) (omega arith))
+            ∙ sym (ap₂ ltb (score-closed l marks c s e) (score-open l marks c t f)
+            ∙ lt-ltb 0 (l t + 1) (omega arith))
         go false false e f =
             ap₂ ltb (score-closed k marks c s e) (score-closed k marks c t f)
             ∙ sym (ap₂ ltb (score-closed l marks c s e) (score-closed l marks c t f))
@@ -60,7 +64,8 @@ module _ (k l : ℕ → ℕ) (systems : List ℕ)
     unfolding betterOf
     better-alike b s p q = rw (score-alike b s p q, betterOf)
 
-    best-alike : (xs : List ℕ) → ((s : ℕ) → elem s xs ≡ true → elem s systems ≡ true) → (b : ℕ) → Known b
+    best-alike : (xs : List ℕ) → ((s : ℕ) → elem s xs ≡ true → elem s systems ≡ true)
+        → (b : ℕ) → Known b
         → fold (betterOf k marks c) xs b ≡ fold (betterOf l marks c) xs b
     unfolding fold
     best-alike [] f b p = refl
@@ -77,13 +82,15 @@ module _ (k l : ℕ → ℕ) (systems : List ℕ)
         none true e o = of-true false (sym e)
         none false e o = of-true false o
 
-    take-alike : (wanted : ℕ) → c < COMPONENTS → takeOf k systems wanted marks c ≡ takeOf l systems wanted marks c
+    take-alike : (wanted : ℕ) → c < COMPONENTS
+        → takeOf k systems wanted marks c ≡ takeOf l systems wanted marks c
     unfolding takeOf
     take-alike wanted h =
         ap (λ x. elim (ltb (containingOf systems marks c) wanted) [ true ↦ set marks x true | false ↦ marks ])
         (fittest-alike h)
 
-  pass-alike : (wanted : ℕ) (components : List ℕ) → T (every (λ c. ltb c COMPONENTS) components) → (marks : List Bool)
+  pass-alike : (wanted : ℕ) (components : List ℕ) → T (every (λ c. ltb c COMPONENTS) components)
+      → (marks : List Bool)
       → passOf k systems components wanted marks ≡ passOf l systems components wanted marks
   unfolding passOf fold
   pass-alike wanted [] t marks = refl
@@ -119,7 +126,8 @@ module _ (mix : List ℕ) (p : ℕ) (is : presentOf mix ≡ p) (systems componen
       (marks-alike (standingOf mix) (fitnessOf mix) systems
       (λ s t e f. standing-fitter mix s t (three-in s e ∙ sym (three-in t f))) components low)
 
-mask-all : (f : ℕ → Bool) (n i : ℕ) → ((c : ℕ) → c < n → f (i + c) ≡ true) → maskFrom f n i + 1 ≡ 2 ^ n
+mask-all : (f : ℕ → Bool) (n i : ℕ) → ((c : ℕ) → c < n → f (i + c) ≡ true)
+    → maskFrom f n i + 1 ≡ 2 ^ n
 unfolding maskFrom
 mask-all f zero i h = refl
 mask-all f (suc n) i h =
@@ -132,7 +140,8 @@ all-to mix n h =
     mask-all (presentAt mix) n 0 (λ c l. lt-ltb 0 (getD mix (0 + c) 0) (h (0 + c) (omega arith)))
 
 -- for every mixture of all five components
-pub all-present : (mix : List ℕ) → ((c : ℕ) → c < COMPONENTS → 0 < getD mix c 0) → presentOf mix ≡ 2 ^ COMPONENTS - 1
+pub all-present : (mix : List ℕ) → ((c : ℕ) → c < COMPONENTS → 0 < getD mix c 0)
+    → presentOf mix ≡ 2 ^ COMPONENTS - 1
 unfolding presentOf
 all-present mix h = omega (arith, all-to mix COMPONENTS h)
 
@@ -145,12 +154,12 @@ choose-fittest mix h =
     ∙ by-fitness mix (2 ^ COMPONENTS - 1) e candidates order tt tt
 
 -- and of all but hydrogen
-pub four-present : (mix : List ℕ) → ((c : ℕ) → c < HYDROCARBONS → 0 < getD mix c 0) → getD mix HYDROGEN 0 ≡ 0
-    → presentOf mix ≡ 2 ^ HYDROCARBONS - 1
+pub four-present : (mix : List ℕ) → ((c : ℕ) → c < HYDROCARBONS → 0 < getD mix c 0)
+    → getD mix HYDROGEN 0 ≡ 0 → presentOf mix ≡ 2 ^ HYDROCARBONS - 1
 four-present mix h none = present-before mix none ∙ omega (arith, all-to mix HYDROCARBONS h)
 
-pub four-fittest : (mix : List ℕ) → ((c : ℕ) → c < HYDROCARBONS → 0 < getD mix c 0) → getD mix HYDROGEN 0 ≡ 0
-    → chooseOf mix ≡ chooseBy (fitnessOf mix) hydrocarbonSystems hydrocarbonOrder
+pub four-fittest : (mix : List ℕ) → ((c : ℕ) → c < HYDROCARBONS → 0 < getD mix c 0)
+    → getD mix HYDROGEN 0 ≡ 0 → chooseOf mix ≡ chooseBy (fitnessOf mix) hydrocarbonSystems hydrocarbonOrder
 unfolding candidatesOf keep inMask threeIn presentIn maskOf maskFrom hasOf memberOf ones
 four-fittest mix h none =
     let e = four-present mix h none in

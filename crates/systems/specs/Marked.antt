@@ -1,5 +1,5 @@
--- The marked figures of the choice (document 01, "Gases and their figures"): the gas of 001 Table A.1; the blend of 000's
--- example 3 (document 02, Seven); and mixtures that show a rule in their choice. Assumes nothing.
+-- The marked figures of the choice (document 01, "Gases and their figures"): the gas of 001 Table A.1; the blend of
+-- 000's example 3 (document 02, Seven); and mixtures that show a rule in their choice. Assumes nothing.
 use Prim.Native.Nat.{ℕ}
 use mathlib.Core.Path.{_≡_, refl}
 use lib.Count.{ones}
@@ -52,7 +52,8 @@ orderedToo = 460000 ∷ 10000 ∷ 280000 ∷ 230000 ∷ 20000 ∷ []
 abbrev pub methaneButane : List ℕ
 methaneButane = 969262 ∷ 0 ∷ 0 ∷ 30738 ∷ 0 ∷ []
 
-pub choices : (chooseOf weighed ≡ 1 ∷ 4 ∷ 5 ∷ 6 ∷ 8 ∷ []) × (chooseOf contained ≡ 1 ∷ 4 ∷ 6 ∷ 7 ∷ 8 ∷ [])
+pub choices : (chooseOf weighed ≡ 1 ∷ 4 ∷ 5 ∷ 6 ∷ 8 ∷ [])
+    × (chooseOf contained ≡ 1 ∷ 4 ∷ 6 ∷ 7 ∷ 8 ∷ [])
     × (chooseOf ordered ≡ 2 ∷ 4 ∷ 5 ∷ 6 ∷ []) × (chooseOf orderedToo ≡ 2 ∷ 5 ∷ 6 ∷ 7 ∷ 8 ∷ [])
     × (chooseOf methaneButane ≡ 7 ∷ 8 ∷ [])
 unfolding chooseOf marksOf passOf takeOf containingOf fittestOf betterOf scoreOf chosenOf listOf fold fitnessOf

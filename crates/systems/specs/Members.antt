@@ -41,11 +41,13 @@ apartAt system i j = eqb i j || not (eqb (memberOf system i) (memberOf system j)
 apart : ℕ → Bool
 apart system = everyTo (λ i. everyTo (apartAt system i) 3) 3
 
-pub members-apart : (system : ℕ) → Candidate system → (i j : ℕ) → i < 3 → j < 3 → memberOf system i ≡ memberOf system j → i ≡ j
+pub members-apart : (system : ℕ) → Candidate system → (i j : ℕ) → i < 3 → j < 3
+    → memberOf system i ≡ memberOf system j → i ≡ j
 unfolding apart apartAt memberOf
 members-apart system k i j hi hj e =
     go (eqb i j) (eqb (memberOf system i) (memberOf system j)) refl (eq-eqb (memberOf system i) (memberOf system j) e)
-    (eachTo (apartAt system i) 3 (eachTo (λ i. everyTo (apartAt system i) 3) 3 (each-candidate apart tt system k) i hi) j hj)
+    (eachTo (apartAt system i) 3
+    (eachTo (λ i. everyTo (apartAt system i) 3) 3 (each-candidate apart tt system k) i hi) j hj)
   where
     go : (a b : Bool) → eqb i j ≡ a → b ≡ true → T (a || not b) → i ≡ j
     go true b p q t = eqb-true i j p
@@ -64,7 +66,8 @@ has-three system k = eqb→eq (countTo (hasOf system) COMPONENTS) 3 (each-candid
 lacksHydrogen : ℕ → Bool
 lacksHydrogen system = Bool·beq (elem system hydrocarbonSystems) (not (hasOf system HYDROGEN))
 
-pub hydrocarbons-are : (system : ℕ) → Candidate system → elem system hydrocarbonSystems ≡ not (hasOf system HYDROGEN)
+pub hydrocarbons-are : (system : ℕ) → Candidate system
+    → elem system hydrocarbonSystems ≡ not (hasOf system HYDROGEN)
 unfolding lacksHydrogen elem hasOf memberOf
 hydrocarbons-are system k =
     beq-is (elem system hydrocarbonSystems) (not (hasOf system HYDROGEN)) (each-candidate lacksHydrogen tt system k)
@@ -76,7 +79,8 @@ module _ (system c : ℕ) where
   unfolding hasOf
   has-first e = rw (eq-eqb c (memberOf system 0) e, hasOf)
 
-  by-tests : (P : Type 0) (a b : Bool) → eqb c (memberOf system 0) ≡ a → eqb c (memberOf system 1) ≡ b → hasOf system c ≡ true
+  by-tests : (P : Type 0) (a b : Bool) → eqb c (memberOf system 0) ≡ a → eqb c (memberOf system 1) ≡ b
+      → hasOf system c ≡ true
       → ((j : ℕ) → j < 3 → c ≡ memberOf system j → P) → P
   unfolding hasOf
   by-tests P true b e f h x = x 0 (omega arith) (eqb-true c (memberOf system 0) e)
@@ -84,7 +88,8 @@ module _ (system c : ℕ) where
   by-tests P false false e f h x = x 2 (omega arith) (eqb-true c (memberOf system 2) (rw (e, f, hasOf) at h))
 
   -- what is contained is one of the three
-  pub has-cases : (P : Type 0) → hasOf system c ≡ true → ((j : ℕ) → j < 3 → c ≡ memberOf system j → P) → P
+  pub has-cases : (P : Type 0) → hasOf system c ≡ true
+      → ((j : ℕ) → j < 3 → c ≡ memberOf system j → P) → P
   has-cases P h = by-tests P (eqb c (memberOf system 0)) (eqb c (memberOf system 1)) refl refl h
 
   -- and each of the three is contained
@@ -98,7 +103,8 @@ module _ (system c : ℕ) where
       go false p = rw (p, eq-eqb c (memberOf system 1) e, hasOf)
   has-of-eq (suc (suc zero)) h e = go (eqb c (memberOf system 0)) (eqb c (memberOf system 1)) refl refl
     where
-      go : (a b : Bool) → eqb c (memberOf system 0) ≡ a → eqb c (memberOf system 1) ≡ b → hasOf system c ≡ true
+      go : (a b : Bool) → eqb c (memberOf system 0) ≡ a → eqb c (memberOf system 1) ≡ b
+          → hasOf system c ≡ true
       go true b p q = rw (p, hasOf)
       go false true p q = rw (p, q, hasOf)
       go false false p q = rw (p, q, hasOf) (eq-eqb c (memberOf system 2) e)
@@ -121,5 +127,6 @@ few system = leb (length (getD members system [])) 3
 pub member-few : (system j : ℕ) → system < length members → 3 ≤ j → memberOf system j ≡ COMPONENTS
 unfolding memberOf few
 member-few system j h l =
-    let t : length (getD members system []) ≤ 3 = leb→le (length (getD members system [])) 3 (eachTo few (length members) tt system h) in
+    let t : length (getD members system []) ≤ 3 =
+    leb→le (length (getD members system [])) 3 (eachTo few (length members) tt system h) in
     List·getD-eq-default (getD members system []) COMPONENTS {n = j} (omega arith)

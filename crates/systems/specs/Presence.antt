@@ -11,7 +11,7 @@ use lib.Count.{ones, ones-step}
 use lib.ListN.{getD}
 use lib.Pow.{shr-shr}
 use borrow.Author.Tests.{eqb-true, eqb-false, ltb-true, ltb-false, lt-ltb, le-ltb}
-use Rattle.systems.specs.Systems.{COMPONENTS, HYDROGEN, memberOf, hasOf, elem, candidates, hydrocarbonSystems}
+use Rattle.systems.specs.Systems.{COMPONENTS, HYDROGEN, memberOf, hasOf, elem, candidates}
 use Rattle.systems.specs.Table.{of-true, to-true, each}
 use Rattle.systems.specs.Members.{countTo}
 use Rattle.systems.specs.Choice.{fitnessOf, allTo, maskFrom, inMask, presentAt, presentOf, presentCount, maskOf}
@@ -73,11 +73,13 @@ unfolding maskFrom countFrom ones
 ones-mask f zero i = refl
 ones-mask f (suc n) i =
     ones-step (maskFrom f n (i + 1) * 2 + bit (f i))
-    ∙ ap₂ (λ (x y : ℕ). x + ones y) (bit-low (f i) (maskFrom f n (i + 1))) (bit-high (f i) (maskFrom f n (i + 1)))
+    ∙ ap₂ (λ (x y : ℕ). x + ones y) (bit-low (f i) (maskFrom f n (i + 1)))
+    (bit-high (f i) (maskFrom f n (i + 1)))
     ∙ ap (λ (x : ℕ). bit (f i) + x) (ones-mask f n (i + 1))
 
 -- what two masks have in common
-both-mask : (f g : ℕ → Bool) (n i : ℕ) → bitAnd (maskFrom f n i) (maskFrom g n i) ≡ maskFrom (λ c. f c && g c) n i
+both-mask : (f g : ℕ → Bool) (n i : ℕ)
+    → bitAnd (maskFrom f n i) (maskFrom g n i) ≡ maskFrom (λ c. f c && g c) n i
 unfolding maskFrom
 both-mask f g zero i = refl
 both-mask f g (suc n) i =
@@ -153,7 +155,8 @@ pub record Supply (mix : List ℕ) (system : ℕ) : Type 0 where
   pub contained : hasOf system component ≡ true
   pub some : 0 < getD mix component 0
 
-count-some : (P : Type 0) (f : ℕ → Bool) (n : ℕ) → 1 ≤ countTo f n → ((c : ℕ) → c < n → f c ≡ true → P) → P
+count-some : (P : Type 0) (f : ℕ → Bool) (n : ℕ) → 1 ≤ countTo f n
+    → ((c : ℕ) → c < n → f c ≡ true → P) → P
 unfolding countTo
 count-some P f zero h k = absurd (omega arith)
 count-some P f (suc n) h k = go (f n) refl (λ l. count-some P f n l (λ c i e. k c (omega arith) e))
@@ -169,7 +172,8 @@ supply mix system h =
     (rw (present-in-is mix system) at h)
     (λ c l e. go c l (hasOf system c) (presentAt mix c) refl refl e)
   where
-    go : (c : ℕ) → c < COMPONENTS → (t u : Bool) → hasOf system c ≡ t → presentAt mix c ≡ u → (t && u) ≡ true
+    go : (c : ℕ) → c < COMPONENTS → (t u : Bool) → hasOf system c ≡ t → presentAt mix c ≡ u
+        → (t && u) ≡ true
         → Supply mix system
     go c l true true p q e = record { component = c; low = l; contained = p; some = ltb-true 0 (getD mix c 0) q }
     go c l true false p q e = absurd (of-true false e)
@@ -206,8 +210,8 @@ unfolding candidatesOf listed elem
 offered-candidate present s = go (inMask present HYDROGEN)
   where
     go : (hydrogen : Bool) → elem s (candidatesFor hydrogen) ≡ true → elem s candidates ≡ true
-    go true e = e
-    go false e = to-true (listed s) (each listed hydrocarbonSystems tt s e)
+    go true e = to-true (listed s) (each listed (candidatesFor true) tt s e)
+    go false e = to-true (listed s) (each listed (candidatesFor false) tt s e)
 
 -- no candidate's fitness is above that of everything
 pub fitness-le : (mix : List ℕ) (s : ℕ) → elem s candidates ≡ true → fitnessOf mix s ≤ allTo mix COMPONENTS

@@ -34,7 +34,8 @@ module _ (key : ℕ → ℕ) (marks : List Bool) (c : ℕ) where
   better-before b s h = rw (le-ltb (scoreOf key marks c b) (scoreOf key marks c s) h, betterOf)
 
   -- the better of two is the next one, which scores more, or the one before, which scores no less
-  pub better-cases : (P : ℕ → Type 0) (b s : ℕ) → (scoreOf key marks c b < scoreOf key marks c s → P s) → (scoreOf key marks c s ≤ scoreOf key marks c b → P b)
+  pub better-cases : (P : ℕ → Type 0) (b s : ℕ) → (scoreOf key marks c b < scoreOf key marks c s → P s)
+      → (scoreOf key marks c s ≤ scoreOf key marks c b → P b)
       → P (betterOf key marks c b s)
   better-cases P b s f g = go (ltb (scoreOf key marks c b) (scoreOf key marks c s)) refl
     where

@@ -33,11 +33,12 @@ no-candidate-twice = refl
 pub candidates-rise : rising 0 candidates ≡ true
 candidates-rise = refl
 
--- each system's three components, by its number, the formula's two variables first; a number that is no candidate has none
+-- each system's three components, by its number, the formula's two variables first; a number that is no candidate has
+-- none
 abbrev pub members : List (List ℕ)
 members =
-    [] ∷ (0 ∷ 4 ∷ 1 ∷ []) ∷ (2 ∷ 1 ∷ 3 ∷ []) ∷ [] ∷ (0 ∷ 1 ∷ 2 ∷ []) ∷ (0 ∷ 4 ∷ 2 ∷ []) ∷ (0 ∷ 4 ∷ 3 ∷ [])
-    ∷ (0 ∷ 2 ∷ 3 ∷ []) ∷ (0 ∷ 1 ∷ 3 ∷ []) ∷ []
+    [] ∷ (0 ∷ 4 ∷ 1 ∷ []) ∷ (2 ∷ 1 ∷ 3 ∷ []) ∷ [] ∷ (0 ∷ 1 ∷ 2 ∷ [])
+    ∷ (0 ∷ 4 ∷ 2 ∷ []) ∷ (0 ∷ 4 ∷ 3 ∷ []) ∷ (0 ∷ 2 ∷ 3 ∷ []) ∷ (0 ∷ 1 ∷ 3 ∷ []) ∷ []
 
 unfoldable pub memberOf : ℕ → ℕ → ℕ
 memberOf system j = getD (getD members system []) j COMPONENTS
@@ -45,7 +46,10 @@ memberOf system j = getD (getD members system []) j COMPONENTS
 -- whether the system contains component c
 unfoldable pub hasOf : ℕ → ℕ → Bool
 hasOf system c =
-    elim (eqb c (memberOf system 0)) [ true ↦ true | false ↦ elim (eqb c (memberOf system 1)) [ true ↦ true | false ↦ eqb c (memberOf system 2) ] ]
+    elim (eqb c (memberOf system 0)) [
+      | true ↦ true
+      | false ↦ elim (eqb c (memberOf system 1)) [ true ↦ true | false ↦ eqb c (memberOf system 2) ]
+    ]
 
 -- whether a number is in a list
 unfoldable pub elem : ℕ → List ℕ → Bool

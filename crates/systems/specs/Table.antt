@@ -1,4 +1,5 @@
--- A rule of every number of a list, or of every number below a bound, proved by one test that antt computes. Assumes nothing.
+-- A rule of every number of a list, or of every number below a bound, proved by one test that is computed. Assumes
+-- nothing.
 use Prim.Native.Nat.{ℕ, zero, suc, _<_}
 use mathlib.Core.Path.{_≡_, refl}
 use mathlib.Core.Bool.{Bool, true, false, not, _&&_, Bool·beq}
@@ -40,7 +41,8 @@ each f (x ∷ xs) t n h =
     go false e p q = q e
 
 -- a test that passes at each candidate
-pub each-candidate : (f : ℕ → Bool) → T (every f candidates) → (system : ℕ) → Candidate system → T (f system)
+pub each-candidate : (f : ℕ → Bool) → T (every f candidates) → (system : ℕ) → Candidate system
+    → T (f system)
 each-candidate f t system k = each f candidates t system (k .listed)
 
 -- the test passes at each number below n

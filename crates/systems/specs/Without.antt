@@ -3,12 +3,12 @@
 use Prim.Native.Nat.{ℕ, zero, suc, _+_, _*_, _<_}
 use mathlib.Core.Path.{_≡_, refl, sym, ap, ap₂, _∙_}
 use mathlib.Core.List.{List, [], _∷_}
-use mathlib.Core.Bool.{Bool, false, cond}
+use mathlib.Core.Bool.{Bool, true, false, cond}
 use native.Mathlib.Nat.{add-zero}
 use native.Mathlib.Omega.{arith}
-use lib.Dec.{ltb}
+use lib.Dec.{eqb, ltb}
 use lib.ListN.{getD}
-use borrow.Author.Tests.{le-ltb}
+use borrow.Author.Tests.{eqb-true, le-ltb}
 use Rattle.systems.specs.Systems.{COMPONENTS, HYDROGEN, memberOf, hydrocarbonSystems}
 use Rattle.systems.specs.Presence.{present-is}
 use Rattle.systems.specs.Choice.{weights, weightedOf, fitnessOf, allTo, maskFrom, inMask, presentAt, presentTo}
@@ -34,10 +34,27 @@ mask-short f zero i e = rw (ap f (sym (add-zero i)) ∙ e)
 mask-short f (suc n) i e =
     ap (λ (x : ℕ). x * 2 + cond (f i) 1 0) (mask-short f n (i + 1) (ap f (omega arith) ∙ e))
 
--- hydrogen is passed over
-pub keep-without : (present : ℕ) → inMask present HYDROGEN ≡ false → keep present order ≡ keep present hydrocarbonOrder
-unfolding keep
-keep-without present e = rw (e, keep)
+-- an order without hydrogen
+unfoldable others : List ℕ → List ℕ
+others [] = []
+others (c ∷ cs) = elim (eqb c HYDROGEN) [ true ↦ others cs | false ↦ c ∷ others cs ]
+
+-- which is passed over where it is absent
+keep-others : (present : ℕ) → inMask present HYDROGEN ≡ false → (cs : List ℕ)
+    → keep present cs ≡ keep present (others cs)
+unfolding keep others
+keep-others present e [] = refl
+keep-others present e (c ∷ cs) = go (eqb c HYDROGEN) refl (keep-others present e cs)
+  where
+    go : (b : Bool) → eqb c HYDROGEN ≡ b → keep present cs ≡ keep present (others cs)
+        → keep present (c ∷ cs) ≡ keep present (others (c ∷ cs))
+    go true q r = rw (q, others, ap (inMask present) (eqb-true c HYDROGEN q) ∙ e, keep) r
+    go false q r = rw (q, others) (ap (λ l. elim (inMask present c) [ true ↦ c ∷ l | false ↦ l ]) r)
+
+pub keep-without : (present : ℕ) → inMask present HYDROGEN ≡ false
+    → keep present order ≡ keep present hydrocarbonOrder
+unfolding others
+keep-without present e = keep-others present e order
 
 module _ (mix : List ℕ) (none : getD mix HYDROGEN 0 ≡ 0) where
   hydrogen-absent : presentAt mix HYDROGEN ≡ false
@@ -101,7 +118,8 @@ module _ (mix other : List ℕ) (same : (c : ℕ) → getD mix c 0 ≡ getD othe
       (keep present hydrocarbonOrder)
 
 -- the choice of four amounts is that of the five with no hydrogen
-pub choose-four : (m e p b : ℕ) → chooseOf (m ∷ e ∷ p ∷ b ∷ 0 ∷ []) ≡ chooseBefore (m ∷ e ∷ p ∷ b ∷ [])
+pub choose-four : (m e p b : ℕ)
+    → chooseOf (m ∷ e ∷ p ∷ b ∷ 0 ∷ []) ≡ chooseBefore (m ∷ e ∷ p ∷ b ∷ [])
 choose-four m e p b = choose-before five refl ∙ before-same five four same
   where
     four : List ℕ

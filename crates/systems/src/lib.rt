@@ -47,7 +47,7 @@ pub fn member(system: u8, j: usize) -> usize
     COMPONENTS
 }
 
-// What each system number has for its members: so many bits a number, from the right, one for each component and the last
+// What each system number has for its members: BITS bits a number, from the right, one for each component and the last
 // for COMPONENTS, which numbers that are no candidates have.
 const HELD: u64 = 0b001011_001101_011001_010101_000111_100000_001110_010011_100000;
 

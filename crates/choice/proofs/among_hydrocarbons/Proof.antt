@@ -17,7 +17,10 @@ listed-requires : tie.Need-listed-requires
 listed-requires c κs = search needs
 
 returns : tie.Need-returns
-returns c = choice-is _ _ _ _ _ (c .before .hydrocarbon-turns .ensures _ (c .before .before .before .keys-of .ensures)) (c .listed .ensures)
+returns c =
+    choice-is _ _ _ _ _ (c .before .hydrocarbon-turns .ensures _ (c .before .before .before .keys-of .ensures))
+    (c .listed .ensures)
 
 pub among-hydrocarbons-spec : {M : Type 1} → statement M
-among-hydrocarbons-spec = tie.close (tie.spec keys-of-requires hydrocarbon-turns-requires listed-requires returns)
+among-hydrocarbons-spec =
+    tie.close (tie.spec keys-of-requires hydrocarbon-turns-requires listed-requires returns)
