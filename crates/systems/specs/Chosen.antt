@@ -13,7 +13,7 @@ use mathlib.Core.Bool.{Bool, true, false, not, _&&_, _||_}
 use native.Mathlib.Omega.{arith}
 use lib.Ieee.Fits.{and-i, and-l, and-r}
 use lib.Count.{ones}
-use lib.Dec.{T, eqb, ltb, leb, eqb→eq, ltb→lt, leb→le, le→leb}
+use lib.Dec.{T, eqb, ltb, leb, ltb→lt, leb→le, le→leb}
 use lib.ListN.{getD, set, length, replicate}
 use borrow.Author.Tests.{eqb-true, eq-eqb, ne-eqb, ltb-true, ltb-false, lt-ltb, not-true}
 use Rattle.systems.specs.Systems.{COMPONENTS, METHANE, HYDROGEN, memberOf, hasOf, elem, Candidate}

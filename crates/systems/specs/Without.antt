@@ -1,6 +1,6 @@
 -- A MIXTURE WITHOUT HYDROGEN GETS THE CHOICE THAT IT HAD (document 02, Seven): that of four components, among the four
 -- systems of hydrocarbons, in the order of document 01. Assumes nothing.
-use Prim.Native.Nat.{ℕ, zero, suc, _+_, _*_, _<_}
+use Prim.Native.Nat.{ℕ, zero, suc, _+_, _*_}
 use mathlib.Core.Path.{_≡_, refl, sym, ap, ap₂, _∙_}
 use mathlib.Core.List.{List, [], _∷_}
 use mathlib.Core.Bool.{Bool, true, false, cond}
@@ -11,10 +11,9 @@ use lib.ListN.{getD}
 use borrow.Author.Tests.{eqb-true, le-ltb}
 use Rattle.systems.specs.Systems.{COMPONENTS, HYDROGEN, memberOf, hydrocarbonSystems}
 use Rattle.systems.specs.Presence.{present-is}
-use Rattle.systems.specs.Choice.{weights, weightedOf, fitnessOf, allTo, maskFrom, inMask, presentAt, presentTo}
+use Rattle.systems.specs.Choice.{weights, fitnessOf, allTo, maskFrom, inMask, presentAt, presentTo}
 use Rattle.systems.specs.Choice.{presentOf, presentIn, standingBy, candidatesFor, candidatesOf, keep}
 use Rattle.systems.specs.Choice.{hydrocarbonOrder, order, chooseBy, chooseIn, chooseOf, answerOf, choiceOf}
-use Rattle.systems.specs.declared.Choice.{Choice}
 
 -- ---- as it was
 
