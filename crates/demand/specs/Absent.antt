@@ -24,7 +24,7 @@ use Rattle.mixture.specs.Scaling as scaling
 use Rattle.mixture.specs.Scaling.{distributed, scaledOf}
 use Rattle.mixture.specs.Marked.{methaneEthane, methane-ethane}
 use Rattle.mixture.specs.Bounds.{simplified-methane, simplified-least, simplified-absent}
-use Rattle.systems.specs.Systems.{COMPONENTS, hasOf, memberOf}
+use Rattle.systems.specs.Systems.{COMPONENTS, HYDROGEN, hasOf, memberOf}
 use Rattle.systems.specs.Members.{countTo}
 use Rattle.systems.specs.Choice.{fold, maskFrom, maskOf, inMask, presentAt, presentOf, presentCount, presentIn, keep}
 use Rattle.systems.specs.Choice as choice
@@ -111,6 +111,25 @@ absent-unsummed a on p code x i j h l e some =
     let refused = refused-8-exactly-when LIMIT (systemsFor a) (countFor a) (mixOf a) (cellsIn a p) (inertFirst a) .1 in
     split-by-records a p code true on fits
     ∙ refused (λ sums. let z = resummed-none a on p i j h l sums e in omega arith)
+
+-- ---- a component is present after simplification exactly where it is in the analysis
+
+module _ (a : List ℕ) (long : length a ≡ CODES) (passed : InRange a) where
+  pub present-exactly-when : (c : ℕ) → c < COMPONENTS → (0 < getD (mixOf a) c 0) ↔ (0 < getD (tenthsOf a) c 0)
+  present-exactly-when c l = (go (ltb 0 (getD (tenthsOf a) c 0)) refl, λ p. omega (arith, simplified-least a long passed c l p))
+    where
+      go : (b : Bool) → ltb 0 (getD (tenthsOf a) c 0) ≡ b → 0 < getD (mixOf a) c 0 → 0 < getD (tenthsOf a) c 0
+      go true e h = ltb-true 0 (getD (tenthsOf a) c 0) e
+      go false e h =
+          let none = ltb-false 0 (getD (tenthsOf a) c 0) e in
+          absurd (omega (arith, simplified-absent a long passed c l (omega arith)))
+
+  -- so hydrogen is, and with it systems 1, 5 and 6 are offered, exactly where code 15 is present
+  pub hydrogen-exactly-when : (0 < getD (mixOf a) HYDROGEN 0) ↔ (0 < amountOf a 15)
+  unfolding tenthsOf
+  hydrogen-exactly-when =
+      let (only, when) = present-exactly-when HYDROGEN (omega arith) in
+      (λ h. omega (arith, only h), λ h. when (omega arith))
 
 -- ---- refusal 16
 

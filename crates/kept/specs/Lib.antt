@@ -1,5 +1,6 @@
 pub mod BeforeCheck
 pub mod BeforeMixture
+pub mod Pinned
 pub mod Widths
 pub mod Today
 pub mod Steady

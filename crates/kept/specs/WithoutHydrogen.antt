@@ -202,8 +202,8 @@ module _ (a : List ℕ) (none : getD a 15 0 ≡ 0) where
 
 -- ---- a sheet
 
--- one that was read is read, with the same contents: two sections with counts of theirs, codes in order, none listed at
--- 0, and an analysis that 5 and 6 let pass then
+-- one with two sections of counts that are allowed, as those from before are (`Pinned.counts-kept`), with codes in order,
+-- none listed at 0, and with an analysis that 5 and 6 let pass then, is read, with these contents
 pub sheet-read-kept : (s : List ℕ) (code n m first : ℕ) → sectionsOf s ≡ Both n m first
     → codesReading n s 1 0 0 ≡ Read → zeroListed n s 1 ≡ false → refusalIn registerBefore (amountsOf n s) ≡ 0
     → readOf s code ≡ contentOf n m first s

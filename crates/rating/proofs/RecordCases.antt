@@ -1,7 +1,7 @@
 -- The records of a split and its cells: the packed tables, the arrays as they fill, and the cases of the definitions. Assumes nothing.
 use Prim.Native.Nat.{ℕ, suc, _+_, _*_, _-_, _/_, _%_, _^_, _≤_, _<_}
-use mathlib.Core.Path.{_≡_, refl, sym, ap, ap₂, _∙_}
-use mathlib.Core.Bool.{Bool, true, false, not, cond}
+use mathlib.Core.Path.{_≡_, refl, sym, ap, ap₂, _∙_, subst}
+use mathlib.Core.Bool.{Bool, true, false, not, cond, _&&_}
 use mathlib.Core.List.{List}
 use native.Mathlib.Omega.{arith}
 use lib.Dec.{T, ltb, eqb, eqb→eq}
@@ -246,6 +246,31 @@ module _ (ch : List ℕ) (k : ℕ) (xs : List ℕ) (chosen : Chosen ch k) where
             let z : _≡_ {A = ℕ} 0 1 = cc in
             omega arith
 
+  -- the jth record of row s, and a row's three
+  celled-at : (out : List ℕ) (s j c : ℕ) → s < k → j < 3 → Celled ch k xs out (3 * s + j) → c ≡ componentAt (systemOf ch s) j
+      → Celled ch k xs (set out (s * COMPONENTS + c) (getD xs (3 * s + j) 0)) (3 * s + j + 1)
+  celled-at out s j c h l d e =
+      let row : (3 * s + j) / 3 ≡ s = omega arith in
+      let place : (3 * s + j) % 3 ≡ j = omega arith in
+      subst (λ (x : ℕ). Celled ch k xs (set out (x * COMPONENTS + c) (getD xs (3 * s + j) 0)) (3 * s + j + 1)) row
+      (celled-next out (3 * s + j) c d (omega arith) (e ∙ sym (ap₂ (λ (x y : ℕ). componentAt (systemOf ch x) y) row place)))
+
+  pub celled-row : (out : List ℕ) (s c₀ c₁ c₂ : ℕ) → s < k → Celled ch k xs out (3 * s)
+      → c₀ ≡ componentAt (systemOf ch s) 0 → c₁ ≡ componentAt (systemOf ch s) 1 → c₂ ≡ componentAt (systemOf ch s) 2
+      → Celled ch k xs
+      (set (set (set out (s * COMPONENTS + c₀) (getD xs (3 * s) 0)) (s * COMPONENTS + c₁) (getD xs (3 * s + 1) 0))
+      (s * COMPONENTS + c₂) (getD xs (3 * s + 2) 0)) (3 * (s + 1))
+  celled-row out s c₀ c₁ c₂ h d e₀ e₁ e₂ =
+      let zeroth : 3 * s + 0 ≡ 3 * s = omega arith in
+      let next : 3 * s + 0 + 1 ≡ 3 * s + 1 = omega arith in
+      let after : 3 * s + 1 + 1 ≡ 3 * s + 2 = omega arith in
+      let end : 3 * s + 2 + 1 ≡ 3 * (s + 1) = omega arith in
+      let first = celled-at out s 0 c₀ h (omega arith) (subst (Celled ch k xs out) (sym zeroth) d) e₀ in
+      let moved = ap₂ (λ (x y : ℕ). Celled ch k xs (set out (s * COMPONENTS + c₀) (getD xs x 0)) y) zeroth next in
+      let second = celled-at _ s 1 c₁ h (omega arith) (subst (λ (T : Type 0). T) moved first) e₁ in
+      let third = celled-at _ s 2 c₂ h (omega arith) (subst (Celled ch k xs _) after second) e₂ in
+      subst (Celled ch k xs _) end third
+
   pub celled-all : (out : List ℕ) (r : ℕ) → Celled ch k xs out r → 3 * k ≤ r → out ≡ cellsOf ch k xs
   unfolding cellsOf
   celled-all out r d h =
@@ -261,17 +286,20 @@ module _ (ch : List ℕ) (k : ℕ) (xs : List ℕ) (chosen : Chosen ch k) where
 
 -- ---- all of n, from the last down
 
-all-next : (p : ℕ → Bool) (r : ℕ) → 0 < r → p (r - 1) ≡ true → allTo p r ≡ allTo p (r - 1)
+-- the last three of n and three
+three-last : (p : ℕ → Bool) (n : ℕ) (x y z : Bool) → p n ≡ x → p (suc n) ≡ y → p (suc (suc n)) ≡ z
+    → allTo p (suc (suc (suc n))) ≡ cond ((x && y) && z) (allTo p n) false
 unfolding allTo
-all-next p r h e =
-    let q : r ≡ suc (r - 1) = omega arith in
-    ap (allTo p) q ∙ ap (λ (b : Bool). cond b (allTo p (r - 1)) false) e
-
-all-fails : (p : ℕ → Bool) (r : ℕ) → 0 < r → p (r - 1) ≡ false → allTo p r ≡ false
-unfolding allTo
-all-fails p r h e =
-    let q : r ≡ suc (r - 1) = omega arith in
-    ap (allTo p) q ∙ ap (λ (b : Bool). cond b (allTo p (r - 1)) false) e
+three-last p n true true true a b c = rw (c, b, a)
+three-last p n true true false a b c = rw c
+three-last p n true false true a b c = rw (c, b)
+three-last p n true false false a b c = rw c
+three-last p n false y true a b c = rw c (go (p (suc n)))
+  where
+    go : (t : Bool) → cond t (cond (p n) (allTo p n) false) false ≡ false
+    go true = rw a
+    go false = refl
+three-last p n false y false a b c = rw c
 
 all-none : (p : ℕ → Bool) (r : ℕ) → r ≤ 0 → allTo p r ≡ true
 unfolding allTo
@@ -299,29 +327,61 @@ module _ (ch : List ℕ) (k count : ℕ) (systems codes : List ℕ) where
     pub most : r ≤ 3 * k
     rest : fitsOf ch k count systems codes ≡ allTo (matchesAt ch k systems codes) r
 
-  pub fitting-none : count ≡ 3 * k → Fitting count
-  fitting-none h = record { most = omega arith; rest = fits-all h }
+  pub fitting-none : count ≡ 3 * k → Fitting (3 * k)
+  fitting-none h = record { most = omega arith; rest = fits-all h ∙ ap (allTo (matchesAt ch k systems codes)) h }
+
+  -- record r, as the jth of row s
+  abbrev recordFits : ℕ → ℕ → ℕ → Bool
+  recordFits r s j =
+      both (eqb (getD systems r 0) (systemOf ch s)) (eqb (getD codes r 0) (codeOf (componentAt (systemOf ch s) j)))
+
+  record-fits : (s j : ℕ) → s < k → j < 3 → matchesAt ch k systems codes (3 * s + j) ≡ recordFits (3 * s + j) s j
+  record-fits s j h l =
+      let row : (3 * s + j) / 3 ≡ s = omega arith in
+      let place : (3 * s + j) % 3 ≡ j = omega arith in
+      sym (match-in (3 * s + j) (omega arith))
+      ∙ ap₂ (λ (x y : ℕ). both (eqb (getD systems (3 * s + j) 0) (systemOf ch x))
+      (eqb (getD codes (3 * s + j) 0) (codeOf (componentAt (systemOf ch x) y)))) row place
+
+  -- a row's three, of the rows below n the last
+  module _ (n s : ℕ) (f : Fitting (3 * n)) (h : n ≡ s + 1) (x y z : Bool)
+      (e₀ : x ≡ recordFits (3 * s) s 0) (e₁ : y ≡ recordFits (3 * s + 1) s 1) (e₂ : z ≡ recordFits (3 * s + 2) s 2) where
+    in-range : s < k
+    in-range = omega (arith, f .most)
+
+    three : allTo (matchesAt ch k systems codes) (3 * n) ≡ cond ((x && y) && z) (allTo (matchesAt ch k systems codes) (3 * s)) false
+    three =
+        let q : 3 * n ≡ suc (suc (suc (3 * s))) = omega arith in
+        let p₀ : 3 * s ≡ 3 * s + 0 = omega arith in
+        let p₁ : suc (3 * s) ≡ 3 * s + 1 = omega arith in
+        let p₂ : suc (suc (3 * s)) ≡ 3 * s + 2 = omega arith in
+        let m₀ = ap (matchesAt ch k systems codes) p₀ ∙ record-fits s 0 in-range (omega arith)
+            ∙ ap (λ (r : ℕ). recordFits r s 0) (sym p₀) ∙ sym e₀ in
+        let m₁ = ap (matchesAt ch k systems codes) p₁ ∙ record-fits s 1 in-range (omega arith) ∙ sym e₁ in
+        let m₂ = ap (matchesAt ch k systems codes) p₂ ∙ record-fits s 2 in-range (omega arith) ∙ sym e₂ in
+        ap (allTo (matchesAt ch k systems codes)) q ∙ three-last (matchesAt ch k systems codes) (3 * s) x y z m₀ m₁ m₂
+
+    pub row-fails : not ((x && y) && z) ≡ true → false ≡ fitsOf ch k count systems codes
+    row-fails t = sym (f .rest ∙ three ∙ ap (λ (b : Bool). cond b (allTo (matchesAt ch k systems codes) (3 * s)) false) (not-true ((x && y) && z) t))
+
+    pub row-fits : not ((x && y) && z) ≡ false → Fitting (3 * s)
+    row-fits t =
+        record {
+          most = omega (arith, f .most);
+          rest = f .rest ∙ three ∙ ap (λ (b : Bool). cond b (allTo (matchesAt ch k systems codes) (3 * s)) false) (not-false ((x && y) && z) t);
+        }
 
   module _ (r : ℕ) (f : Fitting r) where
-    module _ (h : 0 < r) (b : Bool) (e : b ≡ expectedAt (r - 1)) where
-      last-is : matchesAt ch k systems codes (r - 1) ≡ b
-      last-is = sym (match-in (r - 1) (omega (arith, f .most))) ∙ sym e
-
-      pub fitting-fails : not b ≡ true → false ≡ fitsOf ch k count systems codes
-      fitting-fails t = sym (f .rest ∙ all-fails (matchesAt ch k systems codes) r h (last-is ∙ not-true b t))
-
-      pub fitting-next : not b ≡ false → Fitting (r - 1)
-      fitting-next t = record { most = omega (arith, f .most); rest = f .rest ∙ all-next (matchesAt ch k systems codes) r h (last-is ∙ not-false b t) }
-
     pub fitting-all : r ≤ 0 → true ≡ fitsOf ch k count systems codes
     fitting-all h = sym (f .rest ∙ all-none (matchesAt ch k systems codes) r h)
 
-module _ (found system code expected : ℕ) where
-  pub match-other : (found ≡ system → ⊥) → false ≡ both (eqb found system) (eqb code expected)
-  match-other h = rw (ne-eqb found system h)
+both-is : (x y : Bool) → (x && y) ≡ both x y
+both-is true y = refl
+both-is false y = refl
 
-  pub match-same : (x : ℕ) → found ≡ system → x ≡ expected → eqb code x ≡ both (eqb found system) (eqb code expected)
-  match-same x h e = rw (eq-eqb found system h, e)
+pub match-is : (found system code x expected : ℕ) → x ≡ expected → (eqb found system && eqb code x) ≡ both (eqb found system) (eqb code expected)
+match-is found system code x expected e =
+    both-is (eqb found system) (eqb code x) ∙ ap (λ (n : ℕ). both (eqb found system) (eqb code n)) e
 
 -- ---- a proposed split: whether its records fit, and the answer to its cells
 

@@ -75,7 +75,7 @@ pub(crate) fn split_of(systems: [u8; SYSTEMS], count: usize, cells: [u32; CELLS]
     }
 }
 
-// The records' amounts in their cells.
+// The records' amounts in their cells, system by system.
 pub(crate) fn cells_of(
     systems: [u8; SYSTEMS],
     count: usize,
@@ -85,13 +85,15 @@ pub(crate) fn cells_of(
     ensures { λ r. ⌜ r ≡ cellsOf systems count amounts ⌝ }
 {
     let mut out = [0u32; CELLS];
-    let last = 3 * count;
-    let mut r = 0;
-    while r < last {
-        let s = r / 3;
-        let c = component(systems[s], r % 3);
-        out[s * COMPONENTS + c] = amounts[r];
-        r += 1;
+    let mut s = 0;
+    while s < count {
+        let system = systems[s];
+        let i = s * COMPONENTS;
+        let r = 3 * s;
+        out[i + component(system, 0)] = amounts[r];
+        out[i + component(system, 1)] = amounts[r + 1];
+        out[i + component(system, 2)] = amounts[r + 2];
+        s += 1;
     }
     out
 }
@@ -101,10 +103,7 @@ fn matches(system: u8, j: usize, found: u8, code: u8) -> bool
     requires { ⌜ Candidate system × (j < 3) ⌝ }
     ensures { λ x. ⌜ x ≡ both (eqb found system) (eqb code (codeOf (componentAt system j))) ⌝ }
 {
-    if found != system {
-        return false;
-    }
-    code == code_of(component(system, j))
+    (found == system) & (code == code_of(component(system, j)))
 }
 
 // Whether the records, so many of each system and code, are those of the chosen systems.
@@ -121,10 +120,15 @@ pub(crate) fn fits(
     if records != 3 * count {
         return false;
     }
-    let mut r = records;
-    while 0 < r {
-        r -= 1;
-        if !matches(systems[r / 3], r % 3, found[r], codes[r]) {
+    let mut s = count;
+    while 0 < s {
+        s -= 1;
+        let system = systems[s];
+        let r = 3 * s;
+        let first = matches(system, 0, found[r], codes[r]);
+        let second = matches(system, 1, found[r + 1], codes[r + 1]);
+        let third = matches(system, 2, found[r + 2], codes[r + 2]);
+        if !(first & second & third) {
             return false;
         }
     }

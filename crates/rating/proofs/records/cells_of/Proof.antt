@@ -2,27 +2,27 @@
 use Prim.Native.Nat.{_*_, _-_}
 use native.Mathlib.Omega.{arith}
 use borrow.Author.Needs.{needs}
-use Rattle.rating.proofs.RecordCases.{Celled, celled-none, celled-next, celled-all, cell-low}
+use Rattle.rating.proofs.RecordCases.{Celled, celled-none, celled-row, celled-all}
 use Rattle.rating.proofs.records.cells_of.Statement.{statement}
 use Rattle.rating.proofs.records.cells_of.Tie as tie
 
 abbrev Inv-loop : tie.InvT-loop
-Inv-loop count systems amounts out₀ last r₀ out r = Celled systems count amounts out r
+Inv-loop count systems amounts out₀ s₀ out s = Celled systems count amounts out (3 * s)
 
 abbrev μ-loop : tie.MeasureT-loop
-μ-loop count systems amounts out₀ last r₀ out r = 3 * count - r
-
-mul-last : tie.Need-mul-last Inv-loop μ-loop
-mul-last c = omega (arith, c .pre .1)
+μ-loop count systems amounts out₀ s₀ out s = count - s
 
 loop-holds : tie.Need-loop-holds Inv-loop μ-loop
 loop-holds c = celled-none _ _ _ (c .pre .0)
 
-array-read-component : tie.Need-array-read-component Inv-loop μ-loop
-array-read-component c = search needs
+array-read-system : tie.Need-array-read-system Inv-loop μ-loop
+array-read-system c = search needs
 
-component-requires : tie.Need-component-requires Inv-loop μ-loop
-component-requires c κs = (c .before .before .pre .0 .known _ (omega arith), omega arith)
+mul-i : tie.Need-mul-i Inv-loop μ-loop
+mul-i c = search needs
+
+mul-r : tie.Need-mul-r Inv-loop μ-loop
+mul-r c = search needs
 
 mul-out : tie.Need-mul-out Inv-loop μ-loop
 mul-out c = search needs
@@ -30,29 +30,75 @@ mul-out c = search needs
 array-read-out : tie.Need-array-read-out Inv-loop μ-loop
 array-read-out c = search needs
 
-mul-out-2 : tie.Need-mul-out-2 Inv-loop μ-loop
-mul-out-2 c = search needs
+component-requires : tie.Need-component-requires Inv-loop μ-loop
+component-requires c κs = (c .before .before .pre .0 .known _ (c .loop-test .taken), omega arith)
 
 add-out : tie.Need-add-out Inv-loop μ-loop
 add-out c = search needs
 
+mul-out-2 : tie.Need-mul-out-2 Inv-loop μ-loop
+mul-out-2 c = search needs
+
+array-write-out : tie.Need-array-write-out Inv-loop μ-loop
+array-write-out c = search needs
+
+add-out-2 : tie.Need-add-out-2 Inv-loop μ-loop
+add-out-2 c = search needs
+
 mul-out-3 : tie.Need-mul-out-3 Inv-loop μ-loop
 mul-out-3 c = search needs
 
-array-write-out : tie.Need-array-write-out Inv-loop μ-loop
-array-write-out c = cell-low _ _ _ (c .before .before .before .pre .0) _ _ _ (c .before .before .loop .inv) (c .before .loop-test .taken) (c .component .ensures .0)
+array-read-out-2 : tie.Need-array-read-out-2 Inv-loop μ-loop
+array-read-out-2 c = search needs
 
-add-r : tie.Need-add-r Inv-loop μ-loop
-add-r c = search needs
+component-requires-2 : tie.Need-component-requires-2 Inv-loop μ-loop
+component-requires-2 c κs = (c .before .before .before .pre .0 .known _ (c .before .loop-test .taken), omega arith)
+
+add-out-3 : tie.Need-add-out-3 Inv-loop μ-loop
+add-out-3 c = search needs
+
+mul-out-4 : tie.Need-mul-out-4 Inv-loop μ-loop
+mul-out-4 c = search needs
+
+array-write-out-2 : tie.Need-array-write-out-2 Inv-loop μ-loop
+array-write-out-2 c = search needs
+
+add-out-4 : tie.Need-add-out-4 Inv-loop μ-loop
+add-out-4 c = search needs
+
+mul-out-5 : tie.Need-mul-out-5 Inv-loop μ-loop
+mul-out-5 c = search needs
+
+array-read-out-3 : tie.Need-array-read-out-3 Inv-loop μ-loop
+array-read-out-3 c = search needs
+
+component-requires-3 : tie.Need-component-requires-3 Inv-loop μ-loop
+component-requires-3 c κs =
+    (c .before .before .before .before .pre .0 .known _ (c .before .before .loop-test .taken), omega arith)
+
+add-out-5 : tie.Need-add-out-5 Inv-loop μ-loop
+add-out-5 c = search needs
+
+mul-out-6 : tie.Need-mul-out-6 Inv-loop μ-loop
+mul-out-6 c = search needs
+
+array-write-out-3 : tie.Need-array-write-out-3 Inv-loop μ-loop
+array-write-out-3 c = search needs
+
+add-s : tie.Need-add-s Inv-loop μ-loop
+add-s c = search needs
 
 loop-less : tie.Need-loop-less Inv-loop μ-loop
 loop-less c = search needs
 
 loop-again : tie.Need-loop-again Inv-loop μ-loop
-loop-again c = celled-next _ _ _ (c .before .before .before .pre .0) _ _ _ (c .before .before .loop .inv) (c .before .loop-test .taken) (c .component .ensures .0)
+loop-again c =
+    let l = c .before .before .before .before in
+    celled-row _ _ _ (l .before .pre .0) _ _ _ _ _ (c .before .before .before .loop-test .taken) (l .loop .inv)
+    (c .before .before .component .ensures .0) (c .before .component2 .ensures .0) (c .component3 .ensures .0)
 
 returns : tie.Need-returns Inv-loop μ-loop
-returns c = celled-all _ _ _ (c .before .before .pre .0) _ _ (c .before .loop .inv) (c .loop-test .left)
+returns c = celled-all _ _ _ (c .before .before .pre .0) _ _ (c .before .loop .inv) (omega (arith, c .loop-test .left))
 
 pub cells-of-spec : {M : Type 1} → statement M
 cells-of-spec =
@@ -60,17 +106,31 @@ cells-of-spec =
     (tie.spec
     Inv-loop
     μ-loop
-    mul-last
     loop-holds
-    array-read-component
-    component-requires
+    array-read-system
+    mul-i
+    mul-r
     mul-out
     array-read-out
-    mul-out-2
+    component-requires
     add-out
-    mul-out-3
+    mul-out-2
     array-write-out
-    add-r
+    add-out-2
+    mul-out-3
+    array-read-out-2
+    component-requires-2
+    add-out-3
+    mul-out-4
+    array-write-out-2
+    add-out-4
+    mul-out-5
+    array-read-out-3
+    component-requires-3
+    add-out-5
+    mul-out-6
+    array-write-out-3
+    add-s
     loop-less
     loop-again
     returns)

@@ -1,16 +1,17 @@
 -- `rating::records::fits` meets its contract. Assumes nothing.
 use native.Mathlib.Omega.{arith}
+use Prim.Native.Nat.{_*_}
 use mathlib.Core.Path.{sym}
 use borrow.Author.Needs.{needs}
-use Rattle.rating.proofs.RecordCases.{Fitting, fits-other, fitting-none, fitting-fails, fitting-next, fitting-all}
+use Rattle.rating.proofs.RecordCases.{Fitting, fits-other, fitting-none, row-fails, row-fits, fitting-all}
 use Rattle.rating.proofs.records.fits.Statement.{statement}
 use Rattle.rating.proofs.records.fits.Tie as tie
 
 abbrev Inv-loop : tie.InvT-loop
-Inv-loop count records systems found codes r₀ r = Fitting systems count records found codes r
+Inv-loop count records systems found codes s₀ s = Fitting systems count records found codes (3 * s)
 
 abbrev μ-loop : tie.MeasureT-loop
-μ-loop count records systems found codes r₀ r = r
+μ-loop count records systems found codes s₀ s = s
 
 mul-if1 : tie.Need-mul-if1 Inv-loop μ-loop
 mul-if1 c = omega (arith, c .pre .1)
@@ -21,32 +22,71 @@ returns c = sym (fits-other _ _ _ _ _ (c .if1 .taken))
 loop-holds : tie.Need-loop-holds Inv-loop μ-loop
 loop-holds c = fitting-none _ _ _ _ _ (c .if1 .left)
 
-sub-r : tie.Need-sub-r Inv-loop μ-loop
-sub-r c = search needs
+sub-s : tie.Need-sub-s Inv-loop μ-loop
+sub-s c = search needs
+
+array-read-system : tie.Need-array-read-system Inv-loop μ-loop
+array-read-system c = omega (arith, c .before .loop .inv .most, c .before .before .before .pre .1, c .loop-test .taken)
+
+mul-r : tie.Need-mul-r Inv-loop μ-loop
+mul-r c = omega (arith, c .before .loop .inv .most, c .before .before .before .pre .1, c .loop-test .taken)
 
 array-read-matches : tie.Need-array-read-matches Inv-loop μ-loop
-array-read-matches c = search needs
+array-read-matches c = omega (arith, c .before .loop .inv .most, c .before .before .before .pre .1, c .loop-test .taken)
 
 array-read-matches-2 : tie.Need-array-read-matches-2 Inv-loop μ-loop
-array-read-matches-2 c = search needs
-
-array-read-matches-3 : tie.Need-array-read-matches-3 Inv-loop μ-loop
-array-read-matches-3 c = search needs
+array-read-matches-2 c = omega (arith, c .before .loop .inv .most, c .before .before .before .pre .1, c .loop-test .taken)
 
 matches-requires : tie.Need-matches-requires Inv-loop μ-loop
-matches-requires c κs = (c .before .before .before .pre .0 .known _ (omega (arith, c .before .loop .inv .most)), omega arith)
+matches-requires c κs = (c .before .before .before .pre .0 .known _ (omega (arith, c .before .loop .inv .most, c .loop-test .taken)), omega arith)
+
+add-matches : tie.Need-add-matches Inv-loop μ-loop
+add-matches c = omega (arith, c .before .before .loop .inv .most, c .before .before .before .before .pre .1, c .before .loop-test .taken)
+
+array-read-matches-3 : tie.Need-array-read-matches-3 Inv-loop μ-loop
+array-read-matches-3 c = omega (arith, c .before .before .loop .inv .most, c .before .before .before .before .pre .1, c .before .loop-test .taken)
+
+add-matches-2 : tie.Need-add-matches-2 Inv-loop μ-loop
+add-matches-2 c = omega (arith, c .before .before .loop .inv .most, c .before .before .before .before .pre .1, c .before .loop-test .taken)
+
+array-read-matches-4 : tie.Need-array-read-matches-4 Inv-loop μ-loop
+array-read-matches-4 c = omega (arith, c .before .before .loop .inv .most, c .before .before .before .before .pre .1, c .before .loop-test .taken)
+
+matches-requires-2 : tie.Need-matches-requires-2 Inv-loop μ-loop
+matches-requires-2 c κs = (c .before .before .before .before .pre .0 .known _ (omega (arith, c .before .before .loop .inv .most, c .before .loop-test .taken)), omega arith)
+
+add-matches-3 : tie.Need-add-matches-3 Inv-loop μ-loop
+add-matches-3 c = omega (arith, c .before .before .before .loop .inv .most, c .before .before .before .before .before .pre .1, c .before .before .loop-test .taken)
+
+array-read-matches-5 : tie.Need-array-read-matches-5 Inv-loop μ-loop
+array-read-matches-5 c = omega (arith, c .before .before .before .loop .inv .most, c .before .before .before .before .before .pre .1, c .before .before .loop-test .taken)
+
+add-matches-4 : tie.Need-add-matches-4 Inv-loop μ-loop
+add-matches-4 c = omega (arith, c .before .before .before .loop .inv .most, c .before .before .before .before .before .pre .1, c .before .before .loop-test .taken)
+
+array-read-matches-6 : tie.Need-array-read-matches-6 Inv-loop μ-loop
+array-read-matches-6 c = omega (arith, c .before .before .before .loop .inv .most, c .before .before .before .before .before .pre .1, c .before .before .loop-test .taken)
+
+matches-requires-3 : tie.Need-matches-requires-3 Inv-loop μ-loop
+matches-requires-3 c κs = (c .before .before .before .before .before .pre .0 .known _ (omega (arith, c .before .before .before .loop .inv .most, c .before .before .loop-test .taken)), omega arith)
 
 returns-2 : tie.Need-returns-2 Inv-loop μ-loop
-returns-2 c = fitting-fails _ _ _ _ _ _ (c .before .before .before .loop .inv) (c .before .before .loop-test .taken) _ (c .before .matches .ensures) (c .if2 .taken)
+returns-2 c = 
+    let l = c .before .before .before .before .before in
+    row-fails _ _ _ _ _ (l .loop .s) _ (l .loop .inv) (omega (arith, c .before .before .before .before .loop-test .taken)) _ _ _
+    (c .before .before .before .matches .ensures) (c .before .before .matches2 .ensures) (c .before .matches3 .ensures) (c .if2 .taken)
 
 loop-less : tie.Need-loop-less Inv-loop μ-loop
-loop-less c = omega (arith, c .before .before .loop-test .taken)
+loop-less c = omega (arith, c .before .before .before .before .loop-test .taken)
 
 loop-again : tie.Need-loop-again Inv-loop μ-loop
-loop-again c = fitting-next _ _ _ _ _ _ (c .before .before .before .loop .inv) (c .before .before .loop-test .taken) _ (c .before .matches .ensures) (c .if2 .left)
+loop-again c = 
+    let l = c .before .before .before .before .before in
+    row-fits _ _ _ _ _ (l .loop .s) _ (l .loop .inv) (omega (arith, c .before .before .before .before .loop-test .taken)) _ _ _
+    (c .before .before .before .matches .ensures) (c .before .before .matches2 .ensures) (c .before .matches3 .ensures) (c .if2 .left)
 
 returns-3 : tie.Need-returns-3 Inv-loop μ-loop
-returns-3 c = fitting-all _ _ _ _ _ _ (c .before .loop .inv) (c .loop-test .left)
+returns-3 c = fitting-all _ _ _ _ _ _ (c .before .loop .inv) (omega (arith, c .loop-test .left))
 
 pub fits-spec : {M : Type 1} → statement M
 fits-spec =
@@ -57,11 +97,22 @@ fits-spec =
     mul-if1
     returns
     loop-holds
-    sub-r
+    sub-s
+    array-read-system
+    mul-r
     array-read-matches
     array-read-matches-2
-    array-read-matches-3
     matches-requires
+    add-matches
+    array-read-matches-3
+    add-matches-2
+    array-read-matches-4
+    matches-requires-2
+    add-matches-3
+    array-read-matches-5
+    add-matches-4
+    array-read-matches-6
+    matches-requires-3
     returns-2
     loop-less
     loop-again

@@ -2,21 +2,20 @@
 use mathlib.Core.Path.{ap, _∙_}
 use Rattle.split.specs.Split.{componentAt}
 use Rattle.rating.specs.Records.{codeOf}
-use Rattle.rating.proofs.RecordCases.{match-other, match-same}
+use Rattle.rating.proofs.RecordCases.{match-is}
 use Rattle.rating.proofs.records.matches.Statement.{statement}
 use Rattle.rating.proofs.records.matches.Tie as tie
 
-returns : tie.Need-returns
-returns c = match-other _ _ (c .before .args .code) (codeOf (componentAt (c .before .args .system) (c .before .args .j))) (c .if1 .taken)
-
 component-requires : tie.Need-component-requires
-component-requires c κs = c .before .pre
+component-requires c κs = c .pre
 
 code-of-requires : tie.Need-code-of-requires
 code-of-requires c κs = c .component .ensures .1
 
-returns-2 : tie.Need-returns-2
-returns-2 c = match-same _ _ _ (codeOf (componentAt (c .before .before .before .args .system) (c .before .before .before .args .j))) _ (c .before .before .if1 .left) (c .code-of .ensures ∙ ap codeOf (c .before .component .ensures .0))
+returns : tie.Need-returns
+returns c =
+    let b = c .before .before in
+    match-is (b .args .found) (b .args .system) (b .args .code) _ (codeOf (componentAt (b .args .system) (b .args .j))) (c .code-of .ensures ∙ ap codeOf (c .before .component .ensures .0))
 
 pub matches-spec : {M : Type 1} → statement M
-matches-spec = tie.close (tie.spec returns component-requires code-of-requires returns-2)
+matches-spec = tie.close (tie.spec component-requires code-of-requires returns)
