@@ -106,11 +106,13 @@ retired-for-ever = (refl, refl)
 pub none-else-retired : retiredIn register ≡ 9 ∷ 13 ∷ []
 none-else-retired = refl
 
--- document 01's keys stay for ever, the first fourteen, 14 in splits only; and so does hydrogen's: a request adds to them
+-- document 01's keys stay for ever, the first fourteen, 14 in splits only; and so does hydrogen's: a request adds to
+-- them
 abbrev pub BASE : ℕ
 BASE = 14
 
-pub keys-kept : (take BASE (keysOf register) ≡ 1 ∷ 2 ∷ 3 ∷ 4 ∷ 5 ∷ 6 ∷ 7 ∷ 8 ∷ 9 ∷ 10 ∷ 11 ∷ 12 ∷ 13 ∷ 14 ∷ [])
+pub keys-kept : (take BASE (keysOf register)
+    ≡ 1 ∷ 2 ∷ 3 ∷ 4 ∷ 5 ∷ 6 ∷ 7 ∷ 8 ∷ 9 ∷ 10 ∷ 11 ∷ 12 ∷ 13 ∷ 14 ∷ [])
     × (statusOf 14 ≡ splitsOnly)
 unfolding statusOf
 keys-kept = (refl, refl)

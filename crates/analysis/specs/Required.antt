@@ -190,7 +190,8 @@ required-passes codes es a passed p =
 
 -- what passes where the codes of a list must be present: what passes, with an amount of each of them
 pub requiring-exactly-when : (codes : List ℕ) (es : List Entry) (a : List ℕ)
-    → ((k : ℕ) → isIn k codes ≡ true → (k < length a) × (requiredBy (statusIn (requiring codes es) k) ≡ true))
+    → ((k : ℕ) → isIn k codes ≡ true → (k < length a)
+    × (requiredBy (statusIn (requiring codes es) k) ≡ true))
     → (refusalIn (requiring codes es) a ≡ 0)
     ↔ ((refusalIn es a ≡ 0) × ((k : ℕ) → isIn k codes ≡ true → 0 < getD a k 0))
 requiring-exactly-when codes es a each = (

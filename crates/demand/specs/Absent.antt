@@ -1,5 +1,5 @@
--- Absent components (document 02, Five and Seven): no record of one has parts in a split that is rated, and an analysis is
--- refused 16 exactly where methane alone is there. Assumes nothing.
+-- Absent components (document 02, Five and Seven): no record of one has parts in a split that is rated, and an
+-- analysis is refused 16 exactly where methane alone is there. Assumes nothing.
 use mathlib.Core.Path.{_≡_, refl, sym, ap, _∙_, subst}
 use mathlib.Core.Bool.{Bool, true, false}
 use mathlib.Core.List.{List, [], _∷_}
@@ -116,7 +116,11 @@ absent-unsummed a on p code x i j h l e some =
 
 module _ (a : List ℕ) (long : length a ≡ CODES) (passed : InRange a) where
   pub present-exactly-when : (c : ℕ) → c < COMPONENTS → (0 < getD (mixOf a) c 0) ↔ (0 < getD (tenthsOf a) c 0)
-  present-exactly-when c l = (go (ltb 0 (getD (tenthsOf a) c 0)) refl, λ p. omega (arith, simplified-least a long passed c l p))
+  present-exactly-when c l = (
+    go (ltb 0 (getD (tenthsOf a) c 0)) refl,
+    λ p. omega
+        (arith, simplified-least a long passed c l p),
+  )
     where
       go : (b : Bool) → ltb 0 (getD (tenthsOf a) c 0) ≡ b → 0 < getD (mixOf a) c 0 → 0 < getD (tenthsOf a) c 0
       go true e h = ltb-true 0 (getD (tenthsOf a) c 0) e

@@ -1,14 +1,14 @@
 -- THE THIRD DEMAND, in the customer's words and order. Assumes nothing.
 --
 -- For any analysis with amounts and total in range that refusal 16 lets pass, a blend too, with two to five systems:
--- whatever amounts are proposed as a split of its chosen systems, they are rated exactly when they re-sum to the simplified
--- mixture, no chosen system is empty and every two partial numbers, as worked out, lie at most 0.05 apart (1). A split
--- that the search found, whatever its allowance, put back as a proposal for the same analysis, gets the same rating and
--- spread (2). Every rating is less than 0.000004 (40 units) from the exact fraction of the formulas at those amounts
--- (3). And from the first demand: each accepted sheet ends in a rating or in refusal 11 where it has no split; where it
--- has its own it ends in a rating or in one of 7 to 10, and is rated exactly when; one that is read, with fewer than
--- two components present after simplification, is refused 16; every sheet ends in a rating, in one of 1 to 11 or in 16
--- (4).
+-- whatever amounts are proposed as a split of its chosen systems, they are rated exactly when they re-sum to the
+-- simplified mixture, no chosen system is empty and every two partial numbers, as worked out, lie at most 0.05 apart
+-- (1). A split that the search found, whatever its allowance, put back as a proposal for the same analysis, gets the
+-- same rating and spread (2). Every rating is less than 0.000004 (40 units) from the exact fraction of the formulas
+-- at those amounts (3). And from the first demand: each accepted sheet ends in a rating or in refusal 11 where it has
+-- no split; where it has its own it ends in a rating or in one of 7 to 10, and is rated exactly when; one that is
+-- read, with fewer than two components present after simplification, is refused 16; every sheet ends in a rating, in
+-- one of 1 to 11 or in 16 (4).
 --
 -- The public functions `rate_split`, `rate_by_search` and `rate_sheet` promise `splitAnswer`, `searchOutcome` and
 -- `sheetOutcome`, of which these theorems speak. An analysis is its 16 amounts, that of code k at index k. It is in
@@ -78,7 +78,8 @@ few-exactly-when a h p allowance code =
 -- rated on, two components present have two chosen systems, three or four have three, and five have four or five
 pub two-to-five : (a : List ℕ) → length a ≡ CODES → RatedOn a
     → let n = presentCount (simplifiedOf a) in
-    (n ≡ 2 → countFor a ≡ 2) × (3 ≤ n → n ≤ 4 → countFor a ≡ 3) × (n ≡ 5 → (4 ≤ countFor a) × (countFor a ≤ 5))
+    (n ≡ 2 → countFor a ≡ 2) × (3 ≤ n → n ≤ 4 → countFor a ≡ 3)
+    × (n ≡ 5 → (4 ≤ countFor a) × (countFor a ≤ 5))
 two-to-five a long on =
     let n = presentCount (simplifiedOf a) in
     let h = filled a long on .number in (
@@ -101,8 +102,9 @@ pub two-present-in : (a : List ℕ) → length a ≡ CODES → RatedOn a → (s 
 two-present-in a long on s l =
     rw (present-in-is (simplifiedOf a) (systemOf (systemsFor a) s)) at (filled a long on .filled s l)
 
--- any amounts xs at all, in the records of the chosen systems: systems rising, in each methane, ethane, propane, butane,
--- hydrogen as contained, so that record r is of the system in place r / 3 and has its component in place r % 3
+-- any amounts xs at all, in the records of the chosen systems: systems rising, in each methane, ethane, propane,
+-- butane, hydrogen as contained, so that record r is of the system in place r / 3 and has its component in place r %
+-- 3
 abbrev pub proposal : List ℕ → List ℕ → Split
 proposal a xs = record {
   count = 3 * countFor a;

@@ -62,7 +62,8 @@ recordsBefore ch k a =
     record { count = 3 * k; systems = systemsOf ch k; codes = codesBefore ch k; amounts = amountsIn BEFORE ch k a }
 
 abbrev pub foundWith : List ℕ → ℕ → ℕ → List ℕ → Search → Outcome
-foundWith ch k n1 a (Balanced spread rounds) = outcome (Rated (ratingIn BEFORE ch k a n1) spread rounds) (recordsBefore ch k a)
+foundWith ch k n1 a (Balanced spread rounds) =
+    outcome (Rated (ratingIn BEFORE ch k a n1) spread rounds) (recordsBefore ch k a)
 foundWith ch k n1 a Unbalanced = outcome (Refused UNBALANCED 0) noSplit
 foundWith ch k n1 a Unfit = outcome (Refused 0 0) noSplit
 
@@ -98,4 +99,5 @@ splitBefore a p code =
 
 unfoldable pub searchBefore : List ℕ → ℕ → ℕ → Outcome
 searchBefore a allowance code =
-    searchOutcomeWith (refusalBefore a) (choiceBefore (simplifiedBefore a)) (simplifiedBefore a) (inertBefore a) allowance code
+    searchOutcomeWith (refusalBefore a) (choiceBefore (simplifiedBefore a)) (simplifiedBefore a)
+    (inertBefore a) allowance code

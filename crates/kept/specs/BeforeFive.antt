@@ -4,8 +4,8 @@
 -- hydrogen. `splitBeforeFive` and `searchBeforeFive` are the answers of four components (`Before.splitAnswerWith` and
 -- `searchOutcomeWith`) at that refusal and that choice. For every analysis that 5 and 6 let pass then, all four
 -- components are present, the choice by presence and fitness is the choice by fitness alone, and the answers are the
--- same: to every proposed split, and by the search with every allowance, rating, spread, rounds and split. `code` is the
--- code that refusal 5 carries.
+-- same: to every proposed split, and by the search with every allowance, rating, spread, rounds and split. `code` is
+-- the code that refusal 5 carries.
 use mathlib.Core.Path.{_≡_, refl, sym, ap, _∙_, subst}
 use mathlib.Core.Bool.{Bool, true, false}
 use mathlib.Core.Logic.{_↔_}
@@ -90,7 +90,8 @@ choiceBeforeFive mix = answerOf (chooseBy (fitnessOf mix) hydrocarbonSystems hyd
 
 unfoldable pub splitBeforeFive : List ℕ → Split → ℕ → Answer
 splitBeforeFive a p code =
-    splitAnswerWith (refusalBeforeFive a) (choiceBeforeFive (simplifiedBefore a)) (simplifiedBefore a) (inertBefore a) p code
+    splitAnswerWith (refusalBeforeFive a) (choiceBeforeFive (simplifiedBefore a)) (simplifiedBefore a)
+    (inertBefore a) p code
 
 unfoldable pub searchBeforeFive : List ℕ → ℕ → ℕ → Outcome
 searchBeforeFive a allowance code =
@@ -138,7 +139,8 @@ module _ (a : List ℕ) (long : length a ≡ CODES) (before : refusalBeforeFive 
       sym (seven.choice-kept a none)
       ∙ ap answerOf
       (four-fittest (mixOf a) all-four (no-hydrogen a none)
-      ∙ (λ j. chooseBy (λ s. fitness-same (mixOf a) (simplifiedBefore a) (seven.amount-same a none) s j) hydrocarbonSystems
+      ∙ (λ j. chooseBy (λ s. fitness-same (mixOf a) (simplifiedBefore a)
+      (seven.amount-same a none) s j) hydrocarbonSystems
       hydrocarbonOrder))
 
   -- the answers are those from before: to every proposed split,
@@ -155,7 +157,8 @@ module _ (a : List ℕ) (long : length a ≡ CODES) (before : refusalBeforeFive 
   search-kept allowance code =
       seven.search-kept-all a none allowance code
       ∙ rw (sym (seven.refusal-kept a none), rated-on, before)
-      (ap (λ (choice : Choice). searchOutcomeWith 0 choice (simplifiedBefore a) (inertBefore a) allowance code) choice-kept)
+      (ap (λ (choice : Choice). searchOutcomeWith 0 choice (simplifiedBefore a)
+      (inertBefore a) allowance code) choice-kept)
 
 -- ---- what was rated before
 
@@ -176,12 +179,14 @@ split-rated-before a long p code w s r is =
 
 -- a gas rated by the search gets the same rating, spread, rounds and split
 pub search-rated-before : (a : List ℕ) → length a ≡ CODES → (allowance code : ℕ)
-    → IsRated (searchBeforeFive a allowance code .answer) → searchOutcome a allowance code ≡ searchBeforeFive a allowance code
+    → IsRated (searchBeforeFive a allowance code .answer)
+    → searchOutcome a allowance code ≡ searchBeforeFive a allowance code
 unfolding searchBeforeFive
 search-rated-before a long allowance code is = go (eqb (refusalBeforeFive a) 0) refl is
   where
     go : (b : Bool) → eqb (refusalBeforeFive a) 0 ≡ b
-        → IsRated (ifElse b (searchOutcomeWith 0 (choiceBeforeFive (simplifiedBefore a)) (simplifiedBefore a) (inertBefore a) allowance code)
+        → IsRated (ifElse b (searchOutcomeWith 0 (choiceBeforeFive (simplifiedBefore a)) (simplifiedBefore a)
+        (inertBefore a) allowance code)
         (outcome (Refused (refusalBeforeFive a) (ifElse (eqb (refusalBeforeFive a) 5) code 0)) noSplit) .answer)
         → searchOutcome a allowance code ≡ searchBeforeFive a allowance code
     go true e h = search-kept a long (eqb-true (refusalBeforeFive a) 0 e) allowance code
@@ -189,8 +194,8 @@ search-rated-before a long allowance code is = go (eqb (refusalBeforeFive a) 0) 
 
 -- ---- a sheet
 
--- one with two sections of counts that are allowed, as those from before are (`Pinned.counts-kept`), with codes in order,
--- none listed at 0, and with an analysis that 5 and 6 let pass then, is read, with these contents
+-- one with two sections of counts that are allowed, as those from before are (`Pinned.counts-kept`), with codes in
+-- order, none listed at 0, and with an analysis that 5 and 6 let pass then, is read, with these contents
 pub sheet-read-kept : (s : List ℕ) (code n m first : ℕ) → sectionsOf s ≡ Both n m first
     → codesReading n s 1 0 0 ≡ Read → zeroListed n s 1 ≡ false → refusalBeforeFive (amountsOf n s) ≡ 0
     → readOf s code ≡ contentOf n m first s

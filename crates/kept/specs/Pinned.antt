@@ -20,14 +20,16 @@ abbrev statusesOf : List Entry → List Status
 statusesOf [] = []
 statusesOf (e ∷ es) = e .status ∷ statusesOf es
 
-pub register-kept : (keysOf registerBefore ≡ 1 ∷ 2 ∷ 3 ∷ 4 ∷ 5 ∷ 6 ∷ 7 ∷ 8 ∷ 9 ∷ 10 ∷ 11 ∷ 12 ∷ 13 ∷ 14 ∷ [])
+pub register-kept : (keysOf registerBefore
+    ≡ 1 ∷ 2 ∷ 3 ∷ 4 ∷ 5 ∷ 6 ∷ 7 ∷ 8 ∷ 9 ∷ 10 ∷ 11 ∷ 12 ∷ 13 ∷ 14 ∷ [])
     × (statusesOf registerBefore
     ≡ live 400000 999700 true ∷ live 100 150000 false ∷ live 100 60000 false ∷ live 10 40000 false ∷
     live 10 40000 false ∷ live 10 500 false ∷ live 10 20000 false ∷ live 10 20000 false ∷ retired ∷
     live 10 15000 false ∷ live 50 100000 false ∷ live 50 150000 false ∷ retired ∷ splitsOnly ∷ [])
 register-kept = (refl, refl)
 
-pub choice-kept : (take HYDROCARBONS weights ≡ 48 ∷ 75 ∷ 80 ∷ 100 ∷ []) × (hydrocarbonOrder ≡ 2 ∷ 1 ∷ 3 ∷ 0 ∷ [])
+pub choice-kept : (take HYDROCARBONS weights ≡ 48 ∷ 75 ∷ 80 ∷ 100 ∷ [])
+    × (hydrocarbonOrder ≡ 2 ∷ 1 ∷ 3 ∷ 0 ∷ [])
     × (hydrocarbonSystems ≡ 2 ∷ 4 ∷ 7 ∷ 8 ∷ [])
 choice-kept = (refl, refl, refl)
 

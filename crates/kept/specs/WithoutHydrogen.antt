@@ -1,9 +1,9 @@
 -- GASES WITHOUT HYDROGEN GET THE RATING, SPLIT AND ROUNDS THEY HAD (document 02, Seven). Assumes nothing.
 --
--- The answers from before are `Before.splitBefore` and `searchBefore`: the register without code 15, four components, the
--- choice among 2, 4, 7 and 8, splits and search in rows of four cells. An analysis without hydrogen is answered as it was,
--- to every proposed split, and by the search with every allowance: rating, spread, rounds, split and refusal. `code` is
--- the code that refusal 5 carries.
+-- The answers from before are `Before.splitBefore` and `searchBefore`: the register without code 15, four components,
+-- the choice among 2, 4, 7 and 8, splits and search in rows of four cells. An analysis without hydrogen is answered
+-- as it was, to every proposed split, and by the search with every allowance: rating, spread, rounds, split and
+-- refusal. `code` is the code that refusal 5 carries.
 use mathlib.Core.Path.{_≡_, refl, sym, ap, ap₂, _∙_}
 use mathlib.Core.Bool.{Bool, true, false, not}
 use mathlib.Core.List.{List, [], _∷_, _++_}
@@ -45,7 +45,8 @@ use Rattle.split.specs.declared.Search.{Search}
 use Rattle.split.specs.declared.Search.the-variants.{Balanced, Unbalanced, Unfit}
 use Rattle.split.specs.declared.Found.{Found}
 use Rattle.rating.specs.Records.{codeOf, systemAt, codeAt, codesOf, systemsOf, matchesAt, fitsOf}
-use Rattle.rating.specs.Rate.{LIMIT, ROUNDS, mixOf, systemsFor, countFor, ratingRefusal, checkedBy, splitBy, splitAnswer}
+use Rattle.rating.specs.Rate.{LIMIT, ROUNDS, mixOf, systemsFor, countFor, ratingRefusal, checkedBy, splitBy}
+use Rattle.rating.specs.Rate.{splitAnswer}
 use Rattle.rating.specs.Rate.{outcome, recordsOf, foundBy, foundOutcome, searchOutcomeBy, searchOutcome, sheetOutcome}
 use Rattle.rating.specs.LeftOut.{mixture-number}
 use Rattle.rating.specs.RatedOn.{InRange, RatedOn}
@@ -87,16 +88,19 @@ module _ (ch : List ℕ) (k : ℕ) (without : Without ch k) where
   unfolding codesBefore codesOf
   codes-same = table-same (codeBefore ch k) (codeAt ch k) RECORDS 0 (λ r l. code-same r)
 
-  fits-same : (count : ℕ) (systems codes : List ℕ) → fitsBefore ch k count systems codes ≡ fitsOf ch k count systems codes
+  fits-same : (count : ℕ) (systems codes : List ℕ)
+      → fitsBefore ch k count systems codes ≡ fitsOf ch k count systems codes
   unfolding fitsBefore fitsOf matchesBefore matchesAt
   fits-same count systems codes =
       ap (both (eqb count (3 * k)))
       (all-same (matchesBefore ch k systems codes) (matchesAt ch k systems codes) count
-      (λ r l. ap (λ (c : ℕ). both (eqb (getD systems r 0) (systemAt ch k r)) (eqb (getD codes r 0) c)) (code-same r)))
+      (λ r l. ap (λ (c : ℕ). both (eqb (getD systems r 0) (systemAt ch k r)) (eqb (getD codes r 0) c))
+      (code-same r)))
 
 -- ---- so are the answers, where the mixture has no hydrogen
 
-module _ (ch : List ℕ) (k : ℕ) (without : Without ch k) (mix′ mix : List ℕ) (no : NoHydrogen mix′ mix) (n1 : ℕ) where
+module _ (ch : List ℕ) (k : ℕ) (without : Without ch k) (mix′ mix : List ℕ) (no : NoHydrogen mix′ mix)
+    (n1 : ℕ) where
   split-same : (p : Split) → splitWith ch k mix′ n1 p ≡ splitBy ch k mix n1 p
   unfolding splitWith splitBy
   split-same p =
@@ -138,7 +142,8 @@ module _ (a : List ℕ) (none : getD a 15 0 ≡ 0) where
   -- as many of them present,
   count-same : presentCount (mixOf a) ≡ ones (presentTo HYDROCARBONS (simplifiedBefore a))
   count-same =
-      ap ones (present-before (mixOf a) (no-hydrogen a none) ∙ present-same (mixOf a) (simplifiedBefore a) amount-same HYDROCARBONS)
+      ap ones (present-before (mixOf a) (no-hydrogen a none)
+      ∙ present-same (mixOf a) (simplifiedBefore a) amount-same HYDROCARBONS)
 
   -- the same refusal,
   pub refusal-kept : ratingRefusal a ≡ refusalBefore a
@@ -164,18 +169,21 @@ module _ (a : List ℕ) (none : getD a 15 0 ≡ 0) where
           let system = systemOf (systemsFor a) s in
           let offered = choosable a on .offered s h in
           let four = ap (elem system) (candidates-before (mixOf a) (no-hydrogen a none)) in
-          negation (hasOf system HYDROGEN) (sym (sym four ∙ offered) ∙ hydrocarbons-are system (chosen a on .known s h))
+          negation (hasOf system HYDROGEN)
+          (sym (sym four ∙ offered) ∙ hydrocarbons-are system (chosen a on .known s h))
 
   -- so it is answered as it was: to every proposed split,
   pub split-kept : (p : Split) (code : ℕ) → splitAnswer a p code ≡ splitBefore a p code
   unfolding splitAnswer splitBefore
   split-kept p code =
       go (eqb (ratingRefusal a) 0) refl
-      ∙ (λ j. checkedBy (refusal-kept j) code (splitWith (choice-kept j .systems) (choice-kept j .count) (simplifiedBefore a) (inert-kept a none j) p))
+      ∙ (λ j. checkedBy (refusal-kept j) code
+      (splitWith (choice-kept j .systems) (choice-kept j .count) (simplifiedBefore a) (inert-kept a none j) p))
     where
       go : (b : Bool) → eqb (ratingRefusal a) 0 ≡ b
           → checkedBy (ratingRefusal a) code (splitBy (systemsFor a) (countFor a) (mixOf a) (inertFirst a) p)
-          ≡ checkedBy (ratingRefusal a) code (splitWith (systemsFor a) (countFor a) (simplifiedBefore a) (inertFirst a) p)
+          ≡ checkedBy (ratingRefusal a) code
+          (splitWith (systemsFor a) (countFor a) (simplifiedBefore a) (inertFirst a) p)
       go true e =
           let on = eqb-true (ratingRefusal a) 0 e in
           ap (checkedBy (ratingRefusal a) code)
@@ -187,32 +195,37 @@ module _ (a : List ℕ) (none : getD a 15 0 ≡ 0) where
   unfolding searchOutcome searchBefore
   search-kept-all allowance code =
       go (eqb (ratingRefusal a) 0) refl
-      ∙ (λ j. searchOutcomeWith (refusal-kept j) (choice-kept j) (simplifiedBefore a) (inert-kept a none j) allowance code)
+      ∙ (λ j. searchOutcomeWith (refusal-kept j) (choice-kept j) (simplifiedBefore a)
+      (inert-kept a none j) allowance code)
     where
       go : (b : Bool) → eqb (ratingRefusal a) 0 ≡ b
           → searchOutcomeBy (ratingRefusal a) (choiceOf (mixOf a)) a allowance code
-          ≡ searchOutcomeWith (ratingRefusal a) (choiceOf (mixOf a)) (simplifiedBefore a) (inertFirst a) allowance code
+          ≡ searchOutcomeWith (ratingRefusal a) (choiceOf (mixOf a)) (simplifiedBefore a)
+          (inertFirst a) allowance code
       go true e =
           let on = eqb-true (ratingRefusal a) 0 e in
           ap (λ (x : Outcome). ifElse (eqb (ratingRefusal a) 0) x
           (outcome (Refused (ratingRefusal a) (ifElse (eqb (ratingRefusal a) 5) code 0)) noSplit))
           (sym (found-same (systemsFor a) (countFor a) (without on) (simplifiedBefore a) (mixOf a) no (inertFirst a) _ _
-          (search-kept (systemsFor a) (countFor a) (without on) (simplifiedBefore a) (mixOf a) no LIMIT LEVEL (min allowance ROUNDS))))
+          (search-kept (systemsFor a) (countFor a) (without on) (simplifiedBefore a) (mixOf a) no LIMIT LEVEL
+          (min allowance ROUNDS))))
       go false e = rw e
 
 -- ---- a sheet
 
--- one with two sections of counts that are allowed, as those from before are (`Pinned.counts-kept`), with codes in order,
--- none listed at 0, and with an analysis that 5 and 6 let pass then, is read, with these contents
+-- one with two sections of counts that are allowed, as those from before are (`Pinned.counts-kept`), with codes in
+-- order, none listed at 0, and with an analysis that 5 and 6 let pass then, is read, with these contents
 pub sheet-read-kept : (s : List ℕ) (code n m first : ℕ) → sectionsOf s ≡ Both n m first
-    → codesReading n s 1 0 0 ≡ Read → zeroListed n s 1 ≡ false → refusalIn registerBefore (amountsOf n s) ≡ 0
+    → codesReading n s 1 0 0 ≡ Read → zeroListed n s 1 ≡ false
+    → refusalIn registerBefore (amountsOf n s) ≡ 0
     → readOf s code ≡ contentOf n m first s
 sheet-read-kept s code n m first sections codes none before =
     read-good s code n m first sections codes
     (amounts-checked n s none ∙ check.before-exactly-when (amountsOf n s) (amounts-long n s 1 _) .0 before .0)
 
 -- and answered as it was: by the search, or by its own split
-module _ (s : List ℕ) (code : ℕ) (h : readOf s code .answer ≡ Read) (none : getD (analysisIn s code) 15 0 ≡ 0) where
+module _ (s : List ℕ) (code : ℕ) (h : readOf s code .answer ≡ Read)
+    (none : getD (analysisIn s code) 15 0 ≡ 0) where
   pub sheet-search-kept : readOf s code .split .count ≡ 0
       → sheetOutcome s code ≡ searchBefore (analysisIn s code) ROUNDS code
   sheet-search-kept e = read-searched s code h e ∙ search-kept-all (analysisIn s code) none ROUNDS code

@@ -15,7 +15,8 @@ tableA1 = 0 ∷ 970797 ∷ 16658 ∷ 2417 ∷ 346 ∷ 245 ∷ 11 ∷ 73 ∷ 125 
 pub total : totalOf tableA1 ≡ 999999
 total = refl
 
-pub marked : (simplifiedOf tableA1 ≡ 979229 ∷ 16803 ∷ 2438 ∷ 1530 ∷ 0 ∷ []) × (inertOf tableA1 ≡ 999468 ∷ 532 ∷ 0 ∷ [])
+pub marked : (simplifiedOf tableA1 ≡ 979229 ∷ 16803 ∷ 2438 ∷ 1530 ∷ 0 ∷ [])
+    × (inertOf tableA1 ≡ 999468 ∷ 532 ∷ 0 ∷ [])
 unfolding greatestTo distributed scaledOf tenthsOf methaneShare
 marked = (refl, refl)
 

@@ -356,7 +356,7 @@ module _ (ch : List ℕ) (k count : ℕ) (systems codes : List ℕ) where
         let p₁ : suc (3 * s) ≡ 3 * s + 1 = omega arith in
         let p₂ : suc (suc (3 * s)) ≡ 3 * s + 2 = omega arith in
         let m₀ = ap (matchesAt ch k systems codes) p₀ ∙ record-fits s 0 in-range (omega arith)
-            ∙ ap (λ (r : ℕ). recordFits r s 0) (sym p₀) ∙ sym e₀ in
+        ∙ ap (λ (r : ℕ). recordFits r s 0) (sym p₀) ∙ sym e₀ in
         let m₁ = ap (matchesAt ch k systems codes) p₁ ∙ record-fits s 1 in-range (omega arith) ∙ sym e₁ in
         let m₂ = ap (matchesAt ch k systems codes) p₂ ∙ record-fits s 2 in-range (omega arith) ∙ sym e₂ in
         ap (allTo (matchesAt ch k systems codes)) q ∙ three-last (matchesAt ch k systems codes) (3 * s) x y z m₀ m₁ m₂

@@ -1,5 +1,5 @@
--- No chosen system is one that request Six left out (document 02, Six and Seven): every candidate keeps the rule of Table
--- A.2. So no blend is refused 13, and the number of a mixture is 16 or none. Assumes nothing.
+-- No chosen system is one that request Six left out (document 02, Six and Seven): every candidate keeps the rule of
+-- Table A.2. So no blend is refused 13, and the number of a mixture is 16 or none. Assumes nothing.
 use mathlib.Core.Path.{_≡_, refl, _∙_}
 use mathlib.Core.Bool.{Bool, true, false, cond}
 use mathlib.Core.List.{List, [], _∷_, _++_}
@@ -13,7 +13,8 @@ use Rattle.formula.specs.Coefficients.{placeIn, keepsRule, isSystem}
 use Rattle.analysis.specs.Register.{ifElse}
 use Rattle.analysis.specs.Check.{allInRange, totalOf, totalFits, refusalBy, refusalOf}
 use Rattle.systems.specs.Systems.{HYDROGEN, candidates}
-use Rattle.systems.specs.Choice.{inMask, presentOf, presentCount, fold, isChosen, listOf, chosenOf, candidatesFor, candidatesOf}
+use Rattle.systems.specs.Choice.{inMask, presentOf, presentCount, fold, isChosen, listOf, chosenOf, candidatesFor}
+use Rattle.systems.specs.Choice.{candidatesOf}
 use Rattle.systems.specs.Choice.{chooseOf}
 use Rattle.rating.specs.Rate.{FEWEST, mixOf, mixtureRefusal, ratingRefusal}
 
@@ -36,7 +37,8 @@ both-of : (t u : Bool) → cond t u false ≡ true → (t ≡ true) × (u ≡ tr
 both-of true u h = (refl, h)
 both-of false u h = let z : _≡_ {A = ℕ} 0 1 = cc in absurd (omega arith)
 
-each-end : (test : ℕ → Bool) (xs : List ℕ) (x : ℕ) → each test xs ≡ true → test x ≡ true → each test (xs ++ (x ∷ [])) ≡ true
+each-end : (test : ℕ → Bool) (xs : List ℕ) (x : ℕ) → each test xs ≡ true → test x ≡ true
+    → each test (xs ++ (x ∷ [])) ≡ true
 each-end test [] x h t = rw t
 each-end test (y ∷ ys) x h t =
     let (p, q) = both-of (test y) (each test ys) h in
@@ -51,7 +53,8 @@ chosen-from test marks (s ∷ ss) chosen h c =
     go (isChosen marks s) (both-of (test s) (each test ss) h) (λ l u v. chosen-from test marks ss l u v)
   where
     go : (b : Bool) → (test s ≡ true) × (each test ss ≡ true)
-        → ((l : List ℕ) → each test ss ≡ true → each test l ≡ true → each test (fold (listOf marks) ss l) ≡ true)
+        → ((l : List ℕ) → each test ss ≡ true → each test l ≡ true
+        → each test (fold (listOf marks) ss l) ≡ true)
         → each test (fold (listOf marks) ss (elim b [ true ↦ chosen ++ (s ∷ []) | false ↦ chosen ])) ≡ true
     go true (t, u) rest = rest (chosen ++ (s ∷ [])) u (each-end test chosen s c t)
     go false (t, u) rest = rest chosen u c
@@ -86,7 +89,8 @@ pub never-refused : (a : List ℕ) → ratingRefusal a ≡ NO_SYSTEM → ⊥
 unfolding ratingRefusal refusalOf
 never-refused a e = go (allInRange 0 a) (totalFits (totalOf a)) e
   where
-    go : (t u : Bool) → ifElse (eqb (refusalBy t u) 0) (mixtureRefusal (mixOf a)) (refusalBy t u) ≡ NO_SYSTEM → ⊥
+    go : (t u : Bool) → ifElse (eqb (refusalBy t u) 0) (mixtureRefusal (mixOf a)) (refusalBy t u) ≡ NO_SYSTEM
+        → ⊥
     go true true h = never-left-out (mixOf a) h
     go true false h = omega arith
     go false u h = omega arith

@@ -55,8 +55,9 @@ countFor a = choiceOf (simplifiedOf a) .count
 abbrev pub FEWEST : ℕ
 FEWEST = 2
 
--- the number of a mixture: 16 where fewer than two of the five components are present after simplification (document 02,
--- Five), then 13 where a chosen system is none of Table A.2 that keeps its rule (Six, Seven); none is (`LeftOut`); else 0
+-- the number of a mixture: 16 where fewer than two of the five components are present after simplification (document
+-- 02, Five), then 13 where a chosen system is none of Table A.2 that keeps its rule (Six, Seven); none is
+-- (`LeftOut`); else 0
 unfoldable pub mixtureRefusal : List ℕ → ℕ
 mixtureRefusal mix = ifElse (ltb (presentCount mix) FEWEST) TOO_FEW (ifElse (each isSystem (chooseOf mix)) 0 NO_SYSTEM)
 

@@ -1,4 +1,5 @@
--- The analyses that are rated on: 5, 6, 16 and then 13, which turns none away, let them pass. By cases. Assumes nothing.
+-- The analyses that are rated on: 5, 6, 16 and then 13, which turns none away, let them pass. By cases. Assumes
+-- nothing.
 use mathlib.Core.Path.{_≡_, refl}
 use mathlib.Core.Bool.{Bool, true, false}
 use mathlib.Core.List.{List}
@@ -31,7 +32,8 @@ module _ (a : List ℕ) where
   -- rated on is in range with two components present at least
   pub on-passed : RatedOn a → InRange a × (FEWEST ≤ presentCount (mixOf a))
   unfolding ratingRefusal
-  on-passed h = go (eqb (refusalOf a) 0) (ltb (presentCount (mixOf a)) FEWEST) refl refl (rw (mixture-number (mixOf a)) at h)
+  on-passed h = go (eqb (refusalOf a) 0) (ltb (presentCount (mixOf a)) FEWEST) refl refl
+      (rw (mixture-number (mixOf a)) at h)
     where
       go : (t u : Bool) → eqb (refusalOf a) 0 ≡ t → ltb (presentCount (mixOf a)) FEWEST ≡ u
           → ifElse t (ifElse u TOO_FEW 0) (refusalOf a) ≡ 0 → InRange a × (FEWEST ≤ presentCount (mixOf a))

@@ -1,5 +1,5 @@
--- What holds of an analysis that 5, 6, 16 and 13 let pass: its mixture, its chosen systems and its inert mixture are such
--- that every split of them can be worked out and the search can begin. Assumes nothing.
+-- What holds of an analysis that 5, 6, 16 and 13 let pass: its mixture, its chosen systems and its inert mixture are
+-- such that every split of them can be worked out and the search can begin. Assumes nothing.
 use mathlib.Core.Path.{_≡_, refl, sym, ap, _∙_}
 use mathlib.Core.List.{List}
 use mathlib.Core.Bool.{Bool, true, false, cond}
@@ -43,7 +43,13 @@ total-to : (mix : List ℕ) (n : ℕ) → n ≤ length mix
 unfolding sumTo
 total-to mix zero h = zero-add (analysis.totalOf mix)
 total-to mix (suc n) h =
-    omega (arith, total-to mix n (omega arith), total-go n mix (omega arith), ap (λ (k : ℕ). analysis.totalOf (drop k mix)) (add-one n))
+    omega (
+      arith,
+      total-to mix n (omega arith),
+      total-go n mix (omega arith),
+      ap
+          (λ (k : ℕ). analysis.totalOf (drop k mix)) (add-one n),
+    )
 
 total-is : (mix : List ℕ) → length mix ≡ COMPONENTS → analysis.totalOf mix ≡ totalOf mix
 total-is mix h = omega (arith, total-to mix COMPONENTS (omega arith), total-end COMPONENTS mix (omega arith))

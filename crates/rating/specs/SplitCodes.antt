@@ -1,6 +1,6 @@
 -- The codes of a split's records are keys of the register that are legal there (document 01, "The register and the
--- sheet"): those of methane, ethane, propane and hydrogen, which are live, and 14, which is legal in splits only. Assumes
--- nothing.
+-- sheet"): those of methane, ethane, propane and hydrogen, which are live, and 14, which is legal in splits only.
+-- Assumes nothing.
 use mathlib.Core.Path.{_≡_, refl}
 use mathlib.Core.Bool.{Bool, true, false, _&&_}
 use mathlib.Core.List.{List, [], _∷_}

@@ -57,9 +57,9 @@ abbrev pub SHARE : ℕ
 SHARE = 17
 
 -- what a refusal is tested of: 1 of the whole sheet, first; 2 to 4 record by record; then 5 and 6 of an analysis, and
--- with rating 16 of its simplified mixture, then 13 of its chosen systems; then 7 to 10 of a proposed split, or 11 of the
--- search. Of a partial number 13, which its entry names, comes first, then 12, then 17; the writer tests its buffer after
--- the analysis.
+-- with rating 16 of its simplified mixture, then 13 of its chosen systems; then 7 to 10 of a proposed split, or 11 of
+-- the search. Of a partial number 13, which its entry names, comes first, then 12, then 17; the writer tests its
+-- buffer after the analysis.
 pub data Tested : Type 0 where
   wholeSheet : Tested
   componentRecord : Tested

@@ -214,7 +214,8 @@ unlisted : (es : List Entry) (c : ℕ) → isIn c (keysOf es) ≡ false → stat
 unlisted [] c h = refl
 unlisted (e ∷ es) c h = go (eqb c (e .code)) h (λ t. unlisted es c t)
   where
-    go : (b : Bool) → cond b true (isIn c (keysOf es)) ≡ false → (isIn c (keysOf es) ≡ false → statusIn es c ≡ unknown)
+    go : (b : Bool) → cond b true (isIn c (keysOf es)) ≡ false
+        → (isIn c (keysOf es) ≡ false → statusIn es c ≡ unknown)
         → ifElse b (e .status) (statusIn es c) ≡ unknown
     go true h rest = let y : _≡_ {A = ℕ} 0 1 = cc in absurd (omega arith)
     go false h rest = rest h

@@ -35,11 +35,13 @@ six-missing : readOf (0 ∷ 6 ∷ []) 0 ≡ refusedSheet (Refused 1 0 0)
 unfolding readOf readBy sectionsOf sectionAt endAt tornOr allowedCount
 six-missing = refl
 
-counts-allowed : (allowedCount 0 ≡ true) × (allowedCount 6 ≡ true) × (allowedCount 9 ≡ true) × (allowedCount 21 ≡ true)
+counts-allowed : (allowedCount 0 ≡ true) × (allowedCount 6 ≡ true) × (allowedCount 9 ≡ true)
+    × (allowedCount 21 ≡ true)
 unfolding allowedCount
 counts-allowed = (refl, refl, refl, refl)
 
-counts-refused : (allowedCount 3 ≡ false) × (allowedCount 10 ≡ false) × (allowedCount 20 ≡ false) × (allowedCount 24 ≡ false)
+counts-refused : (allowedCount 3 ≡ false) × (allowedCount 10 ≡ false) × (allowedCount 20 ≡ false)
+    × (allowedCount 24 ≡ false)
 unfolding allowedCount
 counts-refused = (refl, refl, refl, refl)
 
@@ -58,10 +60,11 @@ table-a1-length = refl
 -- the same with ten parts of its methane as hydrogen: every component that a sheet may list
 abbrev withHydrogen : List ℕ
 withHydrogen =
-    0 ∷ 970787 ∷ 16658 ∷ 2417 ∷ 346 ∷ 245 ∷ 11 ∷ 73 ∷ 125 ∷ 0 ∷ 84 ∷ 528 ∷ 8715 ∷ 0 ∷ 0 ∷ 10 ∷ []
+    0 ∷ 970787 ∷ 16658 ∷ 2417 ∷ 346 ∷ 245 ∷ 11 ∷ 73 ∷ 125 ∷ 0 ∷ 84 ∷ 528 ∷ 8715 ∷ 0 ∷
+    0 ∷ 10 ∷ []
 
--- the longest sheet is 188 bytes: none is longer (`RoundTrip.longest-written`, `longest-read`), and that of this gas with 21
--- records is as long
+-- the longest sheet is 188 bytes: none is longer (`RoundTrip.longest-written`, `longest-read`), and that of this gas
+-- with 21 records is as long
 longest : SHEET ≡ 188
 longest = refl
 
@@ -74,6 +77,7 @@ allRecords =
       amounts = replicate RECORDS 0;
     }
 
-longest-reached : (writeRefusal withHydrogen allRecords SHEET ≡ 0) × (length (sheetOf withHydrogen allRecords) ≡ SHEET)
+longest-reached : (writeRefusal withHydrogen allRecords SHEET ≡ 0)
+    × (length (sheetOf withHydrogen allRecords) ≡ SHEET)
 unfolding writeRefusal allowedCount refusalOf inRange totalFits statusOf
 longest-reached = (refl, refl)

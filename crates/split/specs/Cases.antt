@@ -17,7 +17,8 @@ use Rattle.split.specs.Move.{firstOf}
 use Rattle.split.specs.Search.{goOn, turnOf, runOf}
 
 -- the nine records of the start among systems 4, 7 and 8: odd parts stand with the lower system numbers
-pub starts : amountsOf (4 ∷ 7 ∷ 8 ∷ []) 3 (startOf (979229 ∷ 16803 ∷ 2438 ∷ 1530 ∷ 0 ∷ []) (4 ∷ 7 ∷ 8 ∷ []) 3)
+pub starts : amountsOf (4 ∷ 7 ∷ 8 ∷ []) 3
+    (startOf (979229 ∷ 16803 ∷ 2438 ∷ 1530 ∷ 0 ∷ []) (4 ∷ 7 ∷ 8 ∷ []) 3)
     ≡ 326410 ∷ 8402 ∷ 1219 ∷ 326410 ∷ 1219 ∷ 765 ∷ 326409 ∷ 8401 ∷ 765 ∷ replicate 12 0
 unfolding sumTo first table heldOf rankOf componentAt amountsOf sharersOf shareOf givenOf startOf hasOf memberOf
 starts = refl

@@ -25,7 +25,8 @@ pub cut : (squareOf (pos 19999) (pos 10000) ≡ 0) × (squareOf (pos 9999) (negs
 unfolding squareOf
 cut = (refl, refl, refl)
 
-pub example : proposedOf 500000 chosen 3 (979229 ∷ 16803 ∷ 2438 ∷ 1530 ∷ 0 ∷ []) (cellsOf chosen 3 amounts) 999468 ≡ Rated (pos 910787384) 369794 0
+pub example : proposedOf 500000 chosen 3 (979229 ∷ 16803 ∷ 2438 ∷ 1530 ∷ 0 ∷ [])
+    (cellsOf chosen 3 amounts) 999468 ≡ Rated (pos 910787384) 369794 0
 unfolding worked rowsOf horner coefs sumAbs placeIn keepsRule isSystem tableOf partialNumber memberOf hasOf
     sumTo sumToZ greatestTo leastTo allTo someTo table partsOf columnOf numberAt heldOf rankOf cellsOf spreadOf
     weightedOf meanOf inertNumber ratingOf resums someEmpty proposedOf

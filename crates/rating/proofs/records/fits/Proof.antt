@@ -71,7 +71,7 @@ matches-requires-3 : tie.Need-matches-requires-3 Inv-loop μ-loop
 matches-requires-3 c κs = (c .before .before .before .before .before .pre .0 .known _ (omega (arith, c .before .before .before .loop .inv .most, c .before .before .loop-test .taken)), omega arith)
 
 returns-2 : tie.Need-returns-2 Inv-loop μ-loop
-returns-2 c = 
+returns-2 c =
     let l = c .before .before .before .before .before in
     row-fails _ _ _ _ _ (l .loop .s) _ (l .loop .inv) (omega (arith, c .before .before .before .before .loop-test .taken)) _ _ _
     (c .before .before .before .matches .ensures) (c .before .before .matches2 .ensures) (c .before .matches3 .ensures) (c .if2 .taken)
@@ -80,7 +80,7 @@ loop-less : tie.Need-loop-less Inv-loop μ-loop
 loop-less c = omega (arith, c .before .before .before .before .loop-test .taken)
 
 loop-again : tie.Need-loop-again Inv-loop μ-loop
-loop-again c = 
+loop-again c =
     let l = c .before .before .before .before .before in
     row-fits _ _ _ _ _ (l .loop .s) _ (l .loop .inv) (omega (arith, c .before .before .before .before .loop-test .taken)) _ _ _
     (c .before .before .before .matches .ensures) (c .before .before .matches2 .ensures) (c .before .matches3 .ensures) (c .if2 .left)
