@@ -1,4 +1,4 @@
-/* Saugrinte: the methane number of a natural gas by the MWM method.
+/* Saugrinte: the methane number of a gas by the MWM method.
 
    A part is 0.0001 % by volume. A unit is 0.0000001 of a methane number.
 
@@ -30,8 +30,8 @@
    another argument.
 
    Platform: the archive is for x86-64 Linux with its usual calling convention; the toolchain makes no other.
-   Stack, measured: saugrinte_rate and saugrinte_search 4 KiB, saugrinte_rate_split 2 KiB, all others 1 KiB at most.
-   Longest call of the sheets in tests/data, measured on an Intel Xeon (family 6, model 173): 0.5 ms for saugrinte_rate
+   Stack, measured: saugrinte_rate 4.2 KB, saugrinte_search 3.9 KB, saugrinte_rate_split 2.2 KB, all others 1 KB at most.
+   Longest call of the sheets in tests/data, measured on an Intel Xeon (family 6, model 207): 0.8 ms for saugrinte_rate
    and saugrinte_search, of a gas whose search uses all 4000 rounds; all others 1 microsecond. tests/bench/limits.c measures both. */
 #ifndef SAUGRINTE_H
 #define SAUGRINTE_H

@@ -101,8 +101,12 @@ pub fn rate_by_search(a: Analysis, allowance: u32) -> Outcome
                 return refused(TOO_FEW, 0);
             }
             let choice = choice::choose(mix);
-            let found = search::find(mix, choice, LIMIT, LEVEL, at_most(allowance));
-            found_outcome(choice, mix, inert, found)
+            found_outcome(
+                choice,
+                mix,
+                inert,
+                search::find(mix, choice, LIMIT, LEVEL, at_most(allowance)),
+            )
         }
     }
 }
@@ -159,8 +163,13 @@ fn split_by(choice: Choice, mix: [u32; COMPONENTS], n1: u32, p: Split) -> Answer
             place: 0,
         };
     }
-    let cells = records::cells_of(systems, count, amounts);
-    answer_of(proposal::proposed(LIMIT, choice, mix, cells, n1))
+    answer_of(proposal::proposed(
+        LIMIT,
+        choice,
+        mix,
+        records::cells_of(systems, count, amounts),
+        n1,
+    ))
 }
 
 // The answer to a proposed split of input that is fit.
