@@ -155,9 +155,9 @@ fn rated(limit: u64, v: &[i64; SYSTEMS], p: &[u32; SYSTEMS], k: usize, n1: u32) 
 }
 
 // The answer to cells that re-sum: 9 where a system is empty, else as their rows are rated.
-fn weighed(limit: u64, choice: Choice, cells: [u32; CELLS], n1: u32) -> Answer
-    requires { ⌜ Stock (choice .systems) (choice .count) cells × (n1 ≤ 1000000) ⌝ }
-    ensures { λ r. ⌜ r ≡ weighedOf limit (choice .systems) (choice .count) cells n1 ⌝ }
+fn weighed(limit: u64, choice: Choice, cells: &[u32; CELLS], n1: u32) -> Answer
+    requires { ⌜ Stock (choice .systems) (choice .count) (now cells) × (n1 ≤ 1000000) ⌝ }
+    ensures { λ r. ⌜ r ≡ weighedOf limit (choice .systems) (choice .count) (now (cells .entry)) n1 ⌝ }
 {
     let rows = rows::evaluate(choice, cells);
     let fit = rows.fit;
@@ -197,5 +197,5 @@ pub fn proposed(
     if !resums(&mix, choice.count, &cells) {
         return split::Proposed::Answered(refused(UNSUMMED));
     }
-    split::Proposed::Answered(weighed(limit, choice, cells, n1))
+    split::Proposed::Answered(weighed(limit, choice, &cells, n1))
 }

@@ -76,8 +76,8 @@ fn unfit() -> Rows
 }
 
 // What the rows of the chosen systems come to.
-pub fn evaluate(choice: Choice, cells: [u32; CELLS]) -> Rows
-    ensures { λ r. ⌜ r ≡ rowsOf (choice .systems) (choice .count) cells ⌝ }
+pub fn evaluate(choice: Choice, cells: &[u32; CELLS]) -> Rows
+    ensures { λ r. ⌜ r ≡ rowsOf (choice .systems) (choice .count) (now (cells .entry)) ⌝ }
 {
     let ch = choice.systems;
     let k = choice.count;
@@ -88,11 +88,11 @@ pub fn evaluate(choice: Choice, cells: [u32; CELLS]) -> Rows
     let mut shares = [0u32; SYSTEMS];
     let mut s = 0;
     while s < k {
-        let p = answer(ch[s], &cells, s);
+        let p = answer(ch[s], cells, s);
         match p {
             Partial::Number(x) => {
                 numbers[s] = x;
-                shares[s] = parts(ch[s], &cells, s);
+                shares[s] = parts(ch[s], cells, s);
             }
             Partial::Refused(_) => {
                 return unfit();
