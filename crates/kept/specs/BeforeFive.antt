@@ -32,7 +32,7 @@ use Rattle.mixture.specs.Simplification.{tenthsOf}
 use Rattle.mixture.specs.Marked.{tableA1, methaneEthane}
 use Rattle.mixture.specs.Bounds.{simplified-methane, simplified-least}
 use Rattle.systems.specs.Systems.{hydrocarbonSystems}
-use Rattle.systems.specs.Choice.{hydrocarbonOrder, fitnessOf, chooseBy, answerOf, choiceOf}
+use Rattle.systems.specs.Choice.{hydrocarbonOrder, fitnessOf, chooseBy, answerOf}
 use Rattle.systems.specs.Presence.{two-present}
 use Rattle.systems.specs.Without.{HYDROCARBONS, fitness-same}
 use Rattle.systems.specs.Full.{four-fittest}
@@ -49,7 +49,7 @@ use Rattle.demand.specs.RatedSheets.{analysisIn}
 use Rattle.kept.specs.BeforeCheck as check
 use Rattle.kept.specs.BeforeCheck.{registerBefore}
 use Rattle.kept.specs.BeforeMixture.{simplifiedBefore, inertBefore, no-hydrogen}
-use Rattle.kept.specs.Before.{splitAnswerWith, searchOutcomeWith, choiceBefore, refusalBefore, splitBefore}
+use Rattle.kept.specs.Before.{splitAnswerWith, searchOutcomeWith, choiceBefore, splitBefore}
 use Rattle.kept.specs.Before.{searchBefore}
 use Rattle.kept.specs.WithoutHydrogen as seven
 

@@ -16,6 +16,7 @@ use Rattle.mixture.specs.Scaling.{WHOLE, quotientOf, remainderOf, quotientsOf, 
 use Rattle.mixture.specs.Scaling.{greatestTo, greatestPlace, oneMore, distributed, scaledOf}
 use Rattle.mixture.specs.Simplification.{amountOf, butaneOf, tenthsOf, tenthsTotal, simplifiedOf}
 use Rattle.mixture.specs.Inert.{methaneShare, inertFirst}
+use Rattle.systems.specs.Without.{HYDROCARBONS}
 use Rattle.mixture.specs.Total.{greatest-below, scaled-length}
 
 -- ---- as it was
@@ -32,7 +33,7 @@ simplifiedBefore a = scaledOf (tenthsBefore a)
 abbrev pub inertBefore : List ℕ → ℕ
 inertBefore a = methaneShare (totalOf (tenthsBefore a)) (amountOf a 11)
 
-pub before-length : (a : List ℕ) → length (simplifiedBefore a) ≡ 4
+pub before-length : (a : List ℕ) → length (simplifiedBefore a) ≡ HYDROCARBONS
 unfolding tenthsBefore
 before-length a = scaled-length (tenthsBefore a)
 
@@ -134,11 +135,6 @@ module _ (a : List ℕ) (none : getD a 15 0 ≡ 0) where
     where
       filled : 0 < length (tenthsBefore a)
       filled = omega (arith, before-length a, scaled-length (tenthsBefore a))
-
-  pub component-kept : (c : ℕ) → c < 4 → getD (simplifiedOf a) c 0 ≡ getD (simplifiedBefore a) c 0
-  component-kept c l =
-      ap (λ (xs : List ℕ). getD xs c 0) simplified-kept
-      ∙ List·getD-append (simplifiedBefore a) (0 ∷ []) 0 c (omega (arith, before-length a))
 
   pub no-hydrogen : getD (simplifiedOf a) 4 0 ≡ 0
   no-hydrogen =

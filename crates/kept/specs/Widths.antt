@@ -9,6 +9,7 @@ use lib.ListN.{getD}
 use lib.IntN.{ℤ, pos, negsuc, _+ℤ_, _*ℤ_}
 use lib.Signed.{quotZ}
 use Rattle.formula.specs.Partial.{partialNumber}
+use Rattle.systems.specs.Without.{HYDROCARBONS}
 use Rattle.systems.specs.Systems.{COMPONENTS, memberOf, hasOf}
 use Rattle.split.specs.Fold.{sumTo, sumToZ, allTo, someTo, first, table}
 use Rattle.split.specs.Split.{SYSTEMS, RECORDS, systemOf, both, heldOf, rankOf}
@@ -25,7 +26,7 @@ use Rattle.split.specs.declared.Found.{Found}
 
 -- the components before hydrogen: methane, ethane, propane, butane; hydrogen's number is this one
 abbrev pub BEFORE : ℕ
-BEFORE = 4
+BEFORE = HYDROCARBONS
 
 -- the components with hydrogen: today's
 abbrev pub BLEND : ℕ

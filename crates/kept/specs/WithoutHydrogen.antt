@@ -7,16 +7,13 @@
 use mathlib.Core.Path.{_≡_, refl, sym, ap, ap₂, _∙_}
 use mathlib.Core.Bool.{Bool, true, false, not}
 use mathlib.Core.List.{List, [], _∷_, _++_}
-use mathlib.Core.Logic.{_↔_}
 use Prim.Native.Nat.{ℕ, zero, suc, _*_, _/_, _%_, _<_, min}
 use native.Mathlib.Omega.{arith}
 use lib.Count.{ones}
 use lib.Dec.{eqb, ltb}
-use lib.ListN.{getD, length}
-use borrow.Author.Tests.{eqb-true, ltb-true, ltb-false, lt-ltb, le-ltb}
-use Rattle.refusal.specs.Register.{TOO_FEW}
-use Rattle.analysis.specs.Register.{CODES, ifElse}
-use Rattle.analysis.specs.Check.{refusalOf}
+use lib.ListN.{getD}
+use borrow.Author.Tests.{eqb-true, ltb-true}
+use Rattle.analysis.specs.Register.{ifElse}
 use Rattle.analysis.specs.Required.{refusalIn}
 use Rattle.sheet.specs.Split.{noSplit}
 use Rattle.sheet.specs.Components.{codesReading, zeroListed}
@@ -26,19 +23,14 @@ use Rattle.sheet.specs.Cases.{read-good, amounts-checked}
 use Rattle.sheet.specs.declared.Sections.the-variants.{Both}
 use Rattle.sheet.specs.declared.Split.{Split}
 use Rattle.sheet.specs.declared.Reading.the-variants.{Read}
-use Rattle.mixture.specs.Simplification.{simplifiedOf}
 use Rattle.mixture.specs.Inert.{inertFirst}
-use Rattle.systems.specs.Systems.{HYDROGEN, hasOf, elem, hydrocarbonSystems}
+use Rattle.systems.specs.Systems.{HYDROGEN, hasOf, elem}
 use Rattle.systems.specs.Members.{hydrocarbons-are}
-use Rattle.systems.specs.Choice.{presentTo, presentOf, presentCount, answerOf, choiceOf, candidatesOf}
-use Rattle.systems.specs.Without.{HYDROCARBONS, chooseBefore, present-before, candidates-before, choose-before}
+use Rattle.systems.specs.Choice.{presentTo, presentCount, answerOf, choiceOf}
+use Rattle.systems.specs.Without.{HYDROCARBONS, present-before, candidates-before, choose-before}
 use Rattle.systems.specs.Without.{present-same, before-same}
-use Rattle.systems.specs.declared.Choice.{Choice}
-use Rattle.split.specs.Fold.{allTo, table}
 use Rattle.split.specs.Split.{RECORDS, both, systemOf}
-use Rattle.split.specs.Rating.{ratingOf, proposedOf}
-use Rattle.split.specs.Start.{startOf}
-use Rattle.split.specs.Search.{LEVEL, searchOf}
+use Rattle.split.specs.Search.{LEVEL}
 use Rattle.split.specs.declared.Answer.{Answer}
 use Rattle.split.specs.declared.Answer.the-variants.{Rated, Refused}
 use Rattle.split.specs.declared.Search.{Search}
@@ -49,7 +41,7 @@ use Rattle.rating.specs.Rate.{LIMIT, ROUNDS, mixOf, systemsFor, countFor, ratin
 use Rattle.rating.specs.Rate.{splitAnswer}
 use Rattle.rating.specs.Rate.{outcome, recordsOf, foundBy, foundOutcome, searchOutcomeBy, searchOutcome, sheetOutcome}
 use Rattle.rating.specs.LeftOut.{mixture-number}
-use Rattle.rating.specs.RatedOn.{InRange, RatedOn}
+use Rattle.rating.specs.RatedOn.{RatedOn}
 use Rattle.rating.specs.Ready.{choosable, chosen}
 use Rattle.rating.specs.Ends.{amounts-long}
 use Rattle.rating.specs.declared.Outcome.{Outcome}
@@ -57,14 +49,13 @@ use Rattle.demand.specs.Sheets.{read-searched, read-own}
 use Rattle.demand.specs.RatedSheets.{analysisIn}
 use Rattle.kept.specs.BeforeCheck as check
 use Rattle.kept.specs.BeforeCheck.{registerBefore, without-kept}
-use Rattle.kept.specs.BeforeMixture.{simplifiedBefore, inertBefore, simplified-kept, no-hydrogen, inert-kept}
-use Rattle.kept.specs.Widths.{BEFORE, componentIn, cellsIn, ratingIn, proposedIn, startIn, searchIn}
-use Rattle.kept.specs.Today.{component-today}
+use Rattle.kept.specs.BeforeMixture.{simplifiedBefore, simplified-kept, no-hydrogen, inert-kept}
+use Rattle.kept.specs.Widths.{BEFORE}
 use Rattle.kept.specs.Steady.{all-same, table-same}
-use Rattle.kept.specs.Alike.{Without, component-same}
-use Rattle.kept.specs.WidthKept.{NoHydrogen, proposed-kept, search-kept, KeptSearch}
-use Rattle.kept.specs.Before.{codeBefore, codesBefore, matchesBefore, fitsBefore, splitWith, splitAnswerWith}
-use Rattle.kept.specs.Before.{recordsBefore, foundWith, foundOutcomeWith, searchedWith, searchOutcomeWith}
+use Rattle.kept.specs.Alike.{Without}
+use Rattle.kept.specs.WidthKept.{NoHydrogen, component-kept, proposed-kept, search-kept, KeptSearch}
+use Rattle.kept.specs.Before.{codeBefore, codesBefore, matchesBefore, fitsBefore, splitWith}
+use Rattle.kept.specs.Before.{recordsBefore, foundWith, foundOutcomeWith, searchOutcomeWith}
 use Rattle.kept.specs.Before.{choiceBefore, refusalBefore, splitBefore, searchBefore}
 
 -- ---- chosen systems without hydrogen: the records are the same
@@ -77,11 +68,7 @@ module _ (ch : List ℕ) (k : ℕ) (without : Without ch k) where
       go : (b : Bool) → ltb r (3 * k) ≡ b → codeBefore ch k r ≡ codeAt ch k r
       go true e =
           let l = ltb-true r (3 * k) e in
-          let known = without .known (r / 3) (omega arith) in
-          let lacks = without .lacks (r / 3) (omega arith) in
-          rw e
-          (ap codeOf (component-same (systemOf ch (r / 3)) known lacks (r % 3) (omega arith)
-          ∙ component-today (systemOf ch (r / 3)) (r % 3)))
+          rw e (ap codeOf (component-kept ch k without (r / 3) (r % 3) (omega arith) (omega arith)))
       go false e = rw e
 
   codes-same : codesBefore ch k ≡ codesOf ch k

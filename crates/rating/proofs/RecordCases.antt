@@ -181,7 +181,7 @@ module _ (ch : List ℕ) (k : ℕ) (xs : List ℕ) (chosen : Chosen ch k) where
     rank : rankOf (systemOf ch (r / 3)) c ≡ r % 3
     rank = rw e (rank-component (systemOf ch (r / 3)) known (r % 3) (omega arith))
 
-    pub cell-low : r / 3 * COMPONENTS + c < CELLS
+    cell-low : r / 3 * COMPONENTS + c < CELLS
     cell-low = omega (arith, low, chosen .most)
 
     -- the cell's row and component
@@ -319,10 +319,7 @@ module _ (ch : List ℕ) (k count : ℕ) (systems codes : List ℕ) where
   unfolding matchesAt
   match-in r h = ap₂ (λ (x y : ℕ). both (eqb (getD systems r 0) x) (eqb (getD codes r 0) y)) (system-in ch k r h) (code-in ch k r h)
 
-  -- from the records below r, the last of which is tested first
-  abbrev expectedAt : ℕ → Bool
-  expectedAt r = both (eqb (getD systems r 0) (systemOf ch (r / 3))) (eqb (getD codes r 0) (codeOf (componentAt (systemOf ch (r / 3)) (r % 3))))
-
+  -- the records below r are still to be tested
   pub record Fitting (r : ℕ) : Type 0 where
     pub most : r ≤ 3 * k
     rest : fitsOf ch k count systems codes ≡ allTo (matchesAt ch k systems codes) r
