@@ -5,18 +5,17 @@ use mathlib.Core.Bool.{Bool, true, false, cond}
 use mathlib.Core.List.{List, [], _∷_, _++_}
 use Prim.Native.Nat.{ℕ}
 use native.Mathlib.Omega.{arith}
-use lib.Dec.{eqb, ltb}
+use lib.Dec.{ltb}
 use Rattle.refusal.specs.Keys.{each}
 use Rattle.refusal.specs.Register.{NO_SYSTEM, TOO_FEW}
 use Rattle.formula.specs.WorkingRule.{sumAbs}
 use Rattle.formula.specs.Coefficients.{placeIn, keepsRule, isSystem}
 use Rattle.analysis.specs.Register.{ifElse}
-use Rattle.analysis.specs.Check.{allInRange, totalOf, totalFits, refusalBy, refusalOf}
 use Rattle.systems.specs.Systems.{HYDROGEN, candidates}
 use Rattle.systems.specs.Choice.{inMask, presentOf, presentCount, fold, isChosen, listOf, chosenOf, candidatesFor}
 use Rattle.systems.specs.Choice.{candidatesOf}
 use Rattle.systems.specs.Choice.{chooseOf}
-use Rattle.rating.specs.Rate.{FEWEST, mixOf, mixtureRefusal, ratingRefusal}
+use Rattle.rating.specs.Rate.{FEWEST, mixtureRefusal}
 
 -- every candidate is a system of Table A.2 that keeps the rule
 pub candidates-kept : each isSystem candidates ≡ true
@@ -83,14 +82,3 @@ module _ (mix : List ℕ) where
       go : (b : Bool) → mixtureRefusal mix ≡ ifElse b TOO_FEW 0 → mixtureRefusal mix ≡ NO_SYSTEM → ⊥
       go true f g = omega arith
       go false f g = omega arith
-
--- so no analysis is: 5 or 6 comes from its check, and then 16
-pub never-refused : (a : List ℕ) → ratingRefusal a ≡ NO_SYSTEM → ⊥
-unfolding ratingRefusal refusalOf
-never-refused a e = go (allInRange 0 a) (totalFits (totalOf a)) e
-  where
-    go : (t u : Bool) → ifElse (eqb (refusalBy t u) 0) (mixtureRefusal (mixOf a)) (refusalBy t u) ≡ NO_SYSTEM
-        → ⊥
-    go true true h = never-left-out (mixOf a) h
-    go true false h = omega arith
-    go false u h = omega arith

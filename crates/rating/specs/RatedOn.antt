@@ -1,6 +1,6 @@
 -- The analyses that are rated on: 5, 6, 16 and then 13, which turns none away, let them pass. By cases. Assumes
 -- nothing.
-use mathlib.Core.Path.{_≡_, refl}
+use mathlib.Core.Path.{_≡_, refl, sym, _∙_}
 use mathlib.Core.Bool.{Bool, true, false}
 use mathlib.Core.List.{List}
 use mathlib.Core.Logic.{_↔_, _⊎_, inl, inr}
@@ -8,9 +8,9 @@ use Prim.Native.Nat.{ℕ, _≤_, _<_}
 use native.Mathlib.Omega.{arith}
 use lib.Dec.{eqb, ltb}
 use borrow.Author.Tests.{eqb-true, eqb-false, eq-eqb, ltb-true, ltb-false, lt-ltb, le-ltb}
-use Rattle.refusal.specs.Register.{TOO_FEW}
+use Rattle.refusal.specs.Register.{NO_SYSTEM, TOO_FEW}
 use Rattle.analysis.specs.Register.{ifElse}
-use Rattle.analysis.specs.Check.{refusalOf}
+use Rattle.analysis.specs.Check.{allInRange, totalOf, totalFits, refusalBy, refusalOf}
 use Rattle.systems.specs.Choice.{presentCount}
 use Rattle.rating.specs.Rate.{FEWEST, mixOf, mixtureRefusal, ratingRefusal}
 use Rattle.rating.specs.LeftOut.{mixture-number}
@@ -71,3 +71,22 @@ module _ (a : List ℕ) where
 
   pub on-exactly-when : RatedOn a ↔ (InRange a × (FEWEST ≤ presentCount (mixOf a)))
   on-exactly-when = (on-passed, λ h. enough-on (h .0) (h .1))
+
+-- ---- no analysis is refused 13: 5 or 6 comes from its check, and then 16
+
+check-number : (t u : Bool) → refusalBy t u ≡ NO_SYSTEM → ⊥
+check-number true true h = omega arith
+check-number true false h = omega arith
+check-number false u h = omega arith
+
+pub never-refused : (a : List ℕ) → ratingRefusal a ≡ NO_SYSTEM → ⊥
+unfolding refusalOf
+never-refused a h = go (eqb (refusalOf a) 0) refl
+  where
+    by : RatedOn a ⊎ (ratingRefusal a ≡ TOO_FEW) → ⊥
+    by (inl e) = omega arith
+    by (inr e) = omega arith
+
+    go : (b : Bool) → eqb (refusalOf a) 0 ≡ b → ⊥
+    go true e = by (on-or-few a (eqb-true (refusalOf a) 0 e))
+    go false e = check-number (allInRange 0 a) (totalFits (totalOf a)) (sym (range-first a e) ∙ h)
