@@ -8,9 +8,9 @@ use lib.Dec.{eqb, leb, eqb→eq, leb→le}
 use lib.ListN.{getD}
 use borrow.Author.Tests.{eqb-true, leb-true}
 use Rattle.analysis.specs.Register.{CODES, ifElse, statusOf}
-use Rattle.analysis.specs.Table.{at, same, same-eq}
+use Rattle.analysis.specs.Laws.Table.{at, same, same-eq}
 use Rattle.analysis.specs.Check.{leastOf, greatestOf, requiredOf, inRange}
-use Rattle.analysis.specs.Packed.{rangeOf}
+use Rattle.analysis.specs.Inner.Packed.{rangeOf}
 
 abbrev range : ℕ → ℕ → ℕ
 range greatest least = greatest * 4294967296 + least

@@ -13,7 +13,7 @@ use Rattle.analysis.specs.declared.Checked.{Checked}
 use Rattle.analysis.specs.declared.Checked.the-variants.{InRange, Refused}
 use Rattle.analysis.specs.Check.{inRange, allInRange, totalOf, totalFits, refusalBy, refusalOf, AtFault, answerOf, Checking, Fault}
 use Rattle.analysis.specs.CheckedCases.{numberOf, codeOf}
-use Rattle.analysis.specs.Ranges.{answer-number}
+use Rattle.analysis.specs.Laws.Ranges.{answer-number}
 
 -- ---- the number of a refusal
 

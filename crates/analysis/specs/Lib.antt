@@ -1,8 +1,7 @@
 pub mod Register
-pub mod Table
 pub mod CheckedCases
 pub mod Check
-pub mod Packed
 pub mod Required
-pub mod Ranges
 pub mod Examples
+pub mod Inner
+pub mod Laws

@@ -4,7 +4,7 @@ ghost use mathlib.Core.Path.{_≡_};
 ghost use Prim.Native.Nat.{_+_, _<_, _≤_};
 ghost use lib.Dec.{eqb};
 ghost use Rattle.analysis.specs.Register.{CODES, ifElse};
-ghost use Rattle.analysis.specs.Packed.{rangeOf};
+ghost use Rattle.analysis.specs.Inner.Packed.{rangeOf};
 ghost use Rattle.analysis.specs.CheckedCases.{numberOf, codeOf};
 ghost use Rattle.analysis.specs.Check.{inRange, totalFits, refusalBy, refusalOf, answerOf, AtFault};
 use refusal::OUT_OF_RANGE;

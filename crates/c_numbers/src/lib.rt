@@ -4,7 +4,7 @@
 // No public function has a `requires`.
 ghost use mathlib.Core.Path.{_≡_};
 ghost use Rattle.ternary.specs.Answer.{partialOf};
-ghost use Rattle.whole.specs.Whole.{wholeNumber};
+ghost use Rattle.whole_number.specs.Whole.{wholeNumber};
 ghost use Rattle.controller.specs.Record.{recordOf};
 ghost use Rattle.c_reply.specs.Interface.{partialReply, partialIn};
 use c_reply::Reply;
@@ -41,5 +41,5 @@ pub fn controller_record(rating: i64, spread: u64) -> ControllerRecord
 pub fn whole_number(rating: i64) -> i64
     ensures { λ r. ⌜ r ≡ wholeNumber rating ⌝ }
 {
-    whole::whole_number(rating)
+    whole_number::whole_number(rating)
 }

@@ -7,7 +7,7 @@ use lib.IntN.{ℤ, pos, natAbs}
 use mir.Syntax.{w64}
 use mir.Val.{SFits, toZ, ofZ}
 use mir.ValLaws.{toZ-ofZ}
-use Rattle.integer.specs.Ring.{mag-le}
+use Rattle.integer.specs.Laws.Ring.{mag-le}
 use Rattle.split.specs.declared.Answer.{Answer}
 use Rattle.split.specs.declared.Answer.the-variants.{Rated, Refused}
 use Rattle.split.specs.AnswerCases.{numberOf, codeOf, figuresOf, heldOf}

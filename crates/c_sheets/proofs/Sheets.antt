@@ -12,7 +12,7 @@ use Rattle.analysis.specs.Check.{AtFault}
 use Rattle.sheet.specs.Sheet.{sheetOf}
 use Rattle.sheet.specs.ReadingCases as read
 use Rattle.sheet.specs.Read.{readOf, ReadAs, FaultIn}
-use Rattle.sheet.specs.Coded.{refused-answer, carried-code, read-as-is, read-as-read}
+use Rattle.sheet.specs.Laws.Coded.{refused-answer, carried-code, read-as-is, read-as-read}
 use Rattle.sheet.specs.WrittenCases as write
 use Rattle.sheet.specs.Write.{writeRefusal, writtenOf, leftOf, WrittenAs}
 use Rattle.sheet.specs.declared.Split.{Split}

@@ -15,11 +15,11 @@ use lib.Seq.{getD-set-same, getD-set-other}
 use borrow.Author.Tests.{lt-ltb, le-ltb, eqb-true, eqb-false, eq-eqb, ne-eqb}
 use Rattle.systems.specs.Systems.{COMPONENTS, memberOf, hasOf, elem, candidates}
 use Rattle.systems.specs.Choice.{NUMBERS, hydrocarbonOrder, order, fold, weightedOf, fitnessOf, allTo, maskFrom, maskOf, inMask, presentOf, presentIn, standingOf, candidatesFor, keep, isChosen, oneIf, countOf, containingOf, scoreOf, betterOf, fittestOf, takeOf, passOf, marksOf}
-use Rattle.systems.specs.Table.{none-has, to-true, everyTo, eachTo}
-use Rattle.systems.specs.Presence.{Every, every-elem, mask-lt}
+use Rattle.systems.specs.Laws.Table.{none-has, to-true, everyTo, eachTo}
+use Rattle.systems.specs.Laws.Presence.{Every, every-elem, mask-lt}
 use Rattle.systems.specs.Without.{HYDROCARBONS}
-use Rattle.systems.specs.Scores.{better-next, better-before}
-use Rattle.choice.specs.Keys.{KEYS, weighedTo, keyOf, Keyed}
+use Rattle.systems.specs.Laws.Scores.{better-next, better-before}
+use Rattle.choice.specs.Inner.Keys.{KEYS, weighedTo, keyOf, Keyed}
 use Rattle.choice.proofs.Loops.{next, done}
 use Rattle.choice.proofs.Packed.{offered-few, offered-past, candidate-lt, candidates-apart}
 

@@ -8,12 +8,11 @@ use native.Mathlib.Omega.{arith}
 use lib.ListN.{getD, set, length, drop, replicate, length-append}
 use lib.Seq.{set-at, append-snoc}
 use Rattle.systems.specs.Systems.{COMPONENTS, HYDROGEN}
-use Rattle.systems.specs.Choice.{NUMBERS, SYSTEMS, hydrocarbonOrder, order, takeOf, passOf, marksOf, fold, isChosen, keep, inMask, presentOf, standingOf, candidatesFor, candidatesOf}
-use Rattle.systems.specs.Choice.{listOf, chosenOf, chooseBy, paddedOf, answerOf, choiceOf}
-use Rattle.systems.specs.Presence.{choose-is}
+use Rattle.systems.specs.Choice.{NUMBERS, SYSTEMS, hydrocarbonOrder, order, takeOf, passOf, marksOf, fold, isChosen, keep, inMask, presentOf, standingOf, candidatesFor, candidatesOf, listOf, chosenOf, chooseBy, paddedOf, answerOf, choiceOf}
+use Rattle.systems.specs.Laws.Presence.{choose-is}
 use Rattle.systems.specs.Without.{HYDROCARBONS, keep-without}
 use borrow.Author.Tests.{eq-eqb, ne-eqb}
-use Rattle.choice.specs.Keys.{Keyed}
+use Rattle.choice.specs.Inner.Keys.{Keyed}
 use Rattle.systems.specs.declared.Choice.{Choice}
 use Rattle.choice.proofs.Loops.{next, done}
 use Rattle.choice.proofs.Packed.{offered-few}

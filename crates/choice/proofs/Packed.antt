@@ -9,8 +9,8 @@ use lib.ListN.{getD, length}
 use borrow.Author.Tests.{eq-eqb, ne-eqb}
 use Rattle.systems.specs.Systems.{COMPONENTS}
 use Rattle.systems.specs.Choice.{NUMBERS, weights, hydrocarbonOrder, order, candidatesFor}
-use Rattle.systems.specs.Table.{of-true, everyTo, eachTo, agree, agree-at}
-use Rattle.choice.specs.Keys.{KEYS}
+use Rattle.systems.specs.Laws.Table.{of-true, everyTo, eachTo, agree, agree-at}
+use Rattle.choice.specs.Inner.Keys.{KEYS}
 
 -- ---- the candidates
 

@@ -9,7 +9,7 @@ ghost use Rattle.systems.specs.Systems.{COMPONENTS, hasOf};
 ghost use Rattle.systems.specs.Choice.{NUMBERS, weights, order, allTo, presentOf, presentCount, presentIn};
 ghost use Rattle.systems.specs.Choice.{standingOf, candidatesFor, keep, takeOf, passOf, answerOf, chosenOf, chooseBy};
 ghost use Rattle.systems.specs.Choice.{hydrocarbonOrder, marksOf, choiceOf};
-ghost use Rattle.choice.specs.Keys.{KEYS, Keyed, weighedTo};
+ghost use Rattle.choice.specs.Inner.Keys.{KEYS, Keyed, weighedTo};
 use systems::COMPONENTS;
 use systems::Choice;
 use systems::HYDROGEN;

@@ -14,7 +14,7 @@ use Rattle.refusal.specs.Keys.{isIn}
 use Rattle.formula.specs.WorkingRule.{sumAbs}
 use Rattle.formula.specs.Coefficients.{printed, tables, placeIn, keepsRule, isSystem, tableOf}
 use Rattle.formula.specs.Ranges.{ranges, full, rangesOf}
-use Rattle.formula.specs.Agree.{values, agree}
+use Rattle.formula.specs.Laws.Agree.{values, agree}
 use Rattle.coefficients.proofs.Numbers.{Apart, each, not-in, no-place, above}
 
 -- ---- which numbers are systems

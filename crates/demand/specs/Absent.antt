@@ -23,29 +23,28 @@ use Rattle.mixture.specs.Inert.{methaneShare, inertFirst}
 use Rattle.mixture.specs.Scaling as scaling
 use Rattle.mixture.specs.Scaling.{distributed, scaledOf}
 use Rattle.mixture.specs.Marked.{methaneEthane, methane-ethane}
-use Rattle.mixture.specs.Bounds.{simplified-methane, simplified-least, simplified-absent}
+use Rattle.mixture.specs.Laws.Bounds.{simplified-methane, simplified-least, simplified-absent}
 use Rattle.systems.specs.Systems.{COMPONENTS, HYDROGEN, hasOf, memberOf}
-use Rattle.systems.specs.Members.{countTo}
-use Rattle.systems.specs.Choice.{fold, maskFrom, maskOf, inMask, presentAt, presentOf, presentCount, presentIn, keep}
+use Rattle.systems.specs.Laws.Members.{countTo}
+use Rattle.systems.specs.Choice.{fold, maskFrom, maskOf, inMask, presentAt, presentOf, presentCount, presentIn, keep, fitnessOf, standingOf, containingOf, scoreOf, betterOf, fittestOf, takeOf, passOf, marksOf, listOf, chosenOf, candidatesOf, chooseOf, paddedOf}
 use Rattle.systems.specs.Choice as choice
-use Rattle.systems.specs.Choice.{fitnessOf, standingOf, containingOf, scoreOf, betterOf, fittestOf, takeOf}
-use Rattle.systems.specs.Choice.{passOf, marksOf, listOf, chosenOf, candidatesOf, chooseOf, paddedOf}
-use Rattle.systems.specs.Presence.{present-count, two-present}
+use Rattle.systems.specs.Laws.Presence.{present-count, two-present}
 use Rattle.split.specs.Fold.{sumTo, sumToZ, greatestTo, leastTo, allTo, someTo, table}
-use Rattle.split.specs.Folds.{sum-has}
+use Rattle.split.specs.Laws.Folds.{sum-has}
 use Rattle.split.specs.Split.{cellOf, systemOf, columnOf, componentAt, cellsOf, partsOf, numberAt, heldOf, rankOf}
 use Rattle.split.specs.Rating.{spreadOf, weightedOf, meanOf, inertNumber, ratingOf, resums, someEmpty, proposedOf}
 use Rattle.split.specs.Fits.{Resums}
 use Rattle.split.specs.Refused.{refused-8-exactly-when}
-use Rattle.split.specs.Clean.{row-held}
-use Rattle.split.specs.Places.{component-lt, component-has, rank-component}
-use Rattle.split.specs.Records.{cells-cell}
+use Rattle.split.specs.Laws.Clean.{row-held}
+use Rattle.split.specs.Laws.Places.{component-lt, component-has, rank-component}
+use Rattle.split.specs.Laws.Records.{cells-cell}
 use Rattle.split.specs.Rated.{IsRated, rated-fit}
 use Rattle.split.specs.declared.Answer.the-variants.{Rated, Refused}
 use Rattle.rating.specs.Rate.{LIMIT, mixOf, systemsFor, countFor, ratingRefusal, splitAnswer, searchOutcome}
-use Rattle.rating.specs.RatedOn.{InRange, RatedOn, enough-on, too-few}
-use Rattle.rating.specs.Ready.{chosen}
-use Rattle.demand.specs.Answers.{expected-fits, split-by-records, split-fits, split-rated}
+use Rattle.rating.specs.RatedOn.{InRange, RatedOn}
+use Rattle.rating.specs.Laws.RatedOn.{enough-on, too-few}
+use Rattle.rating.specs.Laws.Ready.{chosen}
+use Rattle.demand.specs.Laws.Answers.{expected-fits, split-by-records, split-fits, split-rated}
 use Rattle.demand.specs.Demand.{Expected, proposal, put-back}
 
 -- ---- the records of an absent component

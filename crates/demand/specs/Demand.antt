@@ -34,16 +34,16 @@ use Rattle.sheet.specs.declared.Reading.the-variants.{Read}
 use Rattle.mixture.specs.Simplification.{simplifiedOf}
 use Rattle.mixture.specs.Inert.{inertFirst}
 use Rattle.systems.specs.Systems.{COMPONENTS, memberOf, hasOf}
-use Rattle.systems.specs.Members.{countTo}
+use Rattle.systems.specs.Laws.Members.{countTo}
 use Rattle.systems.specs.Choice.{presentAt, presentCount}
-use Rattle.systems.specs.Presence.{present-is, present-in-is}
+use Rattle.systems.specs.Laws.Presence.{present-is, present-in-is}
 use Rattle.systems.specs.Chosen.{two-chosen, three-chosen, five-chosen}
 use Rattle.split.specs.Fold.{sumTo}
 use Rattle.split.specs.Split.{cellOf, systemOf, componentAt, cellsOf, partsOf, columnOf, numberAt}
 use Rattle.split.specs.Rating.{spreadOf, ratingOf}
 use Rattle.split.specs.Exact.{exactRating}
-use Rattle.split.specs.Places.{components-rise}
-use Rattle.split.specs.Spread.{near-spread}
+use Rattle.split.specs.Laws.Places.{components-rise}
+use Rattle.split.specs.Laws.Spread.{near-spread}
 use Rattle.split.specs.Fits.{Fit}
 use Rattle.split.specs.Rated.{IsRated, fit-rated, rated-fit}
 use Rattle.split.specs.Accuracy.{rated-within}
@@ -51,15 +51,14 @@ use Rattle.split.specs.AnswerCases.{numberOf}
 use Rattle.split.specs.declared.Answer.{Answer}
 use Rattle.split.specs.declared.Answer.the-variants.{Rated, Refused}
 use Rattle.rating.specs.Records.{systemAt, codeAt, systemsOf, codesOf, fitsOf}
-use Rattle.rating.specs.Rate.{LIMIT, mixOf, systemsFor, countFor}
-use Rattle.rating.specs.Rate.{outcome, splitAnswer, searchOutcome, sheetOutcome}
-use Rattle.rating.specs.RatedOn.{InRange, RatedOn, on-exactly-when, too-few}
-use Rattle.rating.specs.Ready.{choosable, chosen, room, filled, million, inert-million}
-use Rattle.rating.specs.Ends.{read-passed, split-ends, split-few-exactly-when, search-few-exactly-when}
+use Rattle.rating.specs.Rate.{LIMIT, mixOf, systemsFor, countFor, outcome, splitAnswer, searchOutcome, sheetOutcome}
+use Rattle.rating.specs.RatedOn.{InRange, RatedOn}
+use Rattle.rating.specs.Laws.RatedOn.{on-exactly-when, too-few}
+use Rattle.rating.specs.Laws.Ready.{choosable, chosen, room, filled, million, inert-million}
+use Rattle.rating.specs.Laws.Ends.{read-passed, split-ends, split-few-exactly-when, search-few-exactly-when}
 use Rattle.rating.specs.declared.Outcome.{Outcome}
-use Rattle.demand.specs.Answers.{expected-fit, fits-expected, expected-fits, split-by-records, split-fits}
-use Rattle.demand.specs.Answers.{split-rated, found-back}
-use Rattle.demand.specs.Sheets.{accepted-ends, read-own, read-few, sheet-ends}
+use Rattle.demand.specs.Laws.Answers.{expected-fit, fits-expected, expected-fits, split-by-records, split-fits, split-rated, found-back}
+use Rattle.demand.specs.Laws.Sheets.{accepted-ends, read-own, read-few, sheet-ends}
 use Rattle.demand.specs.RatedSheets.{analysisIn, splitRated, sheet-split}
 
 -- ---- the words: of an analysis a

@@ -11,15 +11,15 @@ use Rattle.sheet.specs.declared.Split.{Split}
 use Rattle.mixture.specs.Inert.{inertFirst}
 use Rattle.split.specs.Split.{cellsOf}
 use Rattle.split.specs.Search.{LEVEL}
-use Rattle.split.specs.Finds.{input-fits, find-search, find-larger}
+use Rattle.split.specs.Laws.Finds.{input-fits, find-search, find-larger}
 use Rattle.split.specs.Accuracy.{rated-small, rated-spread-small}
 use Rattle.split.specs.declared.Answer.the-variants.{Rated}
 use Rattle.split.specs.declared.Search.the-variants.{Balanced}
 use Rattle.split.specs.declared.Found.{Found}
 use Rattle.rating.specs.Rate.{LIMIT, ROUNDS, mixOf, systemsFor, countFor, searched, splitAnswer, searchOutcome}
 use Rattle.rating.specs.RatedOn.{RatedOn}
-use Rattle.rating.specs.Ready.{chosen, million, input}
-use Rattle.demand.specs.Answers.{split-rated, search-rated, found-back}
+use Rattle.rating.specs.Laws.Ready.{chosen, million, input}
+use Rattle.demand.specs.Laws.Answers.{split-rated, search-rated, found-back}
 
 -- a larger allowance finds the same
 same-found : (a : List ℕ) → length a ≡ CODES → RatedOn a → (few many : ℕ) → few ≤ many → (s r : ℕ)

@@ -1,5 +1,3 @@
-pub mod Answers
-pub mod Sheets
 pub mod RatedSheets
 pub mod Demand
 pub mod Absent
@@ -7,3 +5,4 @@ pub mod Lasting
 pub mod Small
 pub mod Recorded
 pub mod Marked
+pub mod Laws

@@ -4,7 +4,7 @@ use mathlib.Core.List.{List, [], _∷_}
 use Prim.Native.Nat.{ℕ}
 use lib.ListN.{length}
 use Rattle.formula.specs.Marked.{MarkedNumbers, marked-numbers}
-use Rattle.whole.specs.Marked.{MarkedWholes, marked-wholes}
+use Rattle.whole_number.specs.Marked.{MarkedWholes, marked-wholes}
 use Rattle.analysis.specs.Check.{totalOf}
 use Rattle.mixture.specs.Simplification.{simplifiedOf}
 use Rattle.mixture.specs.Inert.{inertOf}

@@ -9,13 +9,13 @@ use lib.IntN.{ℤ}
 use mir.Syntax.{w32, w64}
 use mir.Val.{Fits, SFits, toZ, ofZ}
 use mir.ValLaws.{toZ-ofZ}
-use Rattle.whole.specs.Whole.{wholeNumber}
+use Rattle.whole_number.specs.Whole.{wholeNumber}
 use Rattle.split.specs.declared.Answer.{Answer}
 use Rattle.split.specs.declared.Answer.the-variants.{Rated, Refused}
 use Rattle.display.specs.Decimal.{digitsOf, figureOf}
 use Rattle.display.specs.Line.{RATED, REFUSED, SPACE, NEWLINE, RATING_BYTES, WHOLE_BYTES, LINE, fieldsOf, joined, lineOf, lineIn}
 use Rattle.display.specs.Longest.{rating-length, whole-length, no-longer}
-use Rattle.display.specs.Put.{Counts, Put, countsBytes, ratingBytes}
+use Rattle.display.specs.Inner.Put.{Counts, Put, countsBytes, ratingBytes}
 use Rattle.display.proofs.Runs.{then, put-as}
 
 pub length-two : (u v : List ℕ) → length (SPACE ∷ u ++ SPACE ∷ v) ≡ 1 + length u + (1 + length v)

@@ -11,7 +11,7 @@ use mir.Val.{SFits, toZ, ofZ}
 use mir.ValLaws.{toZ-ofZ}
 use native.Mathlib.Omega.{arith}
 use borrow.Author.Tests.{le-ltb}
-use Rattle.whole.specs.Whole.{wholeNumber}
+use Rattle.whole_number.specs.Whole.{wholeNumber}
 use Rattle.display.specs.Decimal.{MINUS, digitsOf, figureOf}
 
 signed : (z : ℤ) → ltZ z (pos 0) ≡ true → figureOf z ≡ MINUS ∷ digitsOf (natAbs z)

@@ -2,7 +2,7 @@
 use Prim.Native.Nat.{ℕ, _+_}
 use mathlib.Core.List.{List, [], _∷_, _++_}
 use lib.ListN.{length, drop}
-use Rattle.whole.specs.Whole.{wholeNumber}
+use Rattle.whole_number.specs.Whole.{wholeNumber}
 use Rattle.split.specs.declared.Answer.{Answer}
 use Rattle.split.specs.declared.Answer.the-variants.{Rated, Refused}
 use Rattle.display.specs.Decimal.{digitsOf, figureOf}

@@ -9,8 +9,8 @@ use lib.IntN.{ℤ, pos, negsuc, natAbs, _+ℤ_}
 use mir.Syntax.{w32, w64}
 use mir.Val.{Fits, SFits}
 use Rattle.integer.specs.Floor.{floorOver}
-use Rattle.integer.specs.Ring.{natAbs-+}
-use Rattle.whole.specs.Whole.{wholeNumber}
+use Rattle.integer.specs.Laws.Ring.{natAbs-+}
+use Rattle.whole_number.specs.Whole.{wholeNumber}
 use Rattle.split.specs.declared.Answer.{Answer}
 use Rattle.split.specs.declared.Answer.the-variants.{Rated, Refused}
 use Rattle.display.specs.Decimal.{digitsIn, digitsOf, figureOf}

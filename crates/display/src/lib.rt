@@ -5,10 +5,10 @@ ghost use Prim.Native.Nat.{_+_, _≤_};
 ghost use mathlib.Core.List.{[], _∷_};
 ghost use lib.ListN.{length};
 ghost use lib.IntN.{natAbs};
-ghost use Rattle.whole.specs.Whole.{wholeNumber};
+ghost use Rattle.whole_number.specs.Whole.{wholeNumber};
 ghost use Rattle.display.specs.Decimal.{digitsOf, figureOf};
 ghost use Rattle.display.specs.Line.{LINE, SPACE, fieldsOf, joined, lineOf, lineIn};
-ghost use Rattle.display.specs.Put.{Counts, Put, countsBytes, ratingBytes};
+ghost use Rattle.display.specs.Inner.Put.{Counts, Put, countsBytes, ratingBytes};
 use split::Answer;
 
 // The bytes of the word of a rating.
@@ -114,7 +114,7 @@ fn put_rating(buffer: &mut [u8; LINE], at: usize, rating: i64) -> usize
     ensures { λ r. ⌜ Put (now (buffer .entry)) at (ratingBytes rating) (now (buffer .exit)) r ⌝ }
 {
     let next = put_figure(buffer, at, rating);
-    put_figure(buffer, next, whole::whole_number(rating))
+    put_figure(buffer, next, whole_number::whole_number(rating))
 }
 
 // The fields of an answer.

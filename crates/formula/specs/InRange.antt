@@ -11,7 +11,7 @@ use lib.Ieee.Fits.{and-l, and-r}
 use lib.ListN.{getD}
 use Rattle.formula.specs.Coefficients.{placeIn}
 use Rattle.formula.specs.Ranges.{full, rangesOf, shareIn, sharesIn, inRange}
-use Rattle.formula.specs.Agree.{agree}
+use Rattle.formula.specs.Laws.Agree.{agree}
 
 -- ---- in words
 

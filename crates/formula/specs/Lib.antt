@@ -1,10 +1,8 @@
 pub mod WorkingRule
 pub mod Coefficients
 pub mod Ranges
-pub mod Error
-pub mod Size
-pub mod Bound
 pub mod Partial
-pub mod Agree
 pub mod InRange
 pub mod Marked
+pub mod Accuracy
+pub mod Laws

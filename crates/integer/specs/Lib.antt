@@ -1,8 +1,3 @@
-pub mod Tests
-pub mod Ring
-pub mod Bits
-pub mod Order
-pub mod Normal
 pub mod Floor
 pub mod Fraction
-pub mod Distance
+pub mod Laws

@@ -16,41 +16,44 @@ use lib.Dec.{eqb, leb}
 use lib.IntN.{ℤ}
 use lib.ListN.{getD, length}
 use borrow.Author.Tests.{eqb-true, leb-true}
-use Rattle.refusal.specs.Keys.{isIn, each-passes}
+use Rattle.refusal.specs.Keys.{isIn}
+use Rattle.refusal.specs.Laws.Keys.{each-passes}
 use Rattle.analysis.specs.Register.{CODES, ifElse, statusIn}
 use Rattle.analysis.specs.Check.{requiredBy, totalFits}
-use Rattle.analysis.specs.Required.{requiring, refusalIn, requiring-exactly-when}
+use Rattle.analysis.specs.Required.{requiring, refusalIn}
+use Rattle.analysis.specs.Laws.Required.{requiring-exactly-when}
 use Rattle.sheet.specs.Split.{noSplit}
 use Rattle.sheet.specs.Components.{codesReading, zeroListed}
 use Rattle.sheet.specs.Sheet.{sectionsOf}
 use Rattle.sheet.specs.Read.{amountsOf, contentOf, readOf}
-use Rattle.sheet.specs.Cases.{read-good, amounts-checked}
+use Rattle.sheet.specs.Laws.Cases.{read-good, amounts-checked}
 use Rattle.sheet.specs.declared.Sections.the-variants.{Both}
 use Rattle.sheet.specs.declared.Reading.the-variants.{Read}
 use Rattle.sheet.specs.declared.Split.{Split}
 use Rattle.mixture.specs.Simplification.{tenthsOf}
 use Rattle.mixture.specs.Marked.{tableA1, methaneEthane}
-use Rattle.mixture.specs.Bounds.{simplified-methane, simplified-least}
+use Rattle.mixture.specs.Laws.Bounds.{simplified-methane, simplified-least}
 use Rattle.systems.specs.Systems.{hydrocarbonSystems}
 use Rattle.systems.specs.Choice.{hydrocarbonOrder, fitnessOf, chooseBy, answerOf}
-use Rattle.systems.specs.Presence.{two-present}
+use Rattle.systems.specs.Laws.Presence.{two-present}
 use Rattle.systems.specs.Without.{HYDROCARBONS, fitness-same}
-use Rattle.systems.specs.Full.{four-fittest}
+use Rattle.systems.specs.Laws.Full.{four-fittest}
 use Rattle.systems.specs.declared.Choice.{Choice}
 use Rattle.split.specs.Rated.{IsRated}
 use Rattle.split.specs.declared.Answer.{Answer}
 use Rattle.split.specs.declared.Answer.the-variants.{Rated, Refused}
 use Rattle.rating.specs.Rate.{ROUNDS, mixOf, checkedBy, splitAnswer, outcome, searchOutcome, sheetOutcome}
-use Rattle.rating.specs.RatedOn.{InRange, RatedOn, enough-on}
-use Rattle.rating.specs.Ends.{amounts-long, read-long}
+use Rattle.rating.specs.RatedOn.{InRange, RatedOn}
+use Rattle.rating.specs.Laws.RatedOn.{enough-on}
+use Rattle.rating.specs.Laws.Ends.{amounts-long, read-long}
 use Rattle.rating.specs.declared.Outcome.{Outcome}
-use Rattle.demand.specs.Sheets.{read-searched, read-own}
+use Rattle.demand.specs.Laws.Sheets.{read-searched, read-own}
 use Rattle.demand.specs.RatedSheets.{analysisIn}
 use Rattle.kept.specs.BeforeCheck as check
 use Rattle.kept.specs.BeforeCheck.{registerBefore}
-use Rattle.kept.specs.BeforeMixture.{simplifiedBefore, inertBefore, no-hydrogen}
-use Rattle.kept.specs.Before.{splitAnswerWith, searchOutcomeWith, choiceBefore, splitBefore}
-use Rattle.kept.specs.Before.{searchBefore}
+use Rattle.kept.specs.BeforeMixture.{simplifiedBefore, inertBefore}
+use Rattle.kept.specs.Laws.BeforeMixture.{no-hydrogen}
+use Rattle.kept.specs.Before.{splitAnswerWith, searchOutcomeWith, choiceBefore, splitBefore, searchBefore}
 use Rattle.kept.specs.WithoutHydrogen as seven
 
 -- ---- as it was

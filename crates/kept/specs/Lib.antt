@@ -2,12 +2,7 @@ pub mod BeforeCheck
 pub mod BeforeMixture
 pub mod Pinned
 pub mod Widths
-pub mod Today
-pub mod Steady
-pub mod Alike
-pub mod AlikeCells
-pub mod AlikeRuns
-pub mod WidthKept
 pub mod Before
 pub mod WithoutHydrogen
 pub mod BeforeFive
+pub mod Laws

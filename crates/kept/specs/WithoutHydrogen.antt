@@ -19,16 +19,15 @@ use Rattle.sheet.specs.Split.{noSplit}
 use Rattle.sheet.specs.Components.{codesReading, zeroListed}
 use Rattle.sheet.specs.Sheet.{sectionsOf}
 use Rattle.sheet.specs.Read.{amountsOf, contentOf, readOf}
-use Rattle.sheet.specs.Cases.{read-good, amounts-checked}
+use Rattle.sheet.specs.Laws.Cases.{read-good, amounts-checked}
 use Rattle.sheet.specs.declared.Sections.the-variants.{Both}
 use Rattle.sheet.specs.declared.Split.{Split}
 use Rattle.sheet.specs.declared.Reading.the-variants.{Read}
 use Rattle.mixture.specs.Inert.{inertFirst}
 use Rattle.systems.specs.Systems.{HYDROGEN, hasOf, elem}
-use Rattle.systems.specs.Members.{hydrocarbons-are}
+use Rattle.systems.specs.Laws.Members.{hydrocarbons-are}
 use Rattle.systems.specs.Choice.{presentTo, presentCount, answerOf, choiceOf}
-use Rattle.systems.specs.Without.{HYDROCARBONS, present-before, candidates-before, choose-before}
-use Rattle.systems.specs.Without.{present-same, before-same}
+use Rattle.systems.specs.Without.{HYDROCARBONS, present-before, candidates-before, choose-before, present-same, before-same}
 use Rattle.split.specs.Split.{RECORDS, both, systemOf}
 use Rattle.split.specs.Search.{LEVEL}
 use Rattle.split.specs.declared.Answer.{Answer}
@@ -37,26 +36,24 @@ use Rattle.split.specs.declared.Search.{Search}
 use Rattle.split.specs.declared.Search.the-variants.{Balanced, Unbalanced, Unfit}
 use Rattle.split.specs.declared.Found.{Found}
 use Rattle.rating.specs.Records.{codeOf, systemAt, codeAt, codesOf, systemsOf, matchesAt, fitsOf}
-use Rattle.rating.specs.Rate.{LIMIT, ROUNDS, mixOf, systemsFor, countFor, ratingRefusal, checkedBy, splitBy}
-use Rattle.rating.specs.Rate.{splitAnswer}
-use Rattle.rating.specs.Rate.{outcome, recordsOf, foundBy, foundOutcome, searchOutcomeBy, searchOutcome, sheetOutcome}
+use Rattle.rating.specs.Rate.{LIMIT, ROUNDS, mixOf, systemsFor, countFor, ratingRefusal, checkedBy, splitBy, splitAnswer, outcome, recordsOf, foundBy, foundOutcome, searchOutcomeBy, searchOutcome, sheetOutcome}
 use Rattle.rating.specs.LeftOut.{mixture-number}
 use Rattle.rating.specs.RatedOn.{RatedOn}
-use Rattle.rating.specs.Ready.{choosable, chosen}
-use Rattle.rating.specs.Ends.{amounts-long}
+use Rattle.rating.specs.Laws.Ready.{choosable, chosen}
+use Rattle.rating.specs.Laws.Ends.{amounts-long}
 use Rattle.rating.specs.declared.Outcome.{Outcome}
-use Rattle.demand.specs.Sheets.{read-searched, read-own}
+use Rattle.demand.specs.Laws.Sheets.{read-searched, read-own}
 use Rattle.demand.specs.RatedSheets.{analysisIn}
 use Rattle.kept.specs.BeforeCheck as check
-use Rattle.kept.specs.BeforeCheck.{registerBefore, without-kept}
-use Rattle.kept.specs.BeforeMixture.{simplifiedBefore, simplified-kept, no-hydrogen, inert-kept}
+use Rattle.kept.specs.BeforeCheck.{registerBefore}
+use Rattle.kept.specs.Laws.BeforeCheck.{without-kept}
+use Rattle.kept.specs.BeforeMixture.{simplifiedBefore}
+use Rattle.kept.specs.Laws.BeforeMixture.{simplified-kept, no-hydrogen, inert-kept}
 use Rattle.kept.specs.Widths.{BEFORE}
-use Rattle.kept.specs.Steady.{all-same, table-same}
-use Rattle.kept.specs.Alike.{Without}
-use Rattle.kept.specs.WidthKept.{NoHydrogen, component-kept, proposed-kept, search-kept, KeptSearch}
-use Rattle.kept.specs.Before.{codeBefore, codesBefore, matchesBefore, fitsBefore, splitWith}
-use Rattle.kept.specs.Before.{recordsBefore, foundWith, foundOutcomeWith, searchOutcomeWith}
-use Rattle.kept.specs.Before.{choiceBefore, refusalBefore, splitBefore, searchBefore}
+use Rattle.kept.specs.Laws.Steady.{all-same, table-same}
+use Rattle.kept.specs.Laws.Alike.{Without}
+use Rattle.kept.specs.Laws.WidthKept.{NoHydrogen, component-kept, proposed-kept, search-kept, KeptSearch}
+use Rattle.kept.specs.Before.{codeBefore, codesBefore, matchesBefore, fitsBefore, splitWith, recordsBefore, foundWith, foundOutcomeWith, searchOutcomeWith, choiceBefore, refusalBefore, splitBefore, searchBefore}
 
 -- ---- chosen systems without hydrogen: the records are the same
 

@@ -8,7 +8,7 @@ use lib.ListN.{replicate}
 use borrow.Author.Tests.{eq-eqb}
 use Rattle.analysis.specs.CheckedCases.{numberOf, codeOf}
 use Rattle.analysis.specs.Check.{refusalOf, answerOf, Checking}
-use Rattle.analysis.specs.Ranges.{checked-number}
+use Rattle.analysis.specs.Laws.Ranges.{checked-number}
 use Rattle.analysis.specs.declared.Checked.{Checked}
 use Rattle.analysis.specs.declared.Checked.the-variants.{InRange, Refused}
 use Rattle.mixture.specs.Simplification.{COMPONENTS, simplifiedOf}

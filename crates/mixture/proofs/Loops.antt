@@ -13,11 +13,11 @@ use borrow.Author.Tests.{eqb-true, eqb-false, ne-eqb, lt-ltb, le-ltb}
 use Rattle.analysis.specs.Register.{ifElse}
 use Rattle.analysis.specs.Check.{totalOf}
 use Rattle.mixture.specs.Scaling.{WHOLE, quotientOf, remainderOf, quotientsOf, remaindersOf, missingOf, greatestTo, greatestPlace, distributed, scaledOf}
-use Rattle.mixture.specs.Share.{getD-map}
-use Rattle.mixture.specs.Total.{sum-set, quotients-whole}
+use Rattle.mixture.specs.Laws.Share.{getD-map}
+use Rattle.mixture.specs.Laws.Total.{sum-set, quotients-whole}
 use Rattle.mixture.specs.Simplification.{COMPONENTS, butaneOf, tenthsOf}
-use Rattle.mixture.specs.Factor.{factorOf}
-use Rattle.mixture.specs.Limits.{LIMIT, Limited}
+use Rattle.mixture.specs.Inner.Factor.{factorOf}
+use Rattle.mixture.specs.Inner.Limits.{LIMIT, Limited}
 
 -- ---- amounts up to the limit
 

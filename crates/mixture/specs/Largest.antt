@@ -12,8 +12,8 @@ use lib.Seq.{getD-set-same, getD-set-other}
 use borrow.Author.Tests.{eqb-true, eqb-false, ltb-true, ltb-false}
 use Rattle.analysis.specs.Check.{totalOf}
 use Rattle.mixture.specs.Scaling.{WHOLE, quotientOf, remainderOf, quotientsOf, remaindersOf, missingOf, greatestTo, greatestPlace, oneMore, distributed, scaledOf}
-use Rattle.mixture.specs.Total.{sum-set, sum-filled, greatest-below, greatest-least, remainders-sum}
-use Rattle.mixture.specs.Share.{getD-map, greatest-positive, scaled-near}
+use Rattle.mixture.specs.Laws.Total.{sum-set, sum-filled, greatest-below, greatest-least, remainders-sum}
+use Rattle.mixture.specs.Laws.Share.{getD-map, greatest-positive, scaled-near}
 
 -- component i comes before component j: a larger remainder, or an equal one and it stands first
 pub record Before (rs : List ℕ) (i j : ℕ) : Type 0 where

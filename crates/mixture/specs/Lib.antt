@@ -1,11 +1,8 @@
 pub mod Scaling
 pub mod Simplification
-pub mod Factor
 pub mod Inert
-pub mod Limits
 pub mod Answers
-pub mod Total
-pub mod Share
 pub mod Largest
-pub mod Bounds
 pub mod Marked
+pub mod Inner
+pub mod Laws

@@ -6,15 +6,14 @@ use analysis::Checked;
 ghost use mathlib.Core.Path.{_≡_};
 ghost use Prim.Native.Nat.{_+_, _*_, _<_, _≤_};
 ghost use lib.ListN.{length, replicate};
-ghost use Rattle.analysis.specs.Check.{totalOf};
+ghost use Rattle.analysis.specs.Check.{totalOf, refusalOf, answerOf, AtFault};
 ghost use Rattle.mixture.specs.Scaling.{WHOLE, quotientOf, remainderOf, greatestPlace, distributed, scaledOf};
 ghost use Rattle.mixture.specs.Simplification.{COMPONENTS, butaneOf, tenthsOf, tenthsTotal, simplifiedOf};
-ghost use Rattle.mixture.specs.Limits.{LIMIT, Limited};
+ghost use Rattle.mixture.specs.Inner.Limits.{LIMIT, Limited};
 ghost use Rattle.analysis.specs.CheckedCases.{numberOf, codeOf};
-ghost use Rattle.analysis.specs.Check.{refusalOf, answerOf, AtFault};
 ghost use Rattle.mixture.specs.Answers.{mixtureOf, inertN1};
 ghost use Rattle.mixture.specs.Inert.{halvesUp, methaneShare, inertFirst};
-ghost use Rattle.mixture.specs.Factor.{factorOf};
+ghost use Rattle.mixture.specs.Inner.Factor.{factorOf};
 
 // Methane, ethane, propane, butane, hydrogen.
 pub const COMPONENTS: usize = 5;

@@ -11,21 +11,22 @@ use lib.ListN.{length, getD}
 use lib.Signed.{quotZ}
 use borrow.Author.Tests.{not-true, not-false, lt-leb, le-leb}
 use Rattle.split.specs.Fold.{sumTo, sumToZ}
-use Rattle.split.specs.Folds.{sum-same, greatest-same, least-same}
+use Rattle.split.specs.Laws.Folds.{sum-same, greatest-same, least-same}
 use Rattle.split.specs.Split.{CELLS, partsOf, numberAt, both, Stock}
 use Rattle.split.specs.Rating.{resums, someEmpty, spreadOf, weightedOf, meanOf, inertNumber, ratingOf}
 use Rattle.split.specs.Find.{chosenFit, mixtureFit}
-use Rattle.split.specs.Sums.{resummed, parts-le}
-use Rattle.split.specs.Fits.{resums-yes, no-empty}
-use Rattle.split.specs.Proposed.{proposalFit, answerOf, ratedOf, Proposal, proposal-of, answer-unfit, answer-unsummed, answer-empty, answer-rated}
+use Rattle.split.specs.Laws.Sums.{resummed, parts-le}
+use Rattle.split.specs.Laws.Fits.{resums-yes, no-empty}
+use Rattle.split.specs.Proposed.{proposalFit, answerOf, ratedOf, Proposal}
+use Rattle.split.specs.Laws.Proposed.{proposal-of, answer-unfit, answer-unsummed, answer-empty, answer-rated}
 use Rattle.split.specs.declared.Answer.{Answer}
 use Rattle.split.specs.declared.Answer.the-variants.{Rated, Refused}
 use Rattle.split.specs.declared.Proposed.the-variants.{Answered, Unfit}
-use Rattle.rows.specs.Rows.{listed, rowsOf}
-use Rattle.rows.specs.Carried.{Held}
-use Rattle.rows.specs.Laws.{unfit-empty, fit-held, parts-of}
-use Rattle.rows.specs.declared.Rows.{Rows}
-use Rattle.proposal.specs.Weighing.{Weighable, weighedTo, ratedBy, weighedOf}
+use Rattle.split_rows.specs.Rows.{listed, rowsOf}
+use Rattle.split_rows.specs.Inner.Carried.{Held}
+use Rattle.split_rows.specs.Laws.Rows.{unfit-empty, fit-held, parts-of}
+use Rattle.split_rows.specs.declared.Rows.{Rows}
+use Rattle.proposal.specs.Inner.Weighing.{Weighable, weighedTo, ratedBy, weighedOf}
 
 sumZ-same : (f g : ℕ → ℤ) (n : ℕ) → ((i : ℕ) → i < n → f i ≡ g i) → sumToZ f n ≡ sumToZ g n
 unfolding sumToZ

@@ -9,7 +9,7 @@ use lib.ListN.{getD}
 use borrow.Author.Tests.{eq-eqb, ne-eqb}
 use Rattle.systems.specs.Systems.{COMPONENTS}
 use Rattle.split.specs.Fold.{allTo}
-use Rattle.split.specs.Folds.{all-each}
+use Rattle.split.specs.Laws.Folds.{all-each}
 use Rattle.split.specs.Split.{columnOf}
 use Rattle.split.specs.Rating.{resums}
 

@@ -11,13 +11,13 @@ use lib.IntN.{ℤ, pos, negsuc, natAbs, _+ℤ_, _*ℤ_}
 use lib.ListN.{getD}
 use lib.Signed.{quotZ}
 use borrow.Author.Tests.{lt-ltb, le-ltb}
-use Rattle.integer.specs.Ring.{natAbs-+, natAbs-*}
+use Rattle.integer.specs.Laws.Ring.{natAbs-+, natAbs-*}
 use Rattle.formula.specs.WorkingRule.{LARGEST}
 use Rattle.split.specs.Fold.{sumTo, sumToZ}
 use Rattle.split.specs.Rating.{spreadOf, inertNumber}
 use Rattle.split.specs.declared.Answer.the-variants.{Rated, Refused}
-use Rattle.rows.specs.Rows.{listed}
-use Rattle.proposal.specs.Weighing.{Weighable, weighedTo, ratedBy}
+use Rattle.split_rows.specs.Rows.{listed}
+use Rattle.proposal.specs.Inner.Weighing.{Weighable, weighedTo, ratedBy}
 
 -- the sum of the rows before s
 pub record WeighedTo (v : List ℤ) (p : List ℕ) (k s : ℕ) (sum : ℤ) : Type 0 where

@@ -11,13 +11,14 @@ use mir.Val.{SFits, toZ, ofZ}
 use mir.ValLaws.{toZ-ofZ, toZ-pos}
 use Rattle.formula.specs.WorkingRule.{sumAbs, LARGEST}
 use Rattle.formula.specs.Coefficients.{placeIn, keepsRule, isSystem}
-use Rattle.ternary.specs.Answer.{formulaOf, formula-is}
+use Rattle.ternary.specs.Answer.{formulaOf}
+use Rattle.ternary.specs.Laws.Answer.{formula-is}
 use Rattle.ternary.specs.declared.Partial.{Partial}
 use Rattle.ternary.specs.declared.Partial.the-variants.{Number, Refused}
 use Rattle.split.specs.Rating.{inertNumber}
-use Rattle.split.specs.Size.{inert-small}
-use Rattle.integer.specs.Bits.{sfits-small}
-use Rattle.integer.specs.Ring.{natAbs-*, natAbs-+, natAbs--, natAbs-quot}
+use Rattle.split.specs.Laws.Size.{inert-small}
+use Rattle.integer.specs.Laws.Bits.{sfits-small}
+use Rattle.integer.specs.Laws.Ring.{natAbs-*, natAbs-+, natAbs--, natAbs-quot}
 
 -- ---- one more partial number, times its parts
 

@@ -8,8 +8,9 @@ ghost use Rattle.systems.specs.Systems.{COMPONENTS};
 ghost use Rattle.split.specs.Split.{SYSTEMS, columnOf, Stock};
 ghost use Rattle.split.specs.Rating.{resums, spreadOf, inertNumber};
 ghost use Rattle.split.specs.Proposed.{proposalFit, answerOf};
-ghost use Rattle.rows.specs.Rows.{listed, Small};
-ghost use Rattle.proposal.specs.Weighing.{Weighable, weighedTo, ratedBy, weighedOf};
+ghost use Rattle.split_rows.specs.Rows.{listed};
+ghost use Rattle.split_rows.specs.Inner.Small.{Small};
+ghost use Rattle.proposal.specs.Inner.Weighing.{Weighable, weighedTo, ratedBy, weighedOf};
 use refusal::EMPTY_SYSTEM;
 use refusal::UNSUMMED;
 use refusal::WIDE;
@@ -159,7 +160,7 @@ fn weighed(limit: u64, choice: Choice, cells: &[u32; CELLS], n1: u32) -> Answer
     requires { ⌜ Stock (choice .systems) (choice .count) (now cells) × (n1 ≤ 1000000) ⌝ }
     ensures { λ r. ⌜ r ≡ weighedOf limit (choice .systems) (choice .count) (now (cells .entry)) n1 ⌝ }
 {
-    let rows = rows::evaluate(choice, cells);
+    let rows = split_rows::evaluate(choice, cells);
     let fit = rows.fit;
     if !fit {
         return refused(EMPTY_SYSTEM);

@@ -13,11 +13,11 @@ use mir.Syntax.{w64}
 use mir.Val.{toZ, ofZ}
 use lib.ListN.{length, replicate}
 use borrow.Author.Tests.{eq-eqb}
-use Rattle.integer.specs.Ring.{mag-le}
+use Rattle.integer.specs.Laws.Ring.{mag-le}
 use Rattle.refusal.specs.Register.{TOO_FEW}
 use Rattle.analysis.specs.Register.{CODES, ifElse}
 use Rattle.analysis.specs.CheckedCases as check
-use Rattle.analysis.specs.Ranges.{checked-number}
+use Rattle.analysis.specs.Laws.Ranges.{checked-number}
 use Rattle.analysis.specs.Check.{refusalOf, AtFault, Checking}
 use Rattle.analysis.specs.declared.Checked.{Checked}
 use Rattle.analysis.specs.declared.Checked.the-variants as checked
@@ -34,10 +34,11 @@ use Rattle.split.specs.Rating.{spreadOf, ratingOf, proposedOf}
 use Rattle.split.specs.Fits.{Fit}
 use Rattle.split.specs.AnswerCases.{numberOf, codeOf}
 use Rattle.split.specs.Rated.{IsRated, fit-rated}
-use Rattle.split.specs.Proposed.{Proposal, answerOf, answer-proposed}
+use Rattle.split.specs.Proposed.{Proposal, answerOf}
+use Rattle.split.specs.Laws.Proposed.{answer-proposed}
 use Rattle.split.specs.Search.{LEVEL}
 use Rattle.split.specs.Find.{findOf}
-use Rattle.split.specs.Finds.{input-fits, find-search, find-balanced}
+use Rattle.split.specs.Laws.Finds.{input-fits, find-search, find-balanced}
 use Rattle.split.specs.declared.Answer.{Answer}
 use Rattle.split.specs.declared.Answer.the-variants.{Rated, Refused}
 use Rattle.split.specs.declared.Search.the-variants.{Balanced, Unbalanced}
@@ -48,13 +49,14 @@ use Rattle.rating.specs.Records.{fitsOf}
 use Rattle.rating.specs.Rate.{LIMIT, ROUNDS, FEWEST, mixOf, systemsFor, countFor, ratingRefusal, splitBy, splitAnswer, outcome, recordsOf, foundBy, foundOutcome, searched, searchOutcome}
 use Rattle.split.specs.Accuracy.{fit-few}
 use Rattle.split.specs.PutBack.{balance-fit}
-use Rattle.split.specs.Size.{rating-small}
-use Rattle.rating.specs.Given.{FoundFit}
-use Rattle.rating.specs.RatedOn.{InRange, RatedOn, range-first, enough-on, too-few, on-or-few}
-use Rattle.rating.specs.Ready.{chosen, room, million, inert-million, shared, input}
-use Rattle.rating.specs.Ends.{never-unfit, split-in-range, search-in-range, not-five}
+use Rattle.split.specs.Laws.Size.{rating-small}
+use Rattle.rating.specs.Inner.Given.{FoundFit}
+use Rattle.rating.specs.RatedOn.{InRange, RatedOn}
+use Rattle.rating.specs.Laws.RatedOn.{range-first, enough-on, too-few, on-or-few}
+use Rattle.rating.specs.Laws.Ready.{chosen, room, million, inert-million, shared, input}
+use Rattle.rating.specs.Laws.Ends.{never-unfit, split-in-range, search-in-range, not-five}
 use Rattle.rating.specs.declared.Outcome.{Outcome}
-use Rattle.integer.specs.Bits.{read-back}
+use Rattle.integer.specs.Laws.Bits.{read-back}
 
 -- ---- the check's answer
 

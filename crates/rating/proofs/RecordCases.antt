@@ -9,12 +9,12 @@ use lib.ListN.{getD, set, length, replicate, length-set, getD-replicate}
 use lib.Seq.{getD-set-same, getD-set-other, ext-getD}
 use borrow.Author.Tests.{lt-ltb, le-ltb, ltb-true, ltb-false, eq-eqb, ne-eqb, eqb-true, eqb-false, not-true, not-false}
 use Rattle.systems.specs.Systems.{COMPONENTS, hasOf, candidates, Candidate}
-use Rattle.systems.specs.Table.{every, everyTo, eachTo, each-candidate}
+use Rattle.systems.specs.Laws.Table.{every, everyTo, eachTo, each-candidate}
 use Rattle.split.specs.Fold.{allTo, table}
 use Rattle.split.specs.Split.{CELLS, RECORDS, both, cellOf, systemOf, heldOf, rankOf, componentAt, cellsOf, amountsOf, Chosen}
-use Rattle.split.specs.Tables.{length-table, getD-table}
-use Rattle.split.specs.Clean.{held-row, row-held}
-use Rattle.split.specs.Places.{rank-lt, component-rank, component-lt, component-has, rank-component}
+use Rattle.split.specs.Laws.Tables.{length-table, getD-table}
+use Rattle.split.specs.Laws.Clean.{held-row, row-held}
+use Rattle.split.specs.Laws.Places.{rank-lt, component-rank, component-lt, component-has, rank-component}
 use Rattle.sheet.specs.declared.Split.{Split}
 use Rattle.rating.specs.Records.{codeOf, systemAt, codeAt, systemsOf, codesOf, amountAt, cellAt, matchesAt, fitsOf}
 use Rattle.split.specs.Proposed.{Proposal, answerOf}

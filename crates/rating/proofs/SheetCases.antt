@@ -13,7 +13,7 @@ use Rattle.analysis.specs.Check.{refusalOf}
 use Rattle.sheet.specs.Split.{noSplit}
 use Rattle.sheet.specs.ReadingCases as read
 use Rattle.sheet.specs.Read.{readOf, ReadAs, FaultIn}
-use Rattle.sheet.specs.Coded.{refused-answer, carried-code, read-as-is, read-as-read}
+use Rattle.sheet.specs.Laws.Coded.{refused-answer, carried-code, read-as-is, read-as-read}
 use Rattle.sheet.specs.declared.Reading.{Reading}
 use Rattle.sheet.specs.declared.Reading.the-variants as reading
 use Rattle.sheet.specs.declared.Sheet.{Sheet}
@@ -21,7 +21,7 @@ use Rattle.split.specs.AnswerCases.{numberOf, codeOf}
 use Rattle.split.specs.declared.Answer.{Answer}
 use Rattle.split.specs.declared.Answer.the-variants.{Rated, Refused}
 use Rattle.rating.specs.Rate.{splitAnswer, outcome, searchOutcome, readBy, sheetOutcome}
-use Rattle.rating.specs.Ends.{RatedOrFew, split-in-range, search-in-range, read-passed, not-five}
+use Rattle.rating.specs.Laws.Ends.{RatedOrFew, split-in-range, search-in-range, read-passed, not-five}
 use Rattle.rating.specs.declared.Outcome.{Outcome}
 
 -- ---- a refused sheet

@@ -3,6 +3,5 @@ pub mod SplitCodes
 pub mod Rate
 pub mod LeftOut
 pub mod RatedOn
-pub mod Given
-pub mod Ready
-pub mod Ends
+pub mod Inner
+pub mod Laws

@@ -20,7 +20,7 @@ ghost use Rattle.split.specs.Proposed.{Proposal};
 ghost use Rattle.split.specs.Fits.{Fit};
 ghost use Rattle.rating.specs.Rate.{LIMIT, ROUNDS, splitBy, splitAnswer, outcome, foundOutcome, searchOutcome};
 ghost use Rattle.rating.specs.Rate.{sheetOutcome};
-ghost use Rattle.rating.specs.Given.{FoundFit};
+ghost use Rattle.rating.specs.Inner.Given.{FoundFit};
 use analysis::Analysis;
 use analysis::Checked;
 use refusal::MISFIT;

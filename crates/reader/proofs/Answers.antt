@@ -24,8 +24,8 @@ use Rattle.sheet.specs.Components.{refusalBy, codeRefusal, codesReading}
 use Rattle.sheet.specs.Split.{allowedCount}
 use Rattle.sheet.specs.Sheet.{LISTED, withSplit, withComponents, judged, sectionsOf}
 use Rattle.sheet.specs.Read.{amountsOf, amountsRefusal, refusedSheet, contentOf, readOf, FaultIn, ReadAs}
-use Rattle.sheet.specs.Cases.{never, sectioned, read-torn, read-codes, read-amounts, read-good, amounts-zero, amounts-checked}
-use Rattle.reader.specs.Find.{ZeroRecord, AmountsRefused}
+use Rattle.sheet.specs.Laws.Cases.{never, sectioned, read-torn, read-codes, read-amounts, read-good, amounts-zero, amounts-checked}
+use Rattle.reader.specs.Inner.Find.{ZeroRecord, AmountsRefused}
 
 -- ---- the two sections
 

@@ -11,15 +11,15 @@ use lib.Seq.{sets, sets-eq, set-out, drop-at}
 use lib.Dec.{T, eqb, ltb, eqb→eq}
 use borrow.Author.Tests.{eq-eqb, ne-eqb, lt-ltb, ltb-true, ltb-false}
 use Rattle.analysis.specs.Register.{CODES, statusOf, ifElse}
-use Rattle.analysis.specs.Table.{at}
+use Rattle.analysis.specs.Laws.Table.{at}
 use Rattle.sheet.specs.declared.Reading.the-variants.{Read, Refused}
 use Rattle.sheet.specs.Bytes.{numberAt}
 use Rattle.sheet.specs.Components.{refusalBy, codeRefusal, codesReading, amountsFrom, zeroListed}
 use Rattle.sheet.specs.declared.Split.{Split}
 use Rattle.sheet.specs.Split.{RECORDS, byteColumn, amountColumn, padded, splitAt}
-use Rattle.sheet.specs.Forth.{length-byte-column, length-amount-column}
-use Rattle.reader.specs.Find.{ZeroRecord}
-use Rattle.sheet.specs.Cases.{status-above, code-status, code-order, code-fine}
+use Rattle.sheet.specs.Laws.Forth.{length-byte-column, length-amount-column}
+use Rattle.reader.specs.Inner.Find.{ZeroRecord}
+use Rattle.sheet.specs.Laws.Cases.{status-above, code-status, code-order, code-fine}
 
 -- the code's tests of a code are the register's
 abbrev tested : ℕ → ℕ

@@ -9,7 +9,7 @@ ghost use Rattle.sheet.specs.Split.{RECORDS, RECORD_BYTES, splitAt};
 ghost use Rattle.sheet.specs.Sheet.{LISTED, sectionsOf};
 ghost use Rattle.sheet.specs.ReadingCases.{numberOf, codeOf};
 ghost use Rattle.sheet.specs.Read.{refusedSheet, readOf, FaultIn};
-ghost use Rattle.reader.specs.Find.{AmountsRefused};
+ghost use Rattle.reader.specs.Inner.Find.{AmountsRefused};
 use analysis::Analysis;
 use analysis::CODES;
 use analysis::Checked;

@@ -9,7 +9,7 @@ ghost use Rattle.analysis.specs.Check.{AtFault};
 ghost use Rattle.sheet.specs.Read.{readOf, FaultIn};
 ghost use Rattle.sheet.specs.Write.{writtenOf, leftOf};
 ghost use Rattle.ternary.specs.Answer.{partialOf};
-ghost use Rattle.whole.specs.Whole.{wholeNumber};
+ghost use Rattle.whole_number.specs.Whole.{wholeNumber};
 ghost use Rattle.controller.specs.Record.{recordOf};
 ghost use Rattle.split.specs.AnswerCases.{figuresOf, heldOf};
 ghost use Rattle.rating.specs.Rate.{splitAnswer, searchOutcome, sheetOutcome};

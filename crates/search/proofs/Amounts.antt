@@ -5,7 +5,7 @@ use mathlib.Core.List.{List}
 use native.Mathlib.Omega.{arith}
 use Rattle.systems.specs.Systems.{Candidate}
 use Rattle.split.specs.Split.{systemOf, amountOf, partsOf, Stock}
-use Rattle.split.specs.Rows.{parts-few}
+use Rattle.split.specs.Laws.Rows.{parts-few}
 
 module _ (ch : List ℕ) (k : ℕ) (a : List ℕ) (s : ℕ) (st : Stock ch k a) (h : s < k) where
   pub known : Candidate (systemOf ch s)

@@ -8,20 +8,20 @@ use lib.Dec.{ltb}
 use borrow.Author.Tests.{not-true, not-false, le-leb, lt-leb, ltb-true, ltb-false}
 use native.Mathlib.Omega.{arith}
 use Rattle.split.specs.Split.{CELLS, both, Stock}
-use Rattle.split.specs.Members.{both-left, both-right}
+use Rattle.split.specs.Laws.Members.{both-left, both-right}
 use Rattle.split.specs.Rating.{someEmpty}
 use Rattle.split.specs.Start.{startOf}
 use Rattle.split.specs.Search.{LEVEL, found, searchOf}
 use Rattle.split.specs.Find.{chosenFit, mixtureFit, searchFit, findOf}
-use Rattle.split.specs.Starts.{start-stock}
-use Rattle.split.specs.Fits.{no-empty}
-use Rattle.split.specs.Finds.{chosen-of, mixture-of, find-search, find-none}
+use Rattle.split.specs.Laws.Starts.{start-stock}
+use Rattle.split.specs.Laws.Fits.{no-empty}
+use Rattle.split.specs.Laws.Finds.{chosen-of, mixture-of, find-search, find-none}
 use Rattle.split.specs.declared.Search.the-variants.{Unfit}
 use Rattle.split.specs.declared.Found.{Found}
-use Rattle.rows.specs.Rows.{rowsOf}
-use Rattle.rows.specs.Carried.{Held}
-use Rattle.rows.specs.Laws.{unfit-empty, fit-held}
-use Rattle.rows.specs.declared.Rows.{Rows}
+use Rattle.split_rows.specs.Rows.{rowsOf}
+use Rattle.split_rows.specs.Inner.Carried.{Held}
+use Rattle.split_rows.specs.Laws.Rows.{unfit-empty, fit-held}
+use Rattle.split_rows.specs.declared.Rows.{Rows}
 
 module _ (mix ch : List ℕ) (k limit level allowance : ℕ) where
   find-high : LEVEL < level → found (replicate CELLS 0) Unfit ≡ findOf mix ch k limit level allowance

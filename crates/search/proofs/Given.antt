@@ -10,23 +10,23 @@ use mir.Syntax.{w64}
 use mir.Val.{toZ, ofZ}
 use borrow.Author.Tests.{eq-eqb, ne-eqb, eqb-true, eqb-false, lt-ltb, le-ltb}
 use Rattle.formula.specs.WorkingRule.{LARGEST}
-use Rattle.formula.specs.Partial.{partial-small}
+use Rattle.formula.specs.Laws.Partial.{partial-small}
 use Rattle.systems.specs.Systems.{COMPONENTS, memberOf, hasOf}
-use Rattle.systems.specs.Members.{has-cases}
-use Rattle.split.specs.Folds.{sum-same}
+use Rattle.systems.specs.Laws.Members.{has-cases}
+use Rattle.split.specs.Laws.Folds.{sum-same}
 use Rattle.split.specs.Split.{SYSTEMS, CELLS, cellOf, systemOf, partsOf, numberAt, Sound}
 use Rattle.split.specs.Move.{MOVES, imbalanceOf, componentOf, giverOf, takerOf, movedOf, lowersOf, canOf}
-use Rattle.split.specs.Members.{Three, three}
-use Rattle.split.specs.Rows.{parts-few}
-use Rattle.split.specs.Tests.{Fit, Affords, affords-true}
-use Rattle.split.specs.Steps.{insteadOf, numberWith, bt, rest-same, giver-changed, taker-changed}
-use Rattle.rows.specs.Rows.{listed}
-use Rattle.rows.specs.Carried.{Held, Workable, partsWith}
-use Rattle.rows.specs.Machine.{at-back}
-use Rattle.integer.specs.Bits.{back}
-use Rattle.search.specs.Tried.{rowOf, columnIn, wantedOf, Triable}
-use Rattle.search.specs.Balance.{markOf, Totalled}
-use Rattle.search.specs.Scan.{givenOf, givesOf, takesOf}
+use Rattle.split.specs.Laws.Members.{Three, three}
+use Rattle.split.specs.Laws.Rows.{parts-few}
+use Rattle.split.specs.Laws.Tests.{Fit, Affords, affords-true}
+use Rattle.split.specs.Laws.Steps.{insteadOf, numberWith, bt, rest-same, giver-changed, taker-changed}
+use Rattle.split_rows.specs.Rows.{listed}
+use Rattle.split_rows.specs.Inner.Carried.{Held, Workable, partsWith}
+use Rattle.split_rows.specs.Laws.Machine.{at-back}
+use Rattle.integer.specs.Laws.Bits.{back}
+use Rattle.search.specs.Inner.Tried.{rowOf, columnIn, wantedOf, Triable}
+use Rattle.search.specs.Inner.Balance.{markOf, Totalled}
+use Rattle.search.specs.Inner.Scan.{givenOf, givesOf, takesOf}
 use Rattle.search.proofs.Squares.{mark-le, sum-few, squares-few, under, imbalance-is, has-mark, put-total}
 use Rattle.search.proofs.Givers.{Gives, gives-true, scan-taker, scan-component, scan-total, scan-fit, scan-can}
 use Rattle.search.proofs.Trials.{with-is}

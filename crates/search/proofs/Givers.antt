@@ -8,13 +8,13 @@ use lib.Dec.{eqb, ltb}
 use borrow.Author.Tests.{lt-ltb, eq-eqb, ne-eqb, ltb-true, ltb-false}
 use Rattle.systems.specs.Systems.{hasOf}
 use Rattle.split.specs.Split.{SYSTEMS, systemOf}
-use Rattle.split.specs.Members.{both-left, both-right}
+use Rattle.split.specs.Laws.Members.{both-left, both-right}
 use Rattle.split.specs.Move.{MOVES, componentOf, giverOf, takerOf, betweenOf, affordsOf, lowersOf, canOf, firstOf}
-use Rattle.split.specs.Folds.{first-here, first-none}
-use Rattle.split.specs.Scan.{first-skip}
-use Rattle.split.specs.Tests.{Fit, Can, can-true, can-is, between-true}
-use Rattle.search.specs.Balance.{Totalled}
-use Rattle.search.specs.Scan.{givenOf, givesOf, takesOf, Past, Scanned}
+use Rattle.split.specs.Laws.Folds.{first-here, first-none}
+use Rattle.split.specs.Laws.Scan.{first-skip}
+use Rattle.split.specs.Laws.Tests.{Fit, Can, can-true, can-is, between-true}
+use Rattle.search.specs.Inner.Balance.{Totalled}
+use Rattle.search.specs.Inner.Scan.{givenOf, givesOf, takesOf, Past, Scanned}
 
 -- the pairs of a giver and a taker
 abbrev PAIRS : ℕ

@@ -10,7 +10,7 @@ use lib.IntN.{ℤ}
 use lib.ListN.{replicate}
 use mir.Syntax.{w32}
 use mir.Val.{Fits}
-use Rattle.systems.specs.Table.{eachTo}
+use Rattle.systems.specs.Laws.Table.{eachTo}
 use Rattle.split.specs.Split.{cellOf, numberAt}
 use Rattle.split.specs.Rating.{spreadOf}
 use Rattle.split.specs.Move.{MOVES, componentOf, giverOf, takerOf, movedOf, firstOf}
@@ -19,19 +19,20 @@ use Rattle.split.specs.declared.Turn.{Turn}
 use Rattle.split.specs.declared.Turn.the-variants.{Rate, Refuse, Move, Halve}
 use Rattle.split.specs.declared.Found.{Found}
 use Rattle.split.specs.declared.Search.the-variants.{Balanced, Unbalanced}
-use Rattle.split.specs.Tests.{Fit}
-use Rattle.split.specs.Steps.{may-move}
-use Rattle.split.specs.Turns.{moves, again-move, again-halve, run-rate, run-refuse}
+use Rattle.split.specs.Laws.Tests.{Fit}
+use Rattle.split.specs.Laws.Steps.{may-move}
+use Rattle.split.specs.Laws.Turns.{moves, again-move, again-halve, run-rate, run-refuse}
 use Rattle.split.proofs.Turn.{the-type}
 use denote.Enum.Declared.{tagOf}
 use types.Run.{OneOf}
 use Rattle.turn.specs.declared.Before.{Before}
 use Rattle.turn.specs.declared.Before.the-variants.{Within, Spent, Open}
-use Rattle.turn.specs.Before.{beforeOf, doneBy, turn-before}
-use Rattle.rows.specs.Rows.{listed}
-use Rattle.rows.specs.Carried.{Held}
-use Rattle.search.specs.Tried.{TRIES, UNKNOWN, Tried}
-use Rattle.search.specs.Rounds.{endOf}
+use Rattle.turn.specs.Before.{beforeOf, doneBy}
+use Rattle.turn.specs.Laws.Before.{turn-before}
+use Rattle.split_rows.specs.Rows.{listed}
+use Rattle.split_rows.specs.Inner.Carried.{Held}
+use Rattle.search.specs.Inner.Tried.{TRIES, UNKNOWN, Tried}
+use Rattle.search.specs.Inner.Rounds.{endOf}
 use Rattle.search.proofs.Trials.{spread-same}
 use Rattle.search.proofs.Tries.{none-is}
 

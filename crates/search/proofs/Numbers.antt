@@ -8,14 +8,16 @@ use mir.Syntax.{w32, w64}
 use mir.Val.{Fits, toZ, ofZ}
 use borrow.Author.Tests.{ltb-true}
 use Rattle.formula.specs.WorkingRule.{LARGEST}
-use Rattle.formula.specs.Partial.{partialNumber, partial-small}
-use Rattle.ternary.specs.Answer.{formulaOf, formula-is}
+use Rattle.formula.specs.Partial.{partialNumber}
+use Rattle.formula.specs.Laws.Partial.{partial-small}
+use Rattle.ternary.specs.Answer.{formulaOf}
+use Rattle.ternary.specs.Laws.Answer.{formula-is}
 use Rattle.ternary.specs.declared.Partial.{Partial}
 use Rattle.ternary.specs.declared.Partial.the-variants.{Number, Refused}
 use Rattle.systems.specs.Systems.{Candidate}
-use Rattle.systems.specs.Table.{each-candidate, to-true}
-use Rattle.split.specs.Candidates.{known-system}
-use Rattle.integer.specs.Bits.{back}
+use Rattle.systems.specs.Laws.Table.{each-candidate, to-true}
+use Rattle.split.specs.Laws.Candidates.{known-system}
+use Rattle.integer.specs.Laws.Bits.{back}
 
 pub system-fits : (system : ℕ) → Candidate system → Fits w32 system
 system-fits system h = record { fits = omega (arith, ltb-true system 256 (to-true (ltb system 256) (each-candidate (λ s. ltb s 256) tt system h))) }

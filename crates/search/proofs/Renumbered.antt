@@ -16,13 +16,14 @@ use Rattle.formula.specs.WorkingRule.{LARGEST}
 use Rattle.systems.specs.Systems.{COMPONENTS}
 use Rattle.split.specs.Split.{CELLS, numberAt, Sound}
 use Rattle.split.specs.Move.{componentOf, giverOf, takerOf, movedOf}
-use Rattle.split.specs.Tests.{Fit, Between}
-use Rattle.split.specs.Steps.{bt, component-low, sound-moved}
-use Rattle.rows.specs.Rows.{listed, Small}
-use Rattle.rows.specs.Carried.{Carried, Held}
-use Rattle.integer.specs.Bits.{back}
-use Rattle.search.specs.Tried.{TRIES, UNKNOWN, rowOf, wantedOf, Tried, Forgot}
-use Rattle.search.specs.Rounds.{Back}
+use Rattle.split.specs.Laws.Tests.{Fit, Between}
+use Rattle.split.specs.Laws.Steps.{bt, component-low, sound-moved}
+use Rattle.split_rows.specs.Rows.{listed}
+use Rattle.split_rows.specs.Inner.Small.{Small}
+use Rattle.split_rows.specs.Inner.Carried.{Carried, Held}
+use Rattle.integer.specs.Laws.Bits.{back}
+use Rattle.search.specs.Inner.Tried.{TRIES, UNKNOWN, rowOf, wantedOf, Tried, Forgot}
+use Rattle.search.specs.Inner.Rounds.{Back}
 use Rattle.search.proofs.Trials.{renumber-ok}
 use Rattle.search.proofs.Tries.{taker-wanted, same-wanted, giver-back, taker-back}
 use Rattle.search.proofs.Givers.{fit-gives}

@@ -9,15 +9,15 @@ use lib.IntN.{ℤ, pos, negsuc, natAbs, _+ℤ_, _-ℤ_, _*ℤ_}
 use lib.Signed.{quotZ, nonNeg}
 use mir.Syntax.{w64}
 use mir.Val.{SFits, Fits, toZ, ofZ}
-use Rattle.integer.specs.Bits.{sfits-small, back}
-use Rattle.integer.specs.Ring.{natAbs-quot}
-use Rattle.integer.specs.Order.{sub-ge}
-use Rattle.integer.specs.Normal.{X, K, _⊕_, _⊗_, ⊖, solve, env}
+use Rattle.integer.specs.Laws.Bits.{sfits-small, back}
+use Rattle.integer.specs.Laws.Ring.{natAbs-quot}
+use Rattle.integer.specs.Laws.Order.{sub-ge}
+use Rattle.integer.specs.Laws.Normal.{X, K, _⊕_, _⊗_, ⊖, solve, env}
 use Rattle.formula.specs.WorkingRule.{LARGEST}
 use Rattle.split.specs.Fold.{sumTo}
-use Rattle.split.specs.Folds.{sum-but, sum-has}
+use Rattle.split.specs.Laws.Folds.{sum-but, sum-has}
 use Rattle.split.specs.Move.{squareOf, imbalanceOf}
-use Rattle.search.specs.Balance.{markOf, Totalled}
+use Rattle.search.specs.Inner.Balance.{markOf, Totalled}
 
 -- the values cut to thousandths of a methane number
 abbrev cutBits : ℤ → ℤ

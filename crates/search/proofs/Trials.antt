@@ -20,14 +20,15 @@ use Rattle.ternary.specs.declared.Partial.the-variants.{Number, Refused}
 use Rattle.split.specs.Split.{SYSTEMS, cellOf, systemOf, partsOf, numberAt, Sound}
 use Rattle.split.specs.Rating.{spreadOf}
 use Rattle.split.specs.Move.{componentOf, giverOf, takerOf, movedOf}
-use Rattle.split.specs.Folds.{greatest-same, least-same}
-use Rattle.split.specs.Members.{three}
-use Rattle.split.specs.Rows.{parts-few}
-use Rattle.split.specs.Tests.{Fit}
-use Rattle.split.specs.Steps.{insteadOf, numberWith, Changed, instead-is, number-with, bt, sound-moved, rest-same, giver-changed, taker-changed}
-use Rattle.rows.specs.Rows.{listed, Small}
-use Rattle.rows.specs.Carried.{Carried, Workable}
-use Rattle.integer.specs.Bits.{back}
+use Rattle.split.specs.Laws.Folds.{greatest-same, least-same}
+use Rattle.split.specs.Laws.Members.{three}
+use Rattle.split.specs.Laws.Rows.{parts-few}
+use Rattle.split.specs.Laws.Tests.{Fit}
+use Rattle.split.specs.Laws.Steps.{insteadOf, numberWith, Changed, instead-is, number-with, bt, sound-moved, rest-same, giver-changed, taker-changed}
+use Rattle.split_rows.specs.Rows.{listed}
+use Rattle.split_rows.specs.Inner.Small.{Small}
+use Rattle.split_rows.specs.Inner.Carried.{Carried, Workable}
+use Rattle.integer.specs.Laws.Bits.{back}
 use Rattle.search.proofs.Numbers.{number-ok, number-never}
 
 -- the spread depends on the k numbers alone

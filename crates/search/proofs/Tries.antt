@@ -16,15 +16,15 @@ use Rattle.formula.specs.WorkingRule.{LARGEST}
 use Rattle.systems.specs.Systems.{COMPONENTS, memberOf}
 use Rattle.split.specs.Split.{SYSTEMS, CELLS, cellOf, systemOf, numberAt, Sound}
 use Rattle.split.specs.Move.{componentOf, giverOf, takerOf, movedOf}
-use Rattle.split.specs.Members.{three}
-use Rattle.split.specs.Moves.{cell-row}
-use Rattle.split.specs.Tests.{Fit}
-use Rattle.split.specs.Steps.{numberWith, Changed, number-with, bt, component-low, may-move, giver-changed, taker-changed}
-use Rattle.rows.specs.Rows.{listed}
-use Rattle.rows.specs.Carried.{Workable}
-use Rattle.search.specs.Tried.{TRIES, UNKNOWN, rowOf, columnIn, triedOf, wantedOf, Tried, Triable, Forgot}
-use Rattle.integer.specs.Bits.{back}
-use Rattle.rows.specs.Machine.{pass}
+use Rattle.split.specs.Laws.Members.{three}
+use Rattle.split.specs.Laws.Moves.{cell-row}
+use Rattle.split.specs.Laws.Tests.{Fit}
+use Rattle.split.specs.Laws.Steps.{numberWith, Changed, number-with, bt, component-low, may-move, giver-changed, taker-changed}
+use Rattle.split_rows.specs.Rows.{listed}
+use Rattle.split_rows.specs.Inner.Carried.{Workable}
+use Rattle.search.specs.Inner.Tried.{TRIES, UNKNOWN, rowOf, columnIn, triedOf, wantedOf, Tried, Triable, Forgot}
+use Rattle.integer.specs.Laws.Bits.{back}
+use Rattle.split_rows.specs.Laws.Machine.{pass}
 use Rattle.search.proofs.Trials.{taker-workable}
 
 -- the amount that a try leads to

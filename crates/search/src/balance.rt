@@ -4,8 +4,9 @@ ghost use Prim.Native.Nat.{_+_, _*_, _-_, _<_, _≤_};
 ghost use lib.IntN.{natAbs};
 ghost use Rattle.formula.specs.WorkingRule.{LARGEST};
 ghost use Rattle.split.specs.Split.{SYSTEMS};
-ghost use Rattle.rows.specs.Rows.{listed, Small};
-ghost use Rattle.search.specs.Balance.{markOf, Totalled};
+ghost use Rattle.split_rows.specs.Rows.{listed};
+ghost use Rattle.split_rows.specs.Inner.Small.{Small};
+ghost use Rattle.search.specs.Inner.Balance.{markOf, Totalled};
 use systems::SYSTEMS;
 
 // A thousandth of a methane number, in units.

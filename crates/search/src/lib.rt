@@ -43,7 +43,7 @@ pub fn find(
         return nothing();
     }
     let a = start::start(mix, choice);
-    let rows = rows::evaluate(choice, &a);
+    let rows = split_rows::evaluate(choice, &a);
     if !rows.fit {
         return nothing();
     }

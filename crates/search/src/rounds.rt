@@ -2,9 +2,9 @@
 ghost use mathlib.Core.Path.{_≡_};
 ghost use Prim.Native.Nat.{_≤_, _^_};
 ghost use Rattle.split.specs.Search.{LEVEL, turnOf, found, searchOf};
-ghost use Rattle.rows.specs.Carried.{Held};
-ghost use Rattle.search.specs.Tried.{Tried};
-ghost use Rattle.search.specs.Rounds.{endOf};
+ghost use Rattle.split_rows.specs.Inner.Carried.{Held};
+ghost use Rattle.search.specs.Inner.Tried.{Tried};
+ghost use Rattle.search.specs.Inner.Rounds.{endOf};
 use super::moves::first_move;
 use super::moves::moved;
 use super::moves::renumber;

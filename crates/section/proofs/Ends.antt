@@ -8,7 +8,7 @@ use Rattle.section.specs.declared.Section.{Section}
 use Rattle.section.specs.declared.Section.the-variants.{Records, Torn}
 use Rattle.section.specs.Section.{endAt, sectionAt}
 use Rattle.section.specs.Walk.{standsAfter}
-use Rattle.section.specs.Laws.{section-records, section-torn}
+use Rattle.section.specs.Laws.Sections.{section-records, section-torn}
 
 module _ (s : List ℕ) (at size : ℕ) where
   pub records-at : {count bytes : ℕ} → count ≡ getD s at 0 → bytes ≡ getD s at 0 * size → at + 1 + bytes ≤ length s → Records count (at + 1) (at + 1 + bytes) ≡ sectionAt s at size

@@ -6,10 +6,7 @@ pub mod Split
 pub mod Sheet
 pub mod Read
 pub mod Write
-pub mod Cases
-pub mod Back
-pub mod Forth
 pub mod RoundTrip
-pub mod Coded
 pub mod Calls
 pub mod Examples
+pub mod Laws

@@ -11,7 +11,7 @@ use lib.Dec.{eqb}
 use borrow.Author.Tests.{eqb-true, eqb-false}
 use Rattle.analysis.specs.Register.{CODES, statusOf, ifElse}
 use Rattle.analysis.specs.Check.{greatestOf, inRange, allInRange, refusalOf}
-use Rattle.analysis.specs.Ranges.{passed-ranges}
+use Rattle.analysis.specs.Laws.Ranges.{passed-ranges}
 use Rattle.refusal.specs.Register.{TORN}
 use Rattle.sheet.specs.declared.Reading.the-variants.{Read, Refused}
 use Rattle.sheet.specs.declared.Sections.{Sections}
@@ -20,19 +20,13 @@ use Rattle.sheet.specs.declared.Sheet.{Sheet}
 use Rattle.sheet.specs.declared.Split.{Split}
 use Rattle.sheet.specs.declared.Written.the-variants as w
 use Rattle.sheet.specs.Components.{codesReading, amountsFrom, zeroListed, countOf, componentBytes}
-use Rattle.sheet.specs.Split.{RECORDS, allowedCount, splitBytes, byteColumn, amountColumn, padded, splitAt}
-use Rattle.sheet.specs.Split.{trimmed}
+use Rattle.sheet.specs.Split.{RECORDS, allowedCount, splitBytes, byteColumn, amountColumn, padded, splitAt, trimmed}
 use Rattle.sheet.specs.Sheet.{LISTED, SHEET, sheetOf, sectionsOf}
 use Rattle.sheet.specs.Read.{amountsOf, amountsRefusal, refusedSheet, contentOf, readOf}
 use Rattle.sheet.specs.Write.{writeRefusal, writtenOf, leftOf}
-use Rattle.sheet.specs.Cases.{both-true, allowed-most, allowed-room, Sectioned, sectioned, sections-both}
-use Rattle.sheet.specs.Cases.{read-torn, read-good, Whole, read-whole, amounts-checked, amounts-back}
-use Rattle.sheet.specs.Cases.{length-components, length-sheet, number-none, number-back, written-length}
-use Rattle.sheet.specs.Cases.{written-back, left-sheet}
-use Rattle.sheet.specs.Back.{unlisted, codes-back, zero-back, amounts-filled, rest-here, cut, cut-take}
-use Rattle.sheet.specs.Back.{split-back}
-use Rattle.sheet.specs.Forth.{Bytes, one, Filled, filled-forth, split-forth, column-forth, length-byte-column}
-use Rattle.sheet.specs.Forth.{length-amount-column}
+use Rattle.sheet.specs.Laws.Cases.{both-true, allowed-most, allowed-room, Sectioned, sectioned, sections-both, read-torn, read-good, Whole, read-whole, amounts-checked, amounts-back, length-components, length-sheet, number-none, number-back, written-length, written-back, left-sheet}
+use Rattle.sheet.specs.Laws.Back.{unlisted, codes-back, zero-back, amounts-filled, rest-here, cut, cut-take, split-back}
+use Rattle.sheet.specs.Laws.Forth.{Bytes, one, Filled, filled-forth, split-forth, column-forth, length-byte-column, length-amount-column}
 
 -- ---- how long a sheet is
 

@@ -11,12 +11,13 @@ use Rattle.integer.specs.Fraction.{Within}
 use Rattle.split.specs.Fold.{sumTo}
 use Rattle.split.specs.Split.{CELLS, partsOf, Chosen, Sound}
 use Rattle.split.specs.Rating.{ratingOf, proposedOf}
-use Rattle.split.specs.Clean.{Clean}
-use Rattle.split.specs.Exact.{NoneEmpty, exactRating, rating-within}
+use Rattle.split.specs.Laws.Clean.{Clean}
+use Rattle.split.specs.Exact.{NoneEmpty, exactRating}
+use Rattle.split.specs.Laws.Exact.{rating-within}
 use Rattle.split.specs.Fits.{Resums, Fit}
 use Rattle.split.specs.Rated.{IsRated, rated-fit, rated-is}
-use Rattle.split.specs.Sums.{totalOf, parts-le, parts-columns, resummed}
-use Rattle.split.specs.Size.{spread-small, rating-small}
+use Rattle.split.specs.Laws.Sums.{totalOf, parts-le, parts-columns, resummed}
+use Rattle.split.specs.Laws.Size.{spread-small, rating-small}
 use Rattle.split.specs.declared.Answer.the-variants.{Rated}
 
 module _ (ch : List ℕ) (k : ℕ) (mix a : List ℕ) (chosen : Chosen ch k) where

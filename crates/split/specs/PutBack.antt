@@ -8,15 +8,15 @@ use Rattle.integer.specs.Fraction.{Within}
 use Rattle.systems.specs.Systems.{COMPONENTS}
 use Rattle.split.specs.Split.{RECORDS, cellsOf, amountsOf, numberAt}
 use Rattle.split.specs.Rating.{ratingOf, proposedOf}
-use Rattle.split.specs.Starts.{Shared}
-use Rattle.split.specs.Finds.{Balance}
-use Rattle.split.specs.Spread.{spread-near}
+use Rattle.split.specs.Laws.Starts.{Shared}
+use Rattle.split.specs.Laws.Finds.{Balance}
+use Rattle.split.specs.Laws.Spread.{spread-near}
 use Rattle.split.specs.Exact.{exactRating}
 use Rattle.split.specs.Fits.{Fit}
 use Rattle.split.specs.Rated.{fit-rated}
-use Rattle.split.specs.Sums.{totalOf}
+use Rattle.split.specs.Laws.Sums.{totalOf}
 use Rattle.split.specs.Accuracy.{rated-within}
-use Rattle.split.specs.Records.{cells-back}
+use Rattle.split.specs.Laws.Records.{cells-back}
 use Rattle.split.specs.declared.Answer.the-variants.{Rated}
 
 module _ (mix ch : List ℕ) (k limit allowance : ℕ) (a : List ℕ) (s r : ℕ) (balance : Balance mix ch k limit allowance a s r) (shared : (c : ℕ) → c < COMPONENTS → Shared mix ch k c) where

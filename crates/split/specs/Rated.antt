@@ -10,8 +10,9 @@ use lib.IntN.{ℤ}
 use borrow.Author.Tests.{ltb-false, le-ltb}
 use Rattle.split.specs.Split.{numberAt}
 use Rattle.split.specs.Rating.{spreadOf, ratingOf, resums, someEmpty, verdict, proposedOf}
-use Rattle.split.specs.Spread.{spread-near, near-spread}
-use Rattle.split.specs.Fits.{Fit, resums-yes, yes-resums, empty-no, no-empty}
+use Rattle.split.specs.Laws.Spread.{spread-near, near-spread}
+use Rattle.split.specs.Fits.{Fit}
+use Rattle.split.specs.Laws.Fits.{resums-yes, yes-resums, empty-no, no-empty}
 use Rattle.split.specs.declared.Answer.{Answer}
 use Rattle.split.specs.declared.Answer.the-variants.{Rated, Refused}
 

@@ -12,9 +12,11 @@ use lib.IntN.{ℤ}
 use borrow.Author.Tests.{ltb-false, le-ltb}
 use Rattle.split.specs.Split.{numberAt}
 use Rattle.split.specs.Rating.{spreadOf, ratingOf, resums, someEmpty, verdict, proposedOf}
-use Rattle.split.specs.Spread.{EveryTwo, spread-near, near-spread}
+use Rattle.split.specs.Spread.{EveryTwo}
+use Rattle.split.specs.Laws.Spread.{spread-near, near-spread}
 use Rattle.split.specs.Exact.{NoneEmpty}
-use Rattle.split.specs.Fits.{Resums, resums-yes, yes-resums, empty-no, no-empty}
+use Rattle.split.specs.Fits.{Resums}
+use Rattle.split.specs.Laws.Fits.{resums-yes, yes-resums, empty-no, no-empty}
 use Rattle.split.specs.AnswerCases.{numberOf}
 use Rattle.split.specs.Rated.{IsRated, proposed-unsummed, proposed-empty, proposed-wide, fit-rated, rated-fit}
 use Rattle.split.specs.declared.Answer.the-variants.{Rated, Refused}

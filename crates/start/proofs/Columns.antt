@@ -11,13 +11,13 @@ use lib.ListN.{getD, set, length, replicate, length-set, length-replicate, getD-
 use lib.Seq.{getD-set-same, getD-set-other, set-getD, ext-getD}
 use borrow.Author.Tests.{ltb-true, ltb-false, le-ltb, eqb-true, eqb-false}
 use Rattle.systems.specs.Systems.{COMPONENTS, hasOf}
-use Rattle.systems.specs.Table.{none-has}
+use Rattle.systems.specs.Laws.Table.{none-has}
 use Rattle.split.specs.Fold.{sumTo, table}
-use Rattle.split.specs.Tables.{length-table, getD-table}
+use Rattle.split.specs.Laws.Tables.{length-table, getD-table}
 use Rattle.split.specs.Split.{SYSTEMS, CELLS, systemOf}
 use Rattle.split.specs.Start.{sharersOf, shareOf, givenOf, startCell, startOf}
-use Rattle.split.specs.Starts.{cell-past, cell-off, cell-on, some-sharer}
-use Rattle.start.specs.Column.{Cells, Marked, partOf, rowOf, columnTo, sharedOf, sharedTo}
+use Rattle.split.specs.Laws.Starts.{cell-past, cell-off, cell-on, some-sharer}
+use Rattle.start.specs.Inner.Column.{Cells, Marked, partOf, rowOf, columnTo, sharedOf, sharedTo}
 
 -- ---- one column
 

@@ -6,7 +6,7 @@ use mathlib.Core.List.{List}
 use native.Mathlib.Omega.{arith}
 use Rattle.systems.specs.Systems.{COMPONENTS, hasOf}
 use Rattle.split.specs.Split.{systemOf}
-use Rattle.start.specs.Column.{containedAt}
+use Rattle.start.specs.Inner.Column.{containedAt}
 
 module _ (ch : List ℕ) (s c : ℕ) (low : c < COMPONENTS) (b : Bool) (e : b ≡ hasOf (systemOf ch s) c) where
   contained-row : cond (hasOf (systemOf ch s) c) 1 0 ≡ containedAt ch (s * COMPONENTS + c)

@@ -11,11 +11,11 @@ use lib.ListN.{getD, set, length}
 use lib.Seq.{getD-set-other}
 use borrow.Author.Tests.{lt-ltb, le-ltb, eq-eqb, ne-eqb, eqb-true, eqb-false}
 use Rattle.systems.specs.Systems.{COMPONENTS, hasOf}
-use Rattle.split.specs.Folds.{sum-none, sum-more}
+use Rattle.split.specs.Laws.Folds.{sum-none, sum-more}
 use Rattle.split.specs.Split.{CELLS, systemOf}
 use Rattle.split.specs.Start.{sharersOf}
 use Rattle.start.proofs.Columns.{over-marks}
-use Rattle.start.specs.Column.{Cells, Marked, containedAt, partOf, rowOf, columnTo, sharedOf}
+use Rattle.start.specs.Inner.Column.{Cells, Marked, containedAt, partOf, rowOf, columnTo, sharedOf}
 
 -- the three cases of a part
 module _ (here share odd rank : ℕ) where

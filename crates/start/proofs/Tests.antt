@@ -9,11 +9,11 @@ use lib.ListN.{getD}
 use borrow.Author.Tests.{le-ltb, lt-ltb, le-leb, lt-leb}
 use Rattle.systems.specs.Systems.{COMPONENTS, candidates, memberOf, elem}
 use Rattle.split.specs.Fold.{sumTo, allTo}
-use Rattle.split.specs.Folds.{sum-none, sum-more}
+use Rattle.split.specs.Laws.Folds.{sum-none, sum-more}
 use Rattle.split.specs.Split.{SYSTEMS, systemOf, both}
 use Rattle.split.specs.Find.{chosenFit, mixtureFit}
-use Rattle.split.specs.Candidates.{candidate-is}
-use Rattle.split.specs.Downs.{all-next, all-false, all-end}
+use Rattle.split.specs.Laws.Candidates.{candidate-is}
+use Rattle.split.specs.Laws.Downs.{all-next, all-false, all-end}
 
 -- the parts of the components before c, added
 pub record Added (mix : List ℕ) (sum c : ℕ) : Type 0 where

@@ -6,7 +6,7 @@ ghost use Rattle.systems.specs.Systems.{COMPONENTS};
 ghost use Rattle.split.specs.Split.{SYSTEMS, CELLS, both};
 ghost use Rattle.split.specs.Start.{sharersOf, startOf};
 ghost use Rattle.split.specs.Find.{chosenFit, mixtureFit};
-ghost use Rattle.start.specs.Column.{Cells, Marked, containedAt, partOf, columnTo, sharedOf, sharedTo};
+ghost use Rattle.start.specs.Inner.Column.{Cells, Marked, containedAt, partOf, columnTo, sharedOf, sharedTo};
 use split::CELLS;
 use systems::COMPONENTS;
 use systems::Choice;

@@ -7,8 +7,8 @@ use lib.Dec.{T, eqb, leb, leb→le}
 use borrow.Author.Tests.{ne-eqb}
 use Rattle.systems.specs.Systems.{COMPONENTS, memberOf, hasOf}
 use Rattle.systems.specs.Choice.{NUMBERS, maskFrom, maskOf}
-use Rattle.systems.specs.Members.{member-none}
-use Rattle.systems.specs.Table.{everyTo, eachTo, agree, agree-at, beq-is}
+use Rattle.systems.specs.Laws.Members.{member-none}
+use Rattle.systems.specs.Laws.Table.{everyTo, eachTo, agree, agree-at, beq-is}
 
 -- ---- the members
 

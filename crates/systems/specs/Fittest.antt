@@ -9,8 +9,8 @@ use lib.Ieee.Fits.{and-i, and-l, and-r}
 use lib.Dec.{T, eqb, leb, leb→le, le→leb}
 use borrow.Author.Tests.{eqb-true, eq-eqb}
 use Rattle.systems.specs.Systems.{COMPONENTS, memberOf, hasOf, elem, candidates}
-use Rattle.systems.specs.Table.{of-true, eachTo}
-use Rattle.systems.specs.Scores.{score-open, score-closed, open-of-score, better-before, better-cases}
+use Rattle.systems.specs.Laws.Table.{of-true, eachTo}
+use Rattle.systems.specs.Laws.Scores.{score-open, score-closed, open-of-score, better-before, better-cases}
 use Rattle.systems.specs.Choice.{fold, isChosen, openOf, scoreOf, betterOf, fittestOf}
 
 -- the numbers of the list rise, from b on

@@ -1,11 +1,7 @@
 pub mod Systems
-pub mod Table
-pub mod Members
 pub mod Choice
 pub mod Marked
-pub mod Scores
-pub mod Presence
 pub mod Without
 pub mod Fittest
 pub mod Chosen
-pub mod Full
+pub mod Laws

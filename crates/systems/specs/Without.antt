@@ -10,10 +10,8 @@ use lib.Dec.{eqb, ltb}
 use lib.ListN.{getD}
 use borrow.Author.Tests.{eqb-true, le-ltb}
 use Rattle.systems.specs.Systems.{COMPONENTS, HYDROGEN, memberOf, hydrocarbonSystems}
-use Rattle.systems.specs.Presence.{present-is}
-use Rattle.systems.specs.Choice.{weights, fitnessOf, allTo, maskFrom, inMask, presentAt, presentTo}
-use Rattle.systems.specs.Choice.{presentOf, presentIn, standingBy, candidatesFor, candidatesOf, keep}
-use Rattle.systems.specs.Choice.{hydrocarbonOrder, order, chooseBy, chooseIn, chooseOf, answerOf, choiceOf}
+use Rattle.systems.specs.Laws.Presence.{present-is}
+use Rattle.systems.specs.Choice.{weights, fitnessOf, allTo, maskFrom, inMask, presentAt, presentTo, presentOf, presentIn, standingBy, candidatesFor, candidatesOf, keep, hydrocarbonOrder, order, chooseBy, chooseIn, chooseOf, answerOf, choiceOf}
 
 -- ---- as it was
 

@@ -5,7 +5,7 @@ use lib.IntN.{ℤ}
 use lib.Signed.{mag}
 use mir.Syntax.{w64}
 use mir.Val.{toZ, ofZ}
-use Rattle.integer.specs.Bits.{read-back}
+use Rattle.integer.specs.Laws.Bits.{read-back}
 use Rattle.formula.specs.WorkingRule.{stepZ}
 
 -- a call's result that its contract says to be x

@@ -3,7 +3,7 @@ use mathlib.Core.Path.{_≡_, refl, sym, ap, ap₂, _∙_}
 use Prim.Native.Nat.{ℕ, _+_, _≤_}
 use native.Mathlib.Omega.{arith}
 use lib.IntN.{ℤ, natAbs}
-use Rattle.formula.specs.Size.{horner-le, step-le}
+use Rattle.formula.specs.Laws.Size.{horner-le, step-le}
 use Rattle.formula.specs.WorkingRule.{stepZ, horner, coefs, sumAbs, worked, rowsOf, LARGEST}
 
 -- four steps: the rows 4 to 7, combined already, and the rows 3 to 0

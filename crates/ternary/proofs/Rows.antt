@@ -3,7 +3,7 @@ use mathlib.Core.Path.{_≡_, refl, sym, ap, _∙_}
 use Prim.Native.Nat.{ℕ, zero, suc, _+_, _-_, _≤_, _<_}
 use native.Mathlib.Omega.{arith}
 use lib.IntN.{ℤ, pos, natAbs}
-use Rattle.formula.specs.Size.{horner-le, part-le}
+use Rattle.formula.specs.Laws.Size.{horner-le, part-le}
 use Rattle.formula.specs.WorkingRule.{stepZ, horner, coefs, sumAbs, LARGEST}
 use Rattle.ternary.proofs.Signs.{zero-step}
 

@@ -16,7 +16,8 @@ use Rattle.formula.specs.Ranges.{rangesOf, shareIn, sharesIn, inRange}
 use Rattle.ternary.specs.declared.Partial.{Partial}
 use Rattle.ternary.specs.PartialCases.{numberOf}
 use Rattle.ternary.specs.declared.Partial.the-variants.{Refused}
-use Rattle.ternary.specs.Answer.{isMixture, rangedRefusalOf, partialOf, partial-refusal, partial-outside}
+use Rattle.ternary.specs.Answer.{isMixture, rangedRefusalOf, partialOf}
+use Rattle.ternary.specs.Laws.Answer.{partial-refusal, partial-outside}
 
 -- a percent of a sum of three amounts
 pub product-fits : (p d : ℕ) → p ≤ 255 → d ≤ 12884901885 → Fits w64 (p * d)

@@ -10,8 +10,8 @@ use lib.Signed.{quotZ, ltZ, nonNeg, mag}
 use mir.Syntax.{w64}
 use mir.Val.{Fits, SFits, toZ, ofZ}
 use mir.ValLaws.{toZ-ofZ, toZ-pos}
-use Rattle.integer.specs.Bits.{sfits-small}
-use Rattle.integer.specs.Ring.{natAbs-+, natAbs--, natAbs-neg}
+use Rattle.integer.specs.Laws.Bits.{sfits-small}
+use Rattle.integer.specs.Laws.Ring.{natAbs-+, natAbs--, natAbs-neg}
 use Rattle.formula.specs.WorkingRule.{stepZ, LARGEST}
 
 -- ---- over whole numbers

@@ -7,10 +7,11 @@ use native.Mathlib.Omega.{arith}
 use lib.IntN.{ℤ}
 use Rattle.formula.specs.WorkingRule.{worked, rowsOf}
 use Rattle.formula.specs.Coefficients.{isSystem, tableOf, coeffOf}
-use Rattle.formula.specs.Bound.{small}
-use Rattle.ternary.specs.Table.{inTable, Bounded}
+use Rattle.formula.specs.Laws.Bound.{small}
+use Rattle.ternary.specs.Inner.Table.{inTable, Bounded}
 use Rattle.formula.specs.Partial.{partialNumber}
-use Rattle.ternary.specs.Answer.{isMixture, refusalOf, formulaOf, formula-refusal, formula-is, formula-12}
+use Rattle.ternary.specs.Answer.{isMixture, refusalOf, formulaOf}
+use Rattle.ternary.specs.Laws.Answer.{formula-refusal, formula-is, formula-12}
 use Rattle.ternary.specs.PartialCases.{numberOf}
 use Rattle.ternary.specs.declared.Partial.{Partial}
 use Rattle.ternary.specs.declared.Partial.the-variants.{Number, Refused}

@@ -1,5 +1,5 @@
 pub mod PartialCases
 pub mod Answer
 pub mod Answered
-pub mod Precomputed
-pub mod Table
+pub mod Inner
+pub mod Laws

@@ -6,7 +6,7 @@ ghost use lib.IntN.{pos, natAbs};
 ghost use lib.Dec.{T};
 ghost use lib.Signed.{nonNeg};
 ghost use Rattle.formula.specs.WorkingRule.{stepZ, LARGEST};
-ghost use Rattle.ternary.specs.Precomputed.{Precomputed};
+ghost use Rattle.ternary.specs.Inner.Precomputed.{Precomputed};
 
 // 1 / d is counted in 2^63ths.
 pub(crate) const ONE: u64 = 9223372036854775808;

@@ -18,8 +18,8 @@ use Rattle.sheet.specs.Split.{allowedCount}
 use Rattle.sheet.specs.Components.{countOf}
 use Rattle.sheet.specs.Sheet.{sheetOf}
 use Rattle.sheet.specs.Write.{writeRefusal, writtenOf, WrittenAs}
-use Rattle.sheet.specs.Cases.{never, length-sheet, number-count, number-check, number-short, number-none, number-back, written-length, written-refused, written-back, left-sheet, left-same}
-use Rattle.writer.specs.Answered.{Answered, roomFor}
+use Rattle.sheet.specs.Laws.Cases.{never, length-sheet, number-count, number-check, number-short, number-none, number-back, written-length, written-refused, written-back, left-sheet, left-same}
+use Rattle.writer.specs.Inner.Answered.{Answered, roomFor}
 
 -- room or none
 pub room-short : (len size : ℕ) → size < len → Refused 14 0 ≡ roomFor len size

@@ -12,7 +12,7 @@ use Rattle.sheet.specs.Components.{countOf, componentBytes}
 use Rattle.sheet.specs.declared.Split.{Split}
 use Rattle.sheet.specs.Split.{recordBytes, splitBytes}
 use Rattle.sheet.specs.Sheet.{sheetOf}
-use Rattle.sheet.specs.Cases.{length-components}
+use Rattle.sheet.specs.Laws.Cases.{length-components}
 
 add-two : (n : ℕ) → n + 2 ≡ suc (suc n)
 add-two n = omega arith

@@ -13,7 +13,7 @@ ghost use Rattle.sheet.specs.Sheet.{sheetOf};
 ghost use Rattle.analysis.specs.Check.{AtFault};
 ghost use Rattle.sheet.specs.WrittenCases.{numberOf, codeOf};
 ghost use Rattle.sheet.specs.Write.{writtenOf, leftOf};
-ghost use Rattle.writer.specs.Answered.{Answered, roomFor};
+ghost use Rattle.writer.specs.Inner.Answered.{Answered, roomFor};
 use analysis::Analysis;
 use analysis::CODES;
 use analysis::Checked;

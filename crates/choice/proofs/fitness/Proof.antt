@@ -6,7 +6,7 @@ use borrow.Author.Needs.{needs}
 use lib.ListN.{getD}
 use Rattle.systems.specs.Systems.{COMPONENTS}
 use Rattle.systems.specs.Choice.{candidatesFor}
-use Rattle.choice.specs.Keys.{weighedTo}
+use Rattle.choice.specs.Inner.Keys.{weighedTo}
 use Rattle.choice.proofs.Keying.{weighed-next}
 use Rattle.choice.proofs.fitness.Statement.{statement}
 use Rattle.choice.proofs.fitness.Tie as tie

@@ -4,7 +4,7 @@ use lib.IntN.{ℤ}
 use lib.Dec.{T}
 use mir.Syntax.{w32, w64}
 use mir.Val.{Fits, SFits, toZ, ofZ}
-use Rattle.whole.specs.Whole.{wholeNumber}
+use Rattle.whole_number.specs.Whole.{wholeNumber}
 use Rattle.display.specs.Decimal.{figureOf}
 use Rattle.display.specs.Longest.{spread-length, count-length}
 use Rattle.display.proofs.Fields.{length-two, rating-room, whole-room, rated-room, rated-put, refused-room, refused-put}

@@ -4,7 +4,7 @@ use mathlib.Core.Path.{_≡_, ap, _∙_}
 use native.Mathlib.Omega.{arith}
 use Rattle.mixture.specs.Scaling.{WHOLE}
 use Rattle.mixture.specs.Inert.{halvesUp, methaneShare}
-use Rattle.mixture.specs.Bounds.{share-greatest}
+use Rattle.mixture.specs.Laws.Bounds.{share-greatest}
 use borrow.Author.Needs.{needs}
 use Rattle.mixture.proofs.methane_share.Statement.{statement}
 use Rattle.mixture.proofs.methane_share.Tie as tie

@@ -3,7 +3,7 @@ use mathlib.Core.Path.{_≡_, sym, _∙_}
 use lib.ListN.{length}
 use Rattle.analysis.specs.Register.{CODES}
 use Rattle.analysis.specs.Check.{Checking}
-use Rattle.mixture.specs.Bounds.{tenths-positive}
+use Rattle.mixture.specs.Laws.Bounds.{tenths-positive}
 use Rattle.mixture.proofs.Answered.{refusal-none, refusal-some, same-answer, mixture-in-range, inert-in-range, mixture-refused, inert-refused}
 use borrow.Author.Needs.{needs}
 use Rattle.mixture.proofs.simplify.Statement.{statement}

@@ -5,7 +5,7 @@ use Prim.Native.Nat.{_*_, _-_, _≤_}
 use mathlib.Core.Path.{_≡_}
 use lib.ListN.{take}
 use Rattle.analysis.specs.Check.{totalOf}
-use Rattle.mixture.specs.Limits.{LIMIT}
+use Rattle.mixture.specs.Inner.Limits.{LIMIT}
 use Rattle.mixture.specs.Simplification.{COMPONENTS}
 use Rattle.mixture.proofs.Loops.{sum-none, sum-next, sum-all}
 use Rattle.mixture.proofs.sum.Statement.{statement}

@@ -3,7 +3,7 @@ use Prim.Native.Nat.{_*_, _-_, _≤_}
 use mathlib.Core.Path.{_≡_, refl, _∙_}
 use native.Mathlib.Omega.{arith}
 use Rattle.split.specs.Split.{cellOf, columnOf}
-use Rattle.split.specs.Folds.{sum-none, sum-more}
+use Rattle.split.specs.Laws.Folds.{sum-none, sum-more}
 use Rattle.proposal.proofs.column.Statement.{statement}
 use Rattle.proposal.proofs.column.Tie as tie
 

@@ -1,5 +1,5 @@
 -- `proposal::rated` meets its contract. Assumes nothing.
-use Rattle.integer.specs.Bits.{read-back}
+use Rattle.integer.specs.Laws.Bits.{read-back}
 use Rattle.proposal.proofs.Weights.{wide-answer, rated-answer}
 use mathlib.Core.Path.{_∙_}
 use Prim.Native.Nat.{_-_}

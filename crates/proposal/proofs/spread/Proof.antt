@@ -1,6 +1,6 @@
 -- `proposal::spread` meets its contract. Assumes nothing.
-use Rattle.rows.specs.Walks.{first-low, first-high, low-taken, low-left, high-taken, high-left, range-sub, range-cast, range-is}
-use Rattle.rows.specs.Rows.{listed}
+use Rattle.split_rows.specs.Laws.Walks.{first-low, first-high, low-taken, low-left, high-taken, high-left, range-sub, range-cast, range-is}
+use Rattle.split_rows.specs.Rows.{listed}
 use Rattle.split.specs.Fold.{leastTo, greatestTo}
 use mir.Val.{toZ}
 use mir.Syntax.{w64}

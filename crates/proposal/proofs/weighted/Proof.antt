@@ -1,7 +1,7 @@
 -- `proposal::weighted` meets its contract. Assumes nothing.
-use Rattle.integer.specs.Bits.{read-back}
+use Rattle.integer.specs.Laws.Bits.{read-back}
 use Rattle.proposal.proofs.Weights.{WeighedTo, weighed-none, weigh-asks, weighed-more, weighed-all}
-use Rattle.rows.specs.Machine.{at-back}
+use Rattle.split_rows.specs.Laws.Machine.{at-back}
 use mir.Val.{toZ}
 use mir.Syntax.{w64}
 use mathlib.Core.Path.{refl, _∙_}

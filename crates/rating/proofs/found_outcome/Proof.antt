@@ -1,5 +1,5 @@
 -- `rating::found_outcome` meets its contract. Assumes nothing.
-use Rattle.integer.specs.Bits.{read-back}
+use Rattle.integer.specs.Laws.Bits.{read-back}
 use Rattle.rating.proofs.CallCases.{found-none, found-is-some}
 use mathlib.Core.Path.{_∙_}
 use borrow.Author.Needs.{needs}

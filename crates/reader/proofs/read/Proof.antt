@@ -6,7 +6,7 @@ use Rattle.sheet.specs.declared.Reading.the-variants.{Read}
 use Rattle.sheet.specs.declared.Sections.the-variants.{Both}
 use Rattle.sheet.specs.Sheet.{sectionsOf}
 use Rattle.sheet.specs.Read.{refusedSheet}
-use Rattle.sheet.specs.Cases.{allowed-room, sectioned}
+use Rattle.sheet.specs.Laws.Cases.{allowed-room, sectioned}
 use Rattle.reader.proofs.Answers.{answer-torn, answer-codes, answer-amounts, answer-good}
 use borrow.Author.Needs.{needs}
 use Rattle.reader.proofs.read.Statement.{statement}

@@ -2,7 +2,7 @@
 use mathlib.Core.Path.{sym}
 use native.Mathlib.Omega.{arith}
 use borrow.Author.Needs.{needs}
-use Rattle.section.specs.Laws.{section-outside}
+use Rattle.section.specs.Laws.Sections.{section-outside}
 use Rattle.section.proofs.Ends.{records-at, torn-at}
 use Rattle.section.proofs.section_at.Statement.{statement}
 use Rattle.section.proofs.section_at.Tie as tie

@@ -6,9 +6,9 @@ use native.Mathlib.Omega.{arith}
 use lib.Dec.{eqb, ltb, leb}
 use lib.ListN.{replicate}
 use borrow.Author.Tests.{eq-eqb, ne-eqb, lt-ltb, le-ltb, leb-true}
-use Rattle.refusal.specs.Keys.{each-passes}
+use Rattle.refusal.specs.Laws.Keys.{each-passes}
 use Rattle.analysis.specs.Register.{ifElse}
-use Rattle.analysis.specs.Table.{at, same, same-eq}
+use Rattle.analysis.specs.Laws.Table.{at, same, same-eq}
 use Rattle.sheet.specs.Split.{SHORTEST_SPLIT, LONGEST_SPLIT, splitCounts, allowedCount}
 use Rattle.sheet.proofs.allowed_count.Statement.{statement}
 use Rattle.sheet.proofs.allowed_count.Tie as tie

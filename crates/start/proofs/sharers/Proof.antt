@@ -4,7 +4,7 @@ use native.Mathlib.Omega.{arith}
 use Prim.Native.Nat.{_+_, _*_, _-_}
 use mathlib.Core.Path.{_≡_, sym, ap, _∙_}
 use Rattle.systems.specs.Systems.{COMPONENTS}
-use Rattle.start.specs.Column.{containedAt}
+use Rattle.start.specs.Inner.Column.{containedAt}
 use Rattle.start.proofs.Shares.{counted-zero, counted-some, counted-few, part-mark, Written, written-none, written-more, written-all}
 use Rattle.start.proofs.sharers.Statement.{statement}
 use Rattle.start.proofs.sharers.Tie as tie

@@ -1,7 +1,7 @@
 -- `systems::member` meets its contract. Assumes nothing.
 use mathlib.Core.Path.{sym}
 use native.Mathlib.Omega.{arith}
-use Rattle.systems.specs.Members.{member-none, member-few}
+use Rattle.systems.specs.Laws.Members.{member-none, member-few}
 use Rattle.systems.specs.Systems.{memberOf}
 use Rattle.systems.proofs.Packed.{member-is}
 use borrow.Author.Needs.{needs}

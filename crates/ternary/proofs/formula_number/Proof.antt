@@ -2,7 +2,7 @@
 use mathlib.Core.Path.{sym, _∙_}
 use native.Mathlib.Omega.{arith}
 use borrow.Author.Needs.{needs}
-use Rattle.ternary.specs.Answer.{formula-13}
+use Rattle.ternary.specs.Laws.Answer.{formula-13}
 use Rattle.ternary.proofs.Tables.{sum-of, with-number}
 use Rattle.ternary.proofs.formula_number.Statement.{statement}
 use Rattle.ternary.proofs.formula_number.Tie as tie

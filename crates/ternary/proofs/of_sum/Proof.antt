@@ -2,8 +2,8 @@
 use mathlib.Core.Path.{sym, _∙_}
 use native.Mathlib.Omega.{arith}
 use borrow.Author.Needs.{needs}
-use Rattle.ternary.specs.Answer.{mixture-of}
-use Rattle.integer.specs.Bits.{read-back}
+use Rattle.ternary.specs.Laws.Answer.{mixture-of}
+use Rattle.integer.specs.Laws.Bits.{read-back}
 use Rattle.ternary.proofs.Tables.{sum-refused, sum-number}
 use Rattle.ternary.proofs.of_sum.Statement.{statement}
 use Rattle.ternary.proofs.of_sum.Tie as tie

@@ -1,7 +1,7 @@
 -- `ternary::partial_number` meets its contract. Assumes nothing.
 use mathlib.Core.Path.{sym, _∙_}
 use borrow.Author.Needs.{needs}
-use Rattle.ternary.specs.Answer.{partial-inside}
+use Rattle.ternary.specs.Laws.Answer.{partial-inside}
 use Rattle.ternary.proofs.Shares.{with-ranged, out-of-range}
 use Rattle.ternary.proofs.partial_number.Statement.{statement}
 use Rattle.ternary.proofs.partial_number.Tie as tie

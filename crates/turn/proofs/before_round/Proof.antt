@@ -1,5 +1,5 @@
 -- `turn::before_round` meets its contract. Assumes nothing.
-use Rattle.turn.specs.Before.{before-within, before-spent, before-open}
+use Rattle.turn.specs.Laws.Before.{before-within, before-spent, before-open}
 use Rattle.turn.proofs.before_round.Statement.{statement}
 use Rattle.turn.proofs.before_round.Tie as tie
 

@@ -1,5 +1,5 @@
 -- `turn::go_on` meets its contract. Assumes nothing.
-use Rattle.split.specs.Turns.{go-move, go-refuse, go-halve}
+use Rattle.split.specs.Laws.Turns.{go-move, go-refuse, go-halve}
 use Rattle.turn.proofs.go_on.Statement.{statement}
 use Rattle.turn.proofs.go_on.Tie as tie
 

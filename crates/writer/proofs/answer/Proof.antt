@@ -1,7 +1,7 @@
 -- `writer::answer` meets its contract. Assumes nothing.
 use mathlib.Core.Path.{refl, sym, _∙_}
 use borrow.Author.Tests.{not-true, not-false}
-use Rattle.sheet.specs.Cases.{allowed-room}
+use Rattle.sheet.specs.Laws.Cases.{allowed-room}
 use Rattle.writer.proofs.Answers.{answer-count, answer-check, answer-room}
 use borrow.Author.Needs.{needs}
 use Rattle.writer.proofs.answer.Statement.{statement}

@@ -5,7 +5,7 @@ use native.Mathlib.Omega.{arith}
 use lib.ListN.{set}
 use Rattle.sheet.specs.Components.{componentBytes}
 use Rattle.sheet.specs.Split.{splitBytes}
-use Rattle.sheet.specs.Cases.{length-sheet}
+use Rattle.sheet.specs.Laws.Cases.{length-sheet}
 use Rattle.writer.proofs.Turns.{sheet-put, length-byte, length-run}
 use borrow.Author.Needs.{needs}
 use Rattle.writer.proofs.put_sheet.Statement.{statement}

@@ -1,6 +1,6 @@
 -- `writer::write` meets its contract. Assumes nothing.
 use Prim.Native.Nat.{_-_}
-use Rattle.sheet.specs.Cases.{allowed-room}
+use Rattle.sheet.specs.Laws.Cases.{allowed-room}
 use Rattle.writer.proofs.Answers.{room, wrote, left-alone}
 use borrow.Author.Needs.{needs}
 use Rattle.writer.proofs.write.Statement.{statement}

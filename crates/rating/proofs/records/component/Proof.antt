@@ -1,7 +1,7 @@
 -- `rating::records::component` meets its contract. Assumes nothing.
 use native.Mathlib.Omega.{arith}
 use Rattle.systems.specs.Systems.{memberOf, hasOf}
-use Rattle.systems.specs.Members.{candidate-le}
+use Rattle.systems.specs.Laws.Members.{candidate-le}
 use Rattle.split.specs.Fold.{sumTo, first}
 use Rattle.split.specs.Split.{rankOf, componentAt}
 use Rattle.rating.proofs.RecordCases.{component-is}

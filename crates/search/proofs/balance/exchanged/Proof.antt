@@ -1,7 +1,7 @@
 -- `search::balance::exchanged` meets its contract. Assumes nothing.
 use native.Mathlib.Nat as N
 use native.Mathlib.Omega.{arith}
-use Rattle.rows.specs.Rows.{listed}
+use Rattle.split_rows.specs.Rows.{listed}
 use Rattle.search.proofs.Squares.{mark-back, old-in, marks-as}
 use borrow.Author.Needs.{needs}
 use Rattle.search.proofs.balance.exchanged.Statement.{statement}

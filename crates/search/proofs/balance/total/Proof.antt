@@ -5,10 +5,10 @@ use Prim.Native.Nat.{_*_, _-_, _≤_}
 use mathlib.Core.Path.{_≡_, ap, _∙_}
 use borrow.Author.Needs.{needs}
 use Rattle.split.specs.Fold.{sumTo}
-use Rattle.split.specs.Folds.{sum-none, sum-more}
-use Rattle.rows.specs.Rows.{listed}
-use Rattle.rows.specs.Machine.{at-back, at-small}
-use Rattle.search.specs.Balance.{markOf}
+use Rattle.split.specs.Laws.Folds.{sum-none, sum-more}
+use Rattle.split_rows.specs.Rows.{listed}
+use Rattle.split_rows.specs.Laws.Machine.{at-back, at-small}
+use Rattle.search.specs.Inner.Balance.{markOf}
 use Rattle.search.proofs.balance.total.Statement.{statement}
 use Rattle.search.proofs.balance.total.Tie as tie
 

@@ -5,8 +5,8 @@ use native.Mathlib.Omega.{arith}
 use borrow.Author.Needs.{needs}
 use Rattle.split.specs.Split.{SYSTEMS}
 use Rattle.split.specs.Move.{MOVES, giverOf}
-use Rattle.search.specs.Scan.{Past}
-use Rattle.search.specs.Tried.{Tried}
+use Rattle.search.specs.Inner.Scan.{Past}
+use Rattle.search.specs.Inner.Tried.{Tried}
 use Rattle.search.proofs.Givers.{next-giver, skip-rest, past-none, past-rows, past-block, found-first, none-first}
 use Rattle.search.proofs.Given.{first-total, first-may, first-imbalance}
 use Rattle.search.proofs.moves.first_move.Statement.{statement}

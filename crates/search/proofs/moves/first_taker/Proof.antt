@@ -4,13 +4,11 @@ use mathlib.Core.Logic.{⊎-elim}
 use mathlib.Core.Path.{refl}
 use native.Mathlib.Omega.{arith}
 use borrow.Author.Needs.{needs}
-use Rattle.search.specs.Scan.{Past}
-use Rattle.search.specs.Tried.{Tried}
+use Rattle.search.specs.Inner.Scan.{Past}
+use Rattle.search.specs.Inner.Tried.{Tried}
 use Rattle.search.proofs.Givers.{take-same, take-is, past-here, past-on, scan-ends, scan-lacks, scan-found}
 use Rattle.search.proofs.Given.{trial-triable, trial-may, trial-after, trial-can, trial-cannot}
 use borrow.Author.Needs.{needs}
-use Rattle.search.specs.Scan.{Past}
-use Rattle.search.specs.Tried.{Tried}
 use Rattle.search.proofs.Givers.{take-same, take-is, past-here, past-on, scan-ends, scan-lacks, scan-found}
 use Rattle.search.proofs.Given.{trial-triable, trial-may, trial-after, trial-can, trial-cannot}
 use Rattle.search.proofs.moves.first_taker.Statement.{statement}

@@ -1,7 +1,7 @@
 -- `search::moves::gives` meets its contract. Assumes nothing.
 use native.Mathlib.Omega.{arith}
 use borrow.Author.Tests.{not-true, not-false}
-use Rattle.split.specs.Tests.{not-had, affords-is}
+use Rattle.split.specs.Laws.Tests.{not-had, affords-is}
 use Rattle.search.proofs.Amounts.{known, parts-is, all-fit, two-fit}
 use Rattle.search.proofs.Givers.{give-lacks, give-is}
 use borrow.Author.Needs.{needs}

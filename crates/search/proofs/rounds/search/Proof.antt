@@ -1,5 +1,5 @@
 -- `search::rounds::search` meets its contract. Assumes nothing.
-use Rattle.split.specs.Turns.{search-starts}
+use Rattle.split.specs.Laws.Turns.{search-starts}
 use Rattle.split.specs.Search.{searchOf}
 use Rattle.search.proofs.Tries.{none-is}
 use Rattle.search.proofs.Loop.{AtTurn, round-fits, round-less, may-renumber, may-go, move-on, halve-may, halve-on, run-ends}

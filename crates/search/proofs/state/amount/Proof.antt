@@ -3,7 +3,7 @@ use native.Mathlib.Omega.{arith}
 use Prim.Native.Nat.{_-_}
 use mathlib.Core.Path.{ap}
 use borrow.Author.Needs.{needs}
-use Rattle.systems.specs.Members.{member-lt}
+use Rattle.systems.specs.Laws.Members.{member-lt}
 use Rattle.split.specs.Split.{cellOf}
 use Rattle.search.proofs.state.amount.Statement.{statement}
 use Rattle.search.proofs.state.amount.Tie as tie

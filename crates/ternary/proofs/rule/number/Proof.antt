@@ -1,7 +1,7 @@
 -- `ternary::rule::number` meets its contract. Assumes nothing.
 use mathlib.Core.Path.{_∙_, sym}
 use borrow.Author.Needs.{needs}
-use Rattle.integer.specs.Bits.{read-back}
+use Rattle.integer.specs.Laws.Bits.{read-back}
 use Rattle.ternary.proofs.Tables.{small-table, number-is}
 use Rattle.ternary.proofs.rule.number.Statement.{statement}
 use Rattle.ternary.proofs.rule.number.Tie as tie

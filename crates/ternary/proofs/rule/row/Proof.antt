@@ -6,8 +6,8 @@ use native.Mathlib.Omega.{arith}
 use mir.Syntax.{w64}
 use mir.Val.{toZ}
 use Rattle.formula.specs.WorkingRule.{stepZ, horner, coefs}
-use Rattle.ternary.specs.Table.{inTable}
-use Rattle.integer.specs.Bits.{read-back}
+use Rattle.ternary.specs.Inner.Table.{inTable}
+use Rattle.integer.specs.Laws.Bits.{read-back}
 use Rattle.ternary.proofs.Rows.{row-none, row-more, row-room}
 use Rattle.ternary.proofs.rule.row.Statement.{statement}
 use Rattle.ternary.proofs.rule.row.Tie as tie

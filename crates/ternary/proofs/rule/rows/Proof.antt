@@ -1,7 +1,7 @@
 -- `ternary::rule::rows` meets its contract. Assumes nothing.
 use mathlib.Core.Path.{_∙_}
 use borrow.Author.Needs.{needs}
-use Rattle.ternary.specs.Table.{inTable}
+use Rattle.ternary.specs.Inner.Table.{inTable}
 use Rattle.ternary.proofs.Bits.{result-back}
 use Rattle.ternary.proofs.Combine.{rows-room, rows-worked}
 use Rattle.ternary.proofs.rule.rows.Statement.{statement}

@@ -1,0 +1,212 @@
+-- What the check's answer says of an analysis, and what holds of one that is not refused, for those who compute with
+-- it. Assumes nothing.
+use mathlib.Core.Path.{_≡_, refl, sym, ap, _∙_}
+use mathlib.Core.List.{List, [], _∷_}
+use mathlib.Core.Bool.{Bool, true, false, not}
+use mathlib.Core.Logic.{_⊎_, inl, inr}
+use Prim.Native.Nat.{ℕ, zero, suc, _+_, _≤_, _<_}
+use native.Mathlib.Omega.{arith}
+use native.Mathlib.Numerals.{add-one}
+use lib.Dec.{eqb, leb}
+use lib.ListN.{length, getD, drop, drop-of-length-le}
+use lib.Seq.{drop-cons}
+use borrow.Author.Tests.{eqb-true, eqb-false, leb-true}
+use Rattle.analysis.specs.Register.{CODES, ifElse, register, statusOf}
+use Rattle.analysis.specs.declared.Checked.{Checked}
+use Rattle.analysis.specs.declared.Checked.the-variants.{InRange, Refused}
+use Rattle.analysis.specs.CheckedCases.{numberOf, codeOf}
+use Rattle.analysis.specs.Check.{leastOf, greatestOf, requiredOf, inRange, allInRange, totalOf, totalFits, refusalOf, answerOf, Checking}
+use Rattle.analysis.specs.Laws.Required.{all-head, refusal-none, all-register, all-from}
+
+-- the number of the check's answer is the analysis's
+pub answer-number : (n code : ℕ) → numberOf (answerOf n code) ≡ n
+answer-number n code = go (eqb n 0) refl
+  where
+    go : (t : Bool) → eqb n 0 ≡ t → numberOf (ifElse t InRange (Refused n (ifElse (eqb n 5) code 0))) ≡ n
+    go true e = sym (eqb-true n 0 e)
+    go false e = refl
+
+pub checked-number : (a : List ℕ) (r : Checked) → Checking a r → numberOf r ≡ refusalOf a
+checked-number a r h = ap numberOf (h .answer) ∙ answer-number (refusalOf a) (codeOf r)
+
+-- the sum of the amounts from code k on
+pub total-go : (k : ℕ) (a : List ℕ) → k < length a → totalOf (drop k a) ≡ getD a k 0 + totalOf (drop (k + 1) a)
+total-go k a h = rw (drop-cons a k 0 h, add-one)
+
+pub total-end : (k : ℕ) (a : List ℕ) → length a ≤ k → totalOf (drop k a) ≡ 0
+total-end k a h = rw drop-of-length-le
+
+-- an amount that is absent, or at least the least
+abbrev pub NoneOr : ℕ → ℕ → Type 0
+NoneOr least x = (x ≡ 0) ⊎ (least ≤ x)
+
+-- an amount that is in range, by cases on the two tests
+module _ (least greatest x : ℕ) where
+  by-least : (absent t u : Bool) → eqb x 0 ≡ t → leb least x ≡ u
+      → ifElse t absent (ifElse u (leb x greatest) false) ≡ true → (x ≡ 0 → ⊥) → least ≤ x
+  by-least absent true u e d h n = absurd (n (eqb-true x 0 e))
+  by-least absent false true e d h n = leb-true least x d
+  by-least absent false false e d h n = let z : _≡_ {A = Bool} false true = h in let y : _≡_ {A = ℕ} 0 1 = cc in absurd (omega arith)
+
+  by-greatest : (absent t u : Bool) → eqb x 0 ≡ t → leb least x ≡ u
+      → ifElse t absent (ifElse u (leb x greatest) false) ≡ true → x ≤ greatest
+  by-greatest absent true u e d h = let z = eqb-true x 0 e in omega arith
+  by-greatest absent false true e d h = leb-true x greatest h
+  by-greatest absent false false e d h = let z : _≡_ {A = Bool} false true = h in let y : _≡_ {A = ℕ} 0 1 = cc in absurd (omega arith)
+
+  by-required : (t u : Bool) → eqb x 0 ≡ t → leb least x ≡ u
+      → ifElse t false (ifElse u (leb x greatest) false) ≡ true → x ≡ 0 → ⊥
+  by-required true u e d h n = let z : _≡_ {A = Bool} false true = h in let y : _≡_ {A = ℕ} 0 1 = cc in omega arith
+  by-required false u e d h n = eqb-false x 0 e n
+
+module _ (code x : ℕ) (h : inRange code x ≡ true) where
+  pub range-least : (x ≡ 0 → ⊥) → leastOf code ≤ x
+  unfolding inRange
+  range-least n = by-least (leastOf code) (greatestOf code) x (not (requiredOf code)) (eqb x 0) (leb (leastOf code) x) refl refl h n
+
+  pub range-greatest : x ≤ greatestOf code
+  unfolding inRange
+  range-greatest = by-greatest (leastOf code) (greatestOf code) x (not (requiredOf code)) (eqb x 0) (leb (leastOf code) x) refl refl h
+
+  pub range-present : requiredOf code ≡ true → x ≡ 0 → ⊥
+  unfolding inRange
+  range-present r =
+      by-required (leastOf code) (greatestOf code) x (eqb x 0) (leb (leastOf code) x) refl refl (rw r at h)
+
+  pub range-required : requiredOf code ≡ true → leastOf code ≤ x
+  range-required r = range-least (range-present r)
+
+  -- absent, or at least the least
+  pub range-or-absent : NoneOr (leastOf code) x
+  range-or-absent = go (eqb x 0) refl
+    where
+      go : (b : Bool) → eqb x 0 ≡ b → NoneOr (leastOf code) x
+      go true e = inl (eqb-true x 0 e)
+      go false e = inr (range-least (eqb-false x 0 e))
+
+-- each amount of an analysis whose amounts are all in range
+pub all-at : (a : List ℕ) (k : ℕ) → allInRange 0 a ≡ true → k < length a → inRange k (getD a k 0) ≡ true
+unfolding inRange statusOf
+all-at a k h l =
+    let e : 0 + k ≡ k = omega arith in
+    rw e at (all-from register a 0 k (all-register 0 a ∙ h) l)
+
+module _ (a : List ℕ) (h : refusalOf a ≡ 0) where
+  pub passed-ranges : allInRange 0 a ≡ true
+  unfolding refusalOf
+  passed-ranges = refusal-none (allInRange 0 a) (totalFits (totalOf a)) h .0
+
+  passed-total : totalFits (totalOf a) ≡ true
+  unfolding refusalOf
+  passed-total = refusal-none (allInRange 0 a) (totalFits (totalOf a)) h .1
+
+  pub passed-least : 999900 ≤ totalOf a
+  unfolding totalFits
+  passed-least = leb-true 999900 (totalOf a) (all-head (leb 999900 (totalOf a)) (leb (totalOf a) 1000100) passed-total .0)
+
+  pub passed-greatest : totalOf a ≤ 1000100
+  unfolding totalFits
+  passed-greatest = leb-true (totalOf a) 1000100 (all-head (leb 999900 (totalOf a)) (leb (totalOf a) 1000100) passed-total .1)
+
+-- the ranges as inequalities, code by code, and the total; what carbon dioxide and nitrogen have at least is not needed
+pub record WithinRanges (a : List ℕ) : Type 0 where
+  pub no-code : getD a 0 0 ≡ 0
+  pub methane-least : 400000 ≤ getD a 1 0
+  pub methane-greatest : getD a 1 0 ≤ 999700
+  pub ethane-least : NoneOr 100 (getD a 2 0)
+  pub ethane-greatest : getD a 2 0 ≤ 150000
+  pub propane-least : NoneOr 100 (getD a 3 0)
+  pub propane-greatest : getD a 3 0 ≤ 60000
+  pub i-butane-least : NoneOr 10 (getD a 4 0)
+  pub i-butane-greatest : getD a 4 0 ≤ 40000
+  pub n-butane-least : NoneOr 10 (getD a 5 0)
+  pub n-butane-greatest : getD a 5 0 ≤ 40000
+  pub neo-pentane-least : NoneOr 10 (getD a 6 0)
+  pub neo-pentane-greatest : getD a 6 0 ≤ 500
+  pub i-pentane-least : NoneOr 10 (getD a 7 0)
+  pub i-pentane-greatest : getD a 7 0 ≤ 20000
+  pub n-pentane-least : NoneOr 10 (getD a 8 0)
+  pub n-pentane-greatest : getD a 8 0 ≤ 20000
+  pub retired-nine : getD a 9 0 ≡ 0
+  pub hexanes-least : NoneOr 10 (getD a 10 0)
+  pub hexanes-greatest : getD a 10 0 ≤ 15000
+  pub carbon-dioxide-greatest : getD a 11 0 ≤ 100000
+  pub nitrogen-greatest : getD a 12 0 ≤ 150000
+  pub retired-thirteen : getD a 13 0 ≡ 0
+  pub splits-fourteen : getD a 14 0 ≡ 0
+  pub hydrogen-least : NoneOr 10 (getD a 15 0)
+  pub hydrogen-greatest : getD a 15 0 ≤ 100000
+  pub total-least : 999900 ≤ totalOf a
+  pub total-greatest : totalOf a ≤ 1000100
+
+module _ (a : List ℕ) (l : length a ≡ CODES) where
+  -- the total is the sum over the codes
+  pub total-sum : totalOf a
+      ≡ getD a 0 0 + getD a 1 0 + getD a 2 0 + getD a 3 0 + getD a 4 0 + getD a 5 0 + getD a 6 0 + getD a 7 0 + getD a 8 0
+      + getD a 9 0 + getD a 10 0 + getD a 11 0 + getD a 12 0 + getD a 13 0 + getD a 14 0 + getD a 15 0
+  total-sum =
+      omega (
+        arith,
+        total-go 0 a (omega arith),
+        total-go 1 a (omega arith),
+        total-go 2 a (omega arith),
+        total-go 3 a (omega arith),
+        total-go 4 a (omega arith),
+        total-go 5 a (omega arith),
+        total-go 6 a (omega arith),
+        total-go 7 a (omega arith),
+        total-go 8 a (omega arith),
+        total-go 9 a (omega arith),
+        total-go 10 a (omega arith),
+        total-go 11 a (omega arith),
+        total-go 12 a (omega arith),
+        total-go 13 a (omega arith),
+        total-go 14 a (omega arith),
+        total-go 15 a (omega arith),
+        total-end CODES a (omega arith),
+      )
+
+  module _ (h : refusalOf a ≡ 0) where
+    at-most : (k : ℕ) → k < CODES → getD a k 0 ≤ greatestOf k
+    at-most k s = range-greatest k (getD a k 0) (all-at a k (passed-ranges a h) (omega arith))
+
+    at-least : (k : ℕ) → k < CODES → requiredOf k ≡ true → leastOf k ≤ getD a k 0
+    at-least k s r = range-required k (getD a k 0) (all-at a k (passed-ranges a h) (omega arith)) r
+
+    or-absent : (k : ℕ) → k < CODES → NoneOr (leastOf k) (getD a k 0)
+    or-absent k s = range-or-absent k (getD a k 0) (all-at a k (passed-ranges a h) (omega arith))
+
+    -- not refused: every range holds
+    pub within-ranges : WithinRanges a
+    unfolding statusOf
+    within-ranges =
+        record {
+          no-code = let z = at-most 0 (omega arith) in omega arith;
+          methane-least = at-least 1 (omega arith) refl;
+          methane-greatest = at-most 1 (omega arith);
+          ethane-least = or-absent 2 (omega arith);
+          ethane-greatest = at-most 2 (omega arith);
+          propane-least = or-absent 3 (omega arith);
+          propane-greatest = at-most 3 (omega arith);
+          i-butane-least = or-absent 4 (omega arith);
+          i-butane-greatest = at-most 4 (omega arith);
+          n-butane-least = or-absent 5 (omega arith);
+          n-butane-greatest = at-most 5 (omega arith);
+          neo-pentane-least = or-absent 6 (omega arith);
+          neo-pentane-greatest = at-most 6 (omega arith);
+          i-pentane-least = or-absent 7 (omega arith);
+          i-pentane-greatest = at-most 7 (omega arith);
+          n-pentane-least = or-absent 8 (omega arith);
+          n-pentane-greatest = at-most 8 (omega arith);
+          retired-nine = let z = at-most 9 (omega arith) in omega arith;
+          hexanes-least = or-absent 10 (omega arith);
+          hexanes-greatest = at-most 10 (omega arith);
+          carbon-dioxide-greatest = at-most 11 (omega arith);
+          nitrogen-greatest = at-most 12 (omega arith);
+          retired-thirteen = let z = at-most 13 (omega arith) in omega arith;
+          splits-fourteen = let z = at-most 14 (omega arith) in omega arith;
+          hydrogen-least = or-absent 15 (omega arith);
+          hydrogen-greatest = at-most 15 (omega arith);
+          total-least = passed-least a h;
+          total-greatest = passed-greatest a h;
+        }

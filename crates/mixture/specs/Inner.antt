@@ -1,0 +1,2 @@
+pub mod Factor
+pub mod Limits

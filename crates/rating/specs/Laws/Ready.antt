@@ -1,0 +1,116 @@
+-- What holds of an analysis that 5, 6, 16 and 13 let pass: its mixture, its chosen systems and its inert mixture are
+-- such that every split of them can be worked out and the search can begin. Assumes nothing.
+use mathlib.Core.Path.{_≡_, refl, sym, ap, _∙_}
+use mathlib.Core.List.{List}
+use mathlib.Core.Bool.{Bool, true, false, cond}
+use mathlib.Core.Logic.{inl, inr}
+use Prim.Native.Nat.{ℕ, zero, suc, _+_, _*_, _≤_, _<_}
+use native.Mathlib.Omega.{arith}
+use native.Mathlib.Numerals.{add-one}
+use native.Mathlib.Nat.{zero-add}
+use lib.ListN.{getD, length, drop}
+use Rattle.analysis.specs.Register.{CODES}
+use borrow.Author.Tests.{ltb-false}
+use Rattle.analysis.specs.Check as analysis
+use Rattle.analysis.specs.Laws.Ranges.{NoneOr, total-go, total-end}
+use Rattle.mixture.specs.Simplification.{simplifiedOf}
+use Rattle.mixture.specs.Inert.{inertFirst}
+use Rattle.mixture.specs.Laws.Bounds.{LEAST_PARTS, simplified-length, simplified-total, simplified-or-absent, inert-greatest, tenths-positive, simplified-methane}
+use Rattle.systems.specs.Systems.{COMPONENTS, hasOf}
+use Rattle.systems.specs.Laws.Members.{countTo}
+use Rattle.systems.specs.Choice.{presentAt, presentOf, presentCount}
+use Rattle.systems.specs.Laws.Presence.{present-is, Supply, supply}
+use Rattle.systems.specs.Chosen.{Choosable, choice-choosable, Filled, choice-filled}
+use Rattle.split.specs.Fold.{sumTo}
+use Rattle.split.specs.Split.{RECORDS, systemOf, Chosen}
+use Rattle.split.specs.Laws.Sums.{totalOf}
+use Rattle.split.specs.Start.{sharersOf}
+use Rattle.split.specs.Laws.Starts.{Shared, Supplied}
+use Rattle.split.specs.Search.{LEVEL}
+use Rattle.split.specs.Laws.Finds.{SearchInput, enough-parts}
+use Rattle.rating.specs.Rate.{mixOf, systemsFor, countFor, ratingRefusal}
+use Rattle.rating.specs.RatedOn.{RatedOn}
+use Rattle.rating.specs.Laws.RatedOn.{on-passed}
+
+count-sharers : (ch : List ℕ) (c n : ℕ) → countTo (λ i. hasOf (getD ch i 0) c) n ≡ sharersOf ch c n
+unfolding countTo sharersOf sumTo
+count-sharers ch c zero = refl
+count-sharers ch c (suc n) = ap (λ (x : ℕ). x + cond (hasOf (getD ch n 0) c) 1 0) (count-sharers ch c n)
+
+-- amounts added either way: the first n and those after them
+total-to : (mix : List ℕ) (n : ℕ) → n ≤ length mix
+    → sumTo (λ c. getD mix c 0) n + analysis.totalOf (drop n mix) ≡ analysis.totalOf mix
+unfolding sumTo
+total-to mix zero h = zero-add (analysis.totalOf mix)
+total-to mix (suc n) h =
+    omega (
+      arith,
+      total-to mix n (omega arith),
+      total-go n mix (omega arith),
+      ap
+          (λ (k : ℕ). analysis.totalOf (drop k mix)) (add-one n),
+    )
+
+total-is : (mix : List ℕ) → length mix ≡ COMPONENTS → analysis.totalOf mix ≡ totalOf mix
+total-is mix h = omega (arith, total-to mix COMPONENTS (omega arith), total-end COMPONENTS mix (omega arith))
+
+module _ (a : List ℕ) (on : RatedOn a) where
+  -- what holds of the choice
+  pub choosable : Choosable (presentOf (mixOf a)) (systemsFor a) (countFor a)
+  choosable = choice-choosable (mixOf a) (on-passed a on .1)
+
+  -- two to five systems, each a candidate
+  pub chosen : Chosen (systemsFor a) (countFor a)
+  chosen =
+      record { some = omega (arith, choosable .some); most = omega (arith, choosable .few); known = choosable .known }
+
+  pub room : 3 * countFor a ≤ RECORDS
+  room = omega (arith, choosable .few)
+
+  -- each component is absent or in a chosen system
+  pub shared : (c : ℕ) → c < COMPONENTS → Shared (mixOf a) (systemsFor a) (countFor a) c
+  shared c l = go (presentAt (mixOf a) c) refl
+    where
+      go : (b : Bool) → presentAt (mixOf a) c ≡ b → Shared (mixOf a) (systemsFor a) (countFor a) c
+      go true e =
+          let twice = choosable .twice c l (present-is (mixOf a) c l ∙ e) in
+          inr (omega (arith, twice, count-sharers (systemsFor a) c (countFor a)))
+      go false e = inl (omega (arith, ltb-false 0 (getD (mixOf a) c 0) e))
+
+module _ (a : List ℕ) (long : length a ≡ CODES) (on : RatedOn a) where
+  pub million : totalOf (mixOf a) ≡ 1000000
+  million =
+      sym (total-is (simplifiedOf a) (simplified-length a))
+      ∙ simplified-total a (tenths-positive a long (on-passed a on .0))
+
+  pub inert-million : inertFirst a ≤ 1000000
+  inert-million = inert-greatest a (tenths-positive a long (on-passed a on .0))
+
+  -- methane is present; so each chosen system contains two present components, and how many systems there are follows
+  -- from how many components are
+  pub filled : Filled (presentOf (mixOf a)) (systemsFor a) (countFor a)
+  filled =
+      let methane = simplified-methane a long (on-passed a on .0) in
+      choice-filled (mixOf a) (on-passed a on .1) (omega (arith, methane))
+
+  -- each chosen system contains a component that is present, and has enough of it
+  supplied : (s : ℕ) → s < countFor a → Supplied (mixOf a) (systemsFor a) (countFor a) s
+  supplied s h =
+      let y = supply (mixOf a) (systemOf (systemsFor a) s) (omega (arith, choosable a on .supplied s h)) in
+      record {
+        component = y .component;
+        low = y .low;
+        contained = y .contained;
+        enough = enough y (simplified-or-absent a long (on-passed a on .0) (y .component) (y .low));
+      }
+    where
+      enough : (y : Supply (mixOf a) (systemOf (systemsFor a) s))
+          → NoneOr LEAST_PARTS (getD (mixOf a) (y .component) 0) → countFor a ≤ getD (mixOf a) (y .component) 0
+      enough y (inl e) = absurd (omega (arith, y .some))
+      enough y (inr l) = omega (arith, choosable a on .few)
+
+  -- the search can begin: its start leaves no system empty
+  pub input : SearchInput (mixOf a) (systemsFor a) (countFor a) LEVEL
+  input =
+      enough-parts (mixOf a) (systemsFor a) (countFor a) LEVEL (omega arith) (omega (arith, million)) (chosen a on)
+      supplied

@@ -1,0 +1,4 @@
+pub mod Cases
+pub mod Back
+pub mod Forth
+pub mod Coded

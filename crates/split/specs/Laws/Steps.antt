@@ -1,0 +1,97 @@
+-- A move that may be made: what it needs, and what it leads to. Assumes nothing.
+use Prim.Native.Nat.{ℕ, _+_, _-_, _≤_, _<_}
+use mathlib.Core.Path.{_≡_, refl, sym}
+use mathlib.Core.Bool.{Bool, true, false, cond}
+use mathlib.Core.List.{List}
+use native.Mathlib.Omega.{arith}
+use lib.Dec.{eqb}
+use lib.IntN.{ℤ}
+use borrow.Author.Tests.{eqb-true, eqb-false}
+use Rattle.systems.specs.Systems.{COMPONENTS, memberOf}
+use Rattle.formula.specs.Partial.{partialNumber}
+use Rattle.split.specs.Split.{SYSTEMS, cellOf, systemOf, columnOf, numberAt, Sound}
+use Rattle.split.specs.Move.{MOVES, componentOf, giverOf, takerOf, movedOf}
+use Rattle.split.specs.Laws.Members.{Three}
+use Rattle.split.specs.Laws.Moves.{taken-fits, sound-after, number-other, column-same, cell-column, cell-giver, cell-taker}
+use Rattle.split.specs.Laws.Tests.{Fit, Between, between-true, Affords, affords-true}
+
+-- row s's amount of component e where that of component c were n
+abbrev pub insteadOf : List ℕ → ℕ → ℕ → ℕ → ℕ → ℕ
+insteadOf a s c n e = cond (eqb e c) n (cellOf a s e)
+
+-- row s's partial number where its amount of component c were n
+unfoldable pub numberWith : List ℕ → List ℕ → ℕ → ℕ → ℕ → ℤ
+numberWith ch a s c n =
+    partialNumber (systemOf ch s) (insteadOf a s c n (memberOf (systemOf ch s) 0)) (insteadOf a s c n (memberOf (systemOf ch s) 1)) (insteadOf a s c n (memberOf (systemOf ch s) 2))
+
+-- cells b that differ from a in row s at component c only, where b has n
+pub record Changed (a b : List ℕ) (s c n : ℕ) : Type 0 where
+  pub here : cellOf b s c ≡ n
+  pub rest : (e : ℕ) → e < COMPONENTS → (e ≡ c → ⊥) → cellOf b s e ≡ cellOf a s e
+
+module _ (a b : List ℕ) (s c n : ℕ) (w : Changed a b s c n) where
+  pub instead-is : (e : ℕ) → e < COMPONENTS → insteadOf a s c n e ≡ cellOf b s e
+  instead-is e l = go (eqb e c) refl
+    where
+      go : (t : Bool) → eqb e c ≡ t → insteadOf a s c n e ≡ cellOf b s e
+      go true z = let u : e ≡ c = eqb-true e c z in rw (z, u) (sym (w .here))
+      go false z = rw z (sym (w .rest e l (eqb-false e c z)))
+
+  pub number-with : (ch : List ℕ) → Three (memberOf (systemOf ch s) 0) (memberOf (systemOf ch s) 1) (memberOf (systemOf ch s) 2) → numberWith ch a s c n ≡ numberAt ch b s
+  unfolding numberWith numberAt
+  number-with ch t =
+      rw (instead-is (memberOf (systemOf ch s) 0) (t .low0), instead-is (memberOf (systemOf ch s) 1) (t .low1), instead-is (memberOf (systemOf ch s) 2) (t .low2))
+
+module _ (ch : List ℕ) (k : ℕ) (a : List ℕ) (d m : ℕ) (so : Sound ch k a) (fit : Fit ch k a d m) where
+  pub bt : Between ch k m
+  bt = between-true ch k m (fit .between)
+
+  pub af : Affords ch k m a d
+  af = affords-true ch k m a d (fit .affords)
+
+  pub component-low : componentOf m < COMPONENTS
+  component-low = omega (arith, fit .below)
+
+  giver-low : giverOf m < SYSTEMS
+  giver-low = omega arith
+
+  taker-low : takerOf m < SYSTEMS
+  taker-low = omega arith
+
+  pub may-move : (m < MOVES) × (d ≤ cellOf a (giverOf m) (componentOf m)) × (cellOf a (takerOf m) (componentOf m) + d ≤ 1000000)
+  may-move = (
+    fit .below,
+    af .had,
+    taken-fits a (giverOf m) (takerOf m) (componentOf m) d (so .stock .long) giver-low taker-low component-low (bt .apart) k (bt .from) (bt .to) (af .had) (so .stock .few),
+  )
+
+  pub sound-moved : Sound ch k (movedOf a m d)
+  unfolding movedOf
+  sound-moved =
+      sound-after a (giverOf m) (takerOf m) (componentOf m) d (so .stock .long) giver-low taker-low component-low (bt .apart) k (bt .from) (bt .to) (af .had) ch (so .stock .chosen) (bt .gives) (af .kept) so
+
+  -- the sum of each component stays
+  pub moved-keeps : (c : ℕ) → c < COMPONENTS → columnOf k (movedOf a m d) c ≡ columnOf k a c
+  unfolding movedOf
+  moved-keeps c h = column-same a (giverOf m) (takerOf m) (componentOf m) d (so .stock .long) giver-low taker-low component-low (bt .apart) k (bt .from) (bt .to) (af .had) c h
+
+  -- the other rows keep their partial numbers
+  pub rest-same : (s : ℕ) → s < k → (s ≡ giverOf m → ⊥) → (s ≡ takerOf m → ⊥) → numberAt ch (movedOf a m d) s ≡ numberAt ch a s
+  unfolding movedOf
+  rest-same s h p q =
+      number-other a (giverOf m) (takerOf m) (componentOf m) d (so .stock .long) giver-low taker-low component-low (bt .apart) k (bt .from) (bt .to) (af .had) ch (so .stock .chosen) s h p q
+
+  -- the giver's row and the taker's change at the component only
+  pub giver-changed : Changed a (movedOf a m d) (giverOf m) (componentOf m) (cellOf a (giverOf m) (componentOf m) - d)
+  unfolding movedOf
+  giver-changed = record {
+    here = cell-giver a (giverOf m) (takerOf m) (componentOf m) d (so .stock .long) giver-low taker-low component-low (bt .apart);
+    rest = λ e l p. cell-column a (giverOf m) (takerOf m) (componentOf m) d (so .stock .long) giver-low taker-low component-low (bt .apart) (giverOf m) e l p;
+  }
+
+  pub taker-changed : Changed a (movedOf a m d) (takerOf m) (componentOf m) (cellOf a (takerOf m) (componentOf m) + d)
+  unfolding movedOf
+  taker-changed = record {
+    here = cell-taker a (giverOf m) (takerOf m) (componentOf m) d (so .stock .long) giver-low taker-low component-low (bt .apart);
+    rest = λ e l p. cell-column a (giverOf m) (takerOf m) (componentOf m) d (so .stock .long) giver-low taker-low component-low (bt .apart) (takerOf m) e l p;
+  }

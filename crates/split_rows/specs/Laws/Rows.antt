@@ -1,0 +1,279 @@
+-- What the rows' evaluation says, by its cases. Assumes nothing.
+use Prim.Native.Nat.{ℕ, zero, suc, _+_, _-_, _≤_, _<_}
+use mathlib.Core.Path.{_≡_, refl, sym, ap, _∙_}
+use mathlib.Core.Bool.{Bool, true, false}
+use mathlib.Core.List.{List}
+use native.Mathlib.Nat as N
+use native.Mathlib.Omega.{arith}
+use native.Mathlib.Numerals.{add-one}
+use mir.Syntax.{w64}
+use mir.Val.{toZ, ofZ}
+use lib.Dec.{ltb, leb, lit≤}
+use Rattle.integer.specs.Laws.Bits.{back}
+use lib.IntN.{ℤ, pos}
+use lib.ListN.{length, getD, set, length-set, replicate, length-replicate, getD-replicate}
+use lib.Seq.{getD-set-same, getD-set-other, ext-getD}
+use borrow.Author.Tests.{ltb-true, ltb-false, lt-ltb, le-leb, lt-leb, leb-true}
+use borrow.Author.Count.{below-more}
+use Rattle.formula.specs.Coefficients.{isSystem}
+use Rattle.formula.specs.Partial.{partialNumber}
+use Rattle.formula.specs.Laws.Partial.{partial-small}
+use Rattle.ternary.specs.Answer.{isMixture, formulaOf}
+use Rattle.ternary.specs.Laws.Answer.{mixture-yes, mixture-of, formula-is, formula-12}
+use Rattle.ternary.specs.declared.Partial.{Partial}
+use Rattle.ternary.specs.declared.Partial.the-variants.{Number, Refused}
+use Rattle.systems.specs.Systems.{candidates, elem, memberOf, Candidate}
+use Rattle.split.specs.Laws.Candidates.{known-system}
+use Rattle.split.specs.Fold.{allTo}
+use Rattle.split.specs.Laws.Folds.{all-each, all-of}
+use Rattle.split.specs.Split.{SYSTEMS, cellOf, systemOf, partsOf, numberAt, both, Stock, Sound}
+use Rattle.split.specs.Laws.Members.{both-right}
+use Rattle.split.specs.Rating.{someEmpty}
+use Rattle.split.specs.Laws.Rows.{parts-few}
+use Rattle.split.specs.Laws.Fits.{empty-no}
+use Rattle.split_rows.specs.Rows.{listed, partsIn, answerIn, rowFit, rowsFit, upTo, none, rowsOf}
+use Rattle.split_rows.specs.Inner.Small.{Small}
+use Rattle.split_rows.specs.Inner.Carried.{Held}
+use Rattle.split_rows.specs.declared.Rows.{Rows}
+
+-- ---- a list whose first places have the values of f, and the rest d
+
+module _ {A : Type 0} (d : A) (k : ℕ) (f : ℕ → A) where
+  abbrev at : ℕ → A
+  at i = elim (ltb i k) [ true ↦ f i | false ↦ d ]
+
+  pub length-up : (n i : ℕ) → length (upTo d k f n i) ≡ n
+  unfolding upTo
+  length-up zero i = refl
+  length-up (suc n) i = ap suc (length-up n (i + 1))
+
+  pub getD-up : (n i j : ℕ) → j < n → getD (upTo d k f n i) j d ≡ at (i + j)
+  unfolding upTo
+  getD-up zero i j h = absurd (N.not-suc-le-zero h)
+  getD-up (suc n) i zero h =
+      let q : i ≡ i + 0 = omega arith in
+      ap at q
+  getD-up (suc n) i (suc j) h =
+      let q : i + 1 + j ≡ i + suc j = omega arith in
+      getD-up n (i + 1) j (N.le-of-suc-le-suc h) ∙ ap at q
+
+  -- the value at a place below k
+  pub up-at : (n j : ℕ) → j < n → j < k → getD (upTo d k f n 0) j d ≡ f j
+  up-at n j h l =
+      let q : 0 + j ≡ j = omega arith in
+      getD-up n 0 j h ∙ ap at q ∙ rw (lt-ltb j k l, at)
+
+  -- filled from the front, so far i places
+  abbrev pub Front : ℕ → List A → ℕ → Type 0
+  Front n a i = (length a ≡ n) × (i ≤ n) × ((j : ℕ) → j < i → getD a j d ≡ f j) × ((j : ℕ) → i ≤ j → j < n → getD a j d ≡ d)
+
+  pub front-none : (n : ℕ) → Front n (replicate n d) 0
+  front-none n = (length-replicate n d, omega arith, λ j l. absurd (omega arith), λ j l h. getD-replicate n j d d h)
+
+  pub front-next : (n : ℕ) (a : List A) (i : ℕ) (v : A) → i < n → Front n a i → v ≡ f i → Front n (set a i v) (i + 1)
+  front-next n a i v h z e = (
+    length-set a i v ∙ z .0,
+    omega arith,
+    below-more (λ j. getD (set a i v) j d ≡ f j) i
+        (λ j l. getD-set-other a i j v d (λ q. omega arith) ∙ z .2 j l)
+        (getD-set-same a i v d (omega (arith, z .0)) ∙ e),
+    λ j l m. getD-set-other a i j v d (λ q. omega arith) ∙ z .3 j (omega arith) m,
+  )
+
+  pub front-all : (n : ℕ) (a : List A) (i : ℕ) → i ≡ k → Front n a i → a ≡ upTo d k f n 0
+  front-all n a i e z =
+      ext-getD d a (upTo d k f n 0) (z .0 ∙ sym (length-up n 0))
+      (λ j l.
+      let b : j < n = omega (arith, z .0) in
+      let q : 0 + j ≡ j = omega arith in
+      go j b (ltb j k) refl ∙ sym (getD-up n 0 j b ∙ ap at q))
+    where
+      go : (j : ℕ) → j < n → (b : Bool) → ltb j k ≡ b → getD a j d ≡ at j
+      go j b true t = z .2 j (omega (arith, ltb-true j k t)) ∙ sym (rw (t, at))
+      go j b false t = z .3 j (omega (arith, ltb-false j k t)) b ∙ sym (rw (t, at))
+
+-- ---- a row's answer
+
+module _ (system : ℕ) (a : List ℕ) (s : ℕ) where
+  abbrev n1 : ℕ
+  n1 = cellOf a s (memberOf system 0)
+
+  abbrev n2 : ℕ
+  n2 = cellOf a s (memberOf system 1)
+
+  abbrev n3 : ℕ
+  n3 = cellOf a s (memberOf system 2)
+
+  pub no-candidate : elem system candidates ≡ false → Refused 13 ≡ answerIn system a s
+  unfolding answerIn
+  no-candidate e = sym (rw (e, answerIn))
+
+  pub candidate-answer : elem system candidates ≡ true → formulaOf system n1 n2 n3 ≡ answerIn system a s
+  unfolding answerIn
+  candidate-answer e = sym (rw (e, answerIn))
+
+  pub answer-is : (w x y z : ℕ) → w ≡ system → x ≡ n1 → y ≡ n2 → z ≡ n3 → elem system candidates ≡ true
+      → formulaOf w x y z ≡ answerIn system a s
+  answer-is w x y z o p q r e = rw (o, p, q, r) (candidate-answer e)
+
+  -- a number is that of a candidate at a mixture
+  pub record Worked (x : ℤ) : Type 0 where
+    pub listed : elem system candidates ≡ true
+    pub mixture : isMixture (partsIn system a s) ≡ true
+    pub some : 0 < partsIn system a s
+    pub few : partsIn system a s ≤ 1000000
+    pub value : x ≡ partialNumber system n1 n2 n3
+
+  module _ (p : Partial) (q : p ≡ answerIn system a s) where
+    pub worked : (x : ℤ) → p ≡ Number x → Worked x
+    unfolding partsIn answerIn
+    worked x u = go (elem system candidates) (isMixture (n1 + n2 + n3)) refl refl
+      where
+        go : (b m : Bool) → elem system candidates ≡ b → isMixture (n1 + n2 + n3) ≡ m → Worked x
+        go true true e f =
+            let g = mixture-of (n1 + n2 + n3) f in
+            let k : isSystem system ≡ true = known-system system (record { listed = e }) in
+            let t : p ≡ Number (partialNumber system n1 n2 n3) =
+            q ∙ sym (candidate-answer e) ∙ formula-is system n1 n2 n3 k (g .0) (g .1) in
+            record { listed = e; mixture = f; some = g .0; few = g .1; value = cc }
+        go true false e f =
+            let k : isSystem system ≡ true = known-system system (record { listed = e }) in
+            let t : p ≡ Refused 12 = q ∙ sym (candidate-answer e) ∙ formula-12 system n1 n2 n3 k f in
+            absurd (let z : _≡_ {A = ℕ} 0 1 = cc in omega arith)
+        go false m e f =
+            let t : p ≡ Refused 13 = q ∙ sym (no-candidate e) in
+            absurd (let z : _≡_ {A = ℕ} 0 1 = cc in omega arith)
+
+    pub refused : (n : ℕ) → p ≡ Refused n → both (elem system candidates) (isMixture (partsIn system a s)) ≡ false
+    unfolding partsIn answerIn
+    refused n u = go (elem system candidates) (isMixture (n1 + n2 + n3)) refl refl
+      where
+        go : (b m : Bool) → elem system candidates ≡ b → isMixture (n1 + n2 + n3) ≡ m → both (elem system candidates) (isMixture (n1 + n2 + n3)) ≡ false
+        go true true e f =
+            let g = mixture-of (n1 + n2 + n3) f in
+            let k : isSystem system ≡ true = known-system system (record { listed = e }) in
+            let t : p ≡ Number (partialNumber system n1 n2 n3) =
+            q ∙ sym (candidate-answer e) ∙ formula-is system n1 n2 n3 k (g .0) (g .1) in
+            absurd (let z : _≡_ {A = ℕ} 0 1 = cc in omega arith)
+        go true false e f = rw (e, f)
+        go false m e f = rw e
+
+-- ---- the walk over the rows
+
+module _ (ch a : List ℕ) where
+  pub none-tested : allTo (rowFit ch a) 0 ≡ true
+  unfolding allTo
+  none-tested = refl
+
+  module _ (s : ℕ) (p : Partial) (q : p ≡ answerIn (systemOf ch s) a s) where
+    pub row-unfit : (n : ℕ) → p ≡ Refused n → rowFit ch a s ≡ false
+    unfolding rowFit partsOf partsIn
+    row-unfit n u = refused (systemOf ch s) a s p q n u
+
+    module _ (x : ℤ) (u : p ≡ Number x) where
+      found : Worked (systemOf ch s) a s x
+      found = worked (systemOf ch s) a s p q x u
+
+      pub may-parts : s < SYSTEMS → Candidate (systemOf ch s) × (s < SYSTEMS) × (partsIn (systemOf ch s) a s ≤ 1000000)
+      may-parts l = (record { listed = found .listed }, l, found .few)
+
+      pub more-numbers : toZ w64 (ofZ w64 x) ≡ numberAt ch a s
+      unfolding numberAt
+      more-numbers = rw (found .value) (back (partialNumber (systemOf ch s) (n1 (systemOf ch s) a s) (n2 (systemOf ch s) a s) (n3 (systemOf ch s) a s)) (N.le-trans (partial-small (systemOf ch s) (n1 (systemOf ch s) a s) (n2 (systemOf ch s) a s) (n3 (systemOf ch s) a s)) (lit≤ tt)))
+
+      pub more-parts : (n : ℕ) → n ≡ partsIn (systemOf ch s) a s → n ≡ partsOf ch a s
+      unfolding partsOf partsIn
+      more-parts n e = e
+
+      pub more-tested : allTo (rowFit ch a) s ≡ true → allTo (rowFit ch a) (s + 1) ≡ true
+      unfolding allTo rowFit partsOf partsIn
+      more-tested h = rw (add-one s, found .listed, found .mixture, allTo, rowFit) h
+
+-- ---- the evaluation
+
+module _ (ch : List ℕ) (k : ℕ) (a : List ℕ) where
+  pub rows-many : SYSTEMS < k → none ≡ rowsOf ch k a
+  unfolding rowsOf rowsFit
+  rows-many h = sym (rw (lt-leb k SYSTEMS h, rowsOf, rowsFit))
+
+  pub each-fit : rowsFit ch k a ≡ true → (s : ℕ) → s < k → rowFit ch a s ≡ true
+  unfolding rowsFit
+  each-fit f s l = all-each (rowFit ch a) k s (both-right (leb k SYSTEMS) _ f) l
+
+  clash : false ≡ true → _≡_ {A = ℕ} 0 1
+  clash u = ap (λ b. elim b [ true ↦ 1 | false ↦ 0 ]) u
+
+  pub rows-unfit : (s : ℕ) → s < k → rowFit ch a s ≡ false → none ≡ rowsOf ch k a
+  unfolding rowsOf
+  rows-unfit s l e = go (rowsFit ch k a) refl
+    where
+      go : (b : Bool) → rowsFit ch k a ≡ b → none ≡ rowsOf ch k a
+      go false f = sym (rw (f, rowsOf))
+      go true f = absurd (let w : 0 ≡ 1 = clash (sym e ∙ each-fit f s l) in omega arith)
+
+  pub rows-fit : k ≤ SYSTEMS → allTo (rowFit ch a) k ≡ true → (v : List ℤ) (p : List ℕ) → v ≡ upTo (pos 0) k (numberAt ch a) SYSTEMS 0 → p ≡ upTo 0 k (partsOf ch a) SYSTEMS 0
+      → record { fit = true; numbers = v; parts = p } ≡ rowsOf ch k a
+  unfolding rowsOf rowsFit
+  rows-fit h e v p x y = sym (rw (le-leb k SYSTEMS h, e, x, y, rowsOf, rowsFit))
+
+  -- what is so of an evaluation, from its answer
+  module _ (r : Rows) (q : r ≡ rowsOf ch k a) where
+    fit-is : r .fit ≡ rowsFit ch k a
+    unfolding rowsOf
+    fit-is = ap (λ x. x .fit) q ∙ go (rowsFit ch k a) refl
+      where
+        go : (b : Bool) → rowsFit ch k a ≡ b → rowsOf ch k a .fit ≡ rowsFit ch k a
+        go true e = rw (e, rowsOf)
+        go false e = rw (e, rowsOf)
+
+    module _ (st : Stock ch k a) where
+      -- not fit: a system is empty
+      pub unfit-empty : r .fit ≡ false → someEmpty ch k a ≡ true
+      unfolding rowsFit rowFit
+      unfit-empty e = go (someEmpty ch k a) refl
+        where
+          each : someEmpty ch k a ≡ false → (s : ℕ) → s < k → rowFit ch a s ≡ true
+          each f s l = rw (st .chosen .known s l .listed, rowFit) (mixture-yes (partsOf ch a s) (empty-no ch k a f s l) (parts-few ch k a s st l))
+
+          go : (b : Bool) → someEmpty ch k a ≡ b → someEmpty ch k a ≡ true
+          go true f = f
+          go false f =
+              let y : rowsFit ch k a ≡ true = rw (le-leb k SYSTEMS (st .chosen .most), rowsFit) (all-of (rowFit ch a) k (each f)) in
+              absurd (let w : 0 ≡ 1 = clash (sym e ∙ fit-is ∙ y) in omega arith)
+
+      module _ (e : r .fit ≡ true) where
+        is-fit : rowsFit ch k a ≡ true
+        is-fit = sym fit-is ∙ e
+
+        pub fit-sound : Sound ch k a
+        unfolding rowFit
+        fit-sound =
+            record {
+              stock = st;
+              some = λ s l.
+                  mixture-of (partsOf ch a s) (both-right (elem (systemOf ch s) candidates) _ (each-fit is-fit s l)) .0;
+            }
+
+        numbers-are : r .numbers ≡ upTo (pos 0) k (numberAt ch a) SYSTEMS 0
+        unfolding rowsOf
+        numbers-are = ap (λ x. x .numbers) q ∙ rw (is-fit, rowsOf)
+
+        parts-are : r .parts ≡ upTo 0 k (partsOf ch a) SYSTEMS 0
+        unfolding rowsOf
+        parts-are = ap (λ x. x .parts) q ∙ rw (is-fit, rowsOf)
+
+        pub numbers-long : length (r .numbers) ≡ SYSTEMS
+        numbers-long = ap length numbers-are ∙ length-up (pos 0) k (numberAt ch a) SYSTEMS 0
+
+        pub number-of : (s : ℕ) → s < k → listed (r .numbers) s ≡ numberAt ch a s
+        number-of s l = ap (λ v. listed v s) numbers-are ∙ up-at (pos 0) k (numberAt ch a) SYSTEMS s (omega (arith, st .chosen .most)) l
+
+        pub parts-of : (s : ℕ) → s < k → getD (r .parts) s 0 ≡ partsOf ch a s
+        parts-of s l = ap (λ p. getD p s 0) parts-are ∙ up-at 0 k (partsOf ch a) SYSTEMS s (omega (arith, st .chosen .most)) l
+
+        pub numbers-small : Small (r .numbers) k
+        unfolding numberAt
+        numbers-small = record { most = st .chosen .most; each = λ s l. rw (number-of s l) (partial-small (systemOf ch s) (cellOf a s (memberOf (systemOf ch s) 0)) (cellOf a s (memberOf (systemOf ch s) 1)) (cellOf a s (memberOf (systemOf ch s) 2))) }
+
+        pub fit-held : Held ch k a (r .numbers)
+        fit-held = record { sound = fit-sound; carried = record { long = numbers-long; are = number-of }; small = numbers-small }

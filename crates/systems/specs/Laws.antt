@@ -1,0 +1,5 @@
+pub mod Table
+pub mod Members
+pub mod Scores
+pub mod Presence
+pub mod Full
