@@ -1,13 +1,13 @@
 -- The code's table agrees with the register, tested at each code by one computation, and the range test by it. Assumes nothing.
 use mathlib.Core.Path.{_≡_, refl, sym, _∙_}
-use mathlib.Core.Bool.{Bool, true, false, not, _&&_, _||_}
+use mathlib.Core.Bool.{Bool, true, false, not, _&&_, _||_, cond}
 use mathlib.Core.List.{List, [], _∷_}
 use Prim.Native.Nat.{ℕ, _+_, _*_, _/_, _%_, _<_, _≤_}
 use native.Mathlib.Omega.{arith}
 use lib.Dec.{eqb, leb, eqb→eq, leb→le}
 use lib.ListN.{getD}
 use borrow.Author.Tests.{eqb-true, leb-true}
-use Rattle.analysis.specs.Register.{CODES, ifElse, statusOf}
+use Rattle.analysis.specs.Register.{CODES, statusOf}
 use Rattle.analysis.specs.Laws.Table.{at, same, same-eq}
 use Rattle.analysis.specs.Check.{leastOf, greatestOf, requiredOf, inRange}
 use Rattle.analysis.specs.Inner.Packed.{rangeOf}
@@ -51,15 +51,15 @@ module _ (k x range : ℕ) (h : k < CODES) (e : range ≡ rangeOf k) where
   unfolding inRange
   tested = rw (least-is, greatest-is, required-is) (go (not (requiredOf k)) (leb x (greatestOf k)) (eqb x 0) (leb (leastOf k) x) refl refl)
     where
-      go : (a c t u : Bool) → eqb x 0 ≡ t → leb (leastOf k) x ≡ u → ((t && a) || (u && c)) ≡ ifElse t a (ifElse u c false)
+      go : (a c t u : Bool) → eqb x 0 ≡ t → leb (leastOf k) x ≡ u → ((t && a) || (u && c)) ≡ cond t a (cond u c false)
       go a c true true p q = absurd (omega (arith, eqb-true x 0 p, leb-true (leastOf k) x q, least-some))
       go a c true false p q = or-false a
       go a c false true p q = refl
       go a c false false p q = refl
 
   -- the code at fault, by the test
-  pub fault-before : (fault : ℕ) → ((eqb x 0 && not (eqb k 1)) || (leb (range % 4294967296) x && leb x (range / 4294967296))) ≡ true → fault ≡ ifElse (inRange k x) fault k
+  pub fault-before : (fault : ℕ) → ((eqb x 0 && not (eqb k 1)) || (leb (range % 4294967296) x && leb x (range / 4294967296))) ≡ true → fault ≡ cond (inRange k x) fault k
   fault-before fault t = rw (sym tested ∙ t)
 
-  pub fault-here : (fault : ℕ) → ((eqb x 0 && not (eqb k 1)) || (leb (range % 4294967296) x && leb x (range / 4294967296))) ≡ false → k ≡ ifElse (inRange k x) fault k
+  pub fault-here : (fault : ℕ) → ((eqb x 0 && not (eqb k 1)) || (leb (range % 4294967296) x && leb x (range / 4294967296))) ≡ false → k ≡ cond (inRange k x) fault k
   fault-here fault t = rw (sym tested ∙ t)

@@ -1,14 +1,14 @@
 -- One turn of the walk over the codes, and the cases of the check. Assumes nothing.
 use mathlib.Core.Path.{_≡_, refl, ap, sym, _∙_}
 use mathlib.Core.List.{List}
-use mathlib.Core.Bool.{Bool, true, false}
+use mathlib.Core.Bool.{Bool, true, false, cond}
 use Prim.Native.Nat.{ℕ, suc, _+_, _-_, _*_, _≤_, _<_}
 use native.Mathlib.Omega.{arith}
 use lib.ListN.{length, getD, drop, drop-of-length-le}
 use lib.Seq.{drop-cons}
 use lib.Dec.{eqb}
 use borrow.Author.Tests.{le-leb, lt-leb, eq-eqb, ne-eqb, eqb-false}
-use Rattle.analysis.specs.Register.{CODES, ifElse}
+use Rattle.analysis.specs.Register.{CODES}
 use Rattle.analysis.specs.declared.Checked.{Checked}
 use Rattle.analysis.specs.declared.Checked.the-variants.{InRange, Refused}
 use Rattle.analysis.specs.Check.{inRange, allInRange, totalOf, totalFits, refusalBy, refusalOf, AtFault, answerOf, Checking, Fault}
@@ -76,14 +76,14 @@ module _ (a : List ℕ) (fault sum code next : ℕ) (w : Walked a fault sum code
   go-total-here : next ≡ totalOf (drop (code - 1) a)
   go-total-here = go-total (code - 1) (omega arith) (s .0)
 
-  all-next : (k : ℕ) (b : Bool) → code ≡ suc k → inRange k (getD a k 0) ≡ b → allInRange k (drop k a) ≡ elim b [ true ↦ allInRange code (drop code a) | false ↦ false ]
+  all-next : (k : ℕ) (b : Bool) → code ≡ suc k → inRange k (getD a k 0) ≡ b → allInRange k (drop k a) ≡ cond b (allInRange code (drop code a)) false
   all-next k true e f = rw (drop-cons a k 0 (omega (arith, w .long, w .most)), f, e)
   all-next k false e f = rw (drop-cons a k 0 (omega (arith, w .long, w .most)), f)
 
-  pub walk-next : (found : ℕ) → found ≡ ifElse (inRange (code - 1) (getD a (code - 1) 0)) fault (code - 1) → Walked a found next (code - 1)
+  pub walk-next : (found : ℕ) → found ≡ cond (inRange (code - 1) (getD a (code - 1) 0)) fault (code - 1) → Walked a found next (code - 1)
   walk-next found e = go (inRange (code - 1) (getD a (code - 1) 0)) refl e
     where
-      go : (b : Bool) → inRange (code - 1) (getD a (code - 1) 0) ≡ b → found ≡ ifElse b fault (code - 1) → Walked a found next (code - 1)
+      go : (b : Bool) → inRange (code - 1) (getD a (code - 1) 0) ≡ b → found ≡ cond b fault (code - 1) → Walked a found next (code - 1)
       go true f g =
           rw g
           (record {

@@ -2,7 +2,7 @@
 -- its list of amounts, that of code k at index k. Assumes nothing.
 use mathlib.Core.Path.{_≡_}
 use mathlib.Core.List.{List, [], _∷_}
-use mathlib.Core.Bool.{Bool, true, false, not}
+use mathlib.Core.Bool.{Bool, true, false, not, cond}
 use Prim.Native.Nat.{ℕ, suc, _+_, _<_, _≤_}
 use lib.ListN.{getD}
 use lib.Dec.{leb, eqb}
@@ -10,7 +10,7 @@ use Rattle.refusal.specs.Register.{OUT_OF_RANGE, TOTAL}
 use Rattle.analysis.specs.declared.Checked.{Checked}
 use Rattle.analysis.specs.declared.Checked.the-variants.{InRange, Refused}
 use Rattle.analysis.specs.CheckedCases.{numberOf, codeOf}
-use Rattle.analysis.specs.Register.{CODES, Status, live, retired, splitsOnly, unknown, statusOf, ifElse}
+use Rattle.analysis.specs.Register.{CODES, Status, live, retired, splitsOnly, unknown, statusOf}
 
 -- the least and the greatest amount; 1 and 0, which leave no amount, where the code is not live
 abbrev pub leastBy : Status → ℕ
@@ -44,9 +44,9 @@ requiredOf code = requiredBy (statusOf code)
 -- is the amount in the range of a code of this status? 0 counts as absent, and is where the code may be absent
 abbrev pub inRangeBy : Status → ℕ → Bool
 inRangeBy status amount =
-    ifElse (eqb amount 0)
+    cond (eqb amount 0)
     (not (requiredBy status))
-    (ifElse (leb (leastBy status) amount) (leb amount (greatestBy status)) false)
+    (cond (leb (leastBy status) amount) (leb amount (greatestBy status)) false)
 
 unfoldable pub inRange : ℕ → ℕ → Bool
 inRange code amount = inRangeBy (statusOf code) amount
@@ -54,7 +54,7 @@ inRange code amount = inRangeBy (statusOf code) amount
 -- is each amount in its range, the first being that of `code`?
 abbrev pub allInRange : ℕ → List ℕ → Bool
 allInRange code [] = true
-allInRange code (x ∷ xs) = ifElse (inRange code x) (allInRange (suc code) xs) false
+allInRange code (x ∷ xs) = cond (inRange code x) (allInRange (suc code) xs) false
 
 -- the amounts added as whole numbers
 abbrev pub totalOf : List ℕ → ℕ
@@ -63,7 +63,7 @@ totalOf (x ∷ xs) = x + totalOf xs
 
 -- is a total in its range?
 unfoldable pub totalFits : ℕ → Bool
-totalFits total = ifElse (leb 999900 total) (leb total 1000100) false
+totalFits total = cond (leb 999900 total) (leb total 1000100) false
 
 -- 5 where the ranges do not hold, then 6 where the total does not, else 0
 abbrev pub refusalBy : Bool → Bool → ℕ
@@ -81,7 +81,7 @@ AtFault a code = inRange code (getD a code 0) ≡ false
 
 -- the answer with the number `n`; 5 carries `code`, and 6 none
 abbrev pub answerOf : ℕ → ℕ → Checked
-answerOf n code = ifElse (eqb n 0) InRange (Refused n (ifElse (eqb n OUT_OF_RANGE) code 0))
+answerOf n code = cond (eqb n 0) InRange (Refused n (cond (eqb n OUT_OF_RANGE) code 0))
 
 -- the promise of the check: the answer is fixed but for the code of 5, and that is a code at fault
 pub record Checking (a : List ℕ) (r : Checked) : Type 0 where

@@ -2,7 +2,7 @@
 -- given, retired ones included, for a key is never given again. Assumes nothing.
 use mathlib.Core.Path.{_≡_, refl}
 use mathlib.Core.List.{List, [], _∷_}
-use mathlib.Core.Bool.{Bool, true, false}
+use mathlib.Core.Bool.{Bool, true, false, cond}
 use Prim.Native.Nat.{ℕ}
 use lib.Dec.{eqb}
 use lib.ListN.{take}
@@ -62,14 +62,10 @@ register =
 abbrev pub CODES : ℕ
 CODES = 16
 
-abbrev pub ifElse {ℓ} : {A : Type ℓ} → Bool → A → A → A
-ifElse true a b = a
-ifElse false a b = b
-
 -- what a code is by the entries of a list
 abbrev pub statusIn : List Entry → ℕ → Status
 statusIn [] c = unknown
-statusIn (e ∷ es) c = ifElse (eqb c (e .code)) (e .status) (statusIn es c)
+statusIn (e ∷ es) c = cond (eqb c (e .code)) (e .status) (statusIn es c)
 
 unfoldable pub statusOf : ℕ → Status
 statusOf c = statusIn register c
@@ -87,7 +83,7 @@ isRetired unknown = false
 -- the keys that the entries of a list retire
 abbrev pub retiredIn : List Entry → List ℕ
 retiredIn [] = []
-retiredIn (e ∷ es) = ifElse (isRetired (e .status)) (e .code ∷ retiredIn es) (retiredIn es)
+retiredIn (e ∷ es) = cond (isRetired (e .status)) (e .code ∷ retiredIn es) (retiredIn es)
 
 -- no key stands twice
 pub no-key-twice : distinct (keysOf register) ≡ true

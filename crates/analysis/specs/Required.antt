@@ -1,11 +1,10 @@
 -- The check by a register in which more codes must be present. Before document 02's Five these were 2 to 5
 -- (document 01, "The register and the sheet": "1 to 5 may not"). Assumes nothing.
 use mathlib.Core.List.{List, [], _∷_}
-use mathlib.Core.Bool.{Bool, true, false, _||_}
+use mathlib.Core.Bool.{Bool, true, false, _||_, cond}
 use Prim.Native.Nat.{ℕ, suc}
 use Rattle.refusal.specs.Keys.{isIn}
 use Rattle.analysis.specs.Register.{Status, live, retired, splitsOnly, unknown, Entry, statusIn}
-use Rattle.analysis.specs.Register.{ifElse}
 use Rattle.analysis.specs.Check.{inRangeBy, totalOf}
 use Rattle.analysis.specs.Check.{totalFits}
 use Rattle.analysis.specs.Check.{refusalBy}
@@ -27,7 +26,7 @@ requiring codes (e ∷ es) =
 abbrev pub allInRangeIn : List Entry → ℕ → List ℕ → Bool
 allInRangeIn entries code [] = true
 allInRangeIn entries code (x ∷ xs) =
-    ifElse (inRangeBy (statusIn entries code) x) (allInRangeIn entries (suc code) xs) false
+    cond (inRangeBy (statusIn entries code) x) (allInRangeIn entries (suc code) xs) false
 
 -- the number with which an analysis is refused by a register; 0 where it is in range
 unfoldable pub refusalIn : List Entry → List ℕ → ℕ

@@ -1,9 +1,10 @@
 // An analysis and its check: refusals 5 (out of range) and 6 (total).
 // No public function has a `requires`.
+ghost use mathlib.Core.Bool.{cond};
 ghost use mathlib.Core.Path.{_≡_};
 ghost use Prim.Native.Nat.{_+_, _<_, _≤_};
 ghost use lib.Dec.{eqb};
-ghost use Rattle.analysis.specs.Register.{CODES, ifElse};
+ghost use Rattle.analysis.specs.Register.{CODES};
 ghost use Rattle.analysis.specs.Inner.Packed.{rangeOf};
 ghost use Rattle.analysis.specs.CheckedCases.{numberOf, codeOf};
 ghost use Rattle.analysis.specs.Check.{inRange, totalFits, refusalBy, refusalOf, answerOf, AtFault};
@@ -51,7 +52,7 @@ const RANGES: [u64; CODES] = [
 // absent: all but 1.
 fn fault_at(code: usize, amount: u32, range: u64, fault: usize) -> usize
     requires { ⌜ (code < CODES) × (range ≡ rangeOf code) ⌝ }
-    ensures { λ r. ⌜ r ≡ ifElse (inRange code amount) fault code ⌝ }
+    ensures { λ r. ⌜ r ≡ cond (inRange code amount) fault code ⌝ }
 {
     let x = amount as u64;
     let absent = (x == 0) & (code != 1);

@@ -7,7 +7,6 @@ use native.Mathlib.Omega.{arith}
 use lib.Dec.{eqb}
 use lib.ListN.{getD, length}
 use borrow.Author.Tests.{eq-eqb, ne-eqb}
-use Rattle.analysis.specs.Register.{ifElse}
 use Rattle.analysis.specs.Check.{AtFault}
 use Rattle.sheet.specs.Sheet.{sheetOf}
 use Rattle.sheet.specs.ReadingCases as read
@@ -26,12 +25,12 @@ use Rattle.c_reply.specs.declared.Reply.{Reply}
 
 -- ---- writing: only 5 carries a code
 
-carries : (t : Bool) (n len c : ℕ) → write.codeOf (ifElse t (Length len) (Refused n (ifElse (eqb n 5) c 0)))
-    ≡ cond (eqb (write.numberOf (ifElse t (Length len) (Refused n (ifElse (eqb n 5) c 0)))) 5) c 0
+carries : (t : Bool) (n len c : ℕ) → write.codeOf (cond t (Length len) (Refused n (cond (eqb n 5) c 0)))
+    ≡ cond (eqb (write.numberOf (cond t (Length len) (Refused n (cond (eqb n 5) c 0)))) 5) c 0
 carries true n len c = refl
 carries false n len c = go (eqb n 5)
   where
-    go : (f : Bool) → ifElse f c 0 ≡ cond f c 0
+    go : (f : Bool) → cond f c 0 ≡ cond f c 0
     go true = refl
     go false = refl
 

@@ -299,7 +299,7 @@ module _ (hy : Bool) (keys : List ℕ) (c i count best at : ℕ) (k : Tally hy k
 
 -- a component takes its turn where it is present
 unfoldable pub turnOf : Bool → (ℕ → ℕ) → ℕ → ℕ → List Bool → ℕ → List Bool
-turnOf hy fit p wanted marks c = elim (inMask p c) [ true ↦ takeOf fit (candidatesFor hy) wanted marks c | false ↦ marks ]
+turnOf hy fit p wanted marks c = cond (inMask p c) (takeOf fit (candidatesFor hy) wanted marks c) marks
 
 pub turn-takes : (hy : Bool) (fit : ℕ → ℕ) (p wanted : ℕ) (marks : List Bool) (c : ℕ) → p / 2 ^ c % 2 ≡ 1 → turnOf hy fit p wanted marks c ≡ takeOf fit (candidatesFor hy) wanted marks c
 unfolding turnOf inMask

@@ -45,7 +45,7 @@ unfolding placeIn
 no-place n [] a = refl
 no-place n (m ∷ ms) a = at (eqb n m) refl (no-place n ms (a .0))
   where
-    at : (b : Bool) → eqb n m ≡ b → placeIn ms n ≡ length ms → elim b [ true ↦ 0 | false ↦ suc (placeIn ms n) ] ≡ suc (length ms)
+    at : (b : Bool) → eqb n m ≡ b → placeIn ms n ≡ length ms → cond b 0 (suc (placeIn ms n)) ≡ suc (length ms)
     at true e r = absurd (a .1 (eqb-true n m e))
     at false e r = ap suc r
 

@@ -1,12 +1,12 @@
 -- The figures of every rating lie below 2^53, and so in 64 bits with a sign. Assumes nothing.
 use mathlib.Core.Path.{_≡_, refl}
-use mathlib.Core.Bool.{Bool, true, false}
+use mathlib.Core.Bool.{Bool, true, false, cond}
 use mathlib.Core.List.{List}
 use Prim.Native.Nat.{ℕ, _<_}
 use lib.Dec.{eqb}
 use lib.IntN.{ℤ, natAbs}
 use lib.ListN.{length}
-use Rattle.analysis.specs.Register.{CODES, ifElse}
+use Rattle.analysis.specs.Register.{CODES}
 use Rattle.sheet.specs.Split.{noSplit}
 use Rattle.sheet.specs.Read.{readOf}
 use Rattle.sheet.specs.declared.Split.{Split}
@@ -39,7 +39,7 @@ search-small a long allowance code =
 
 -- of a sheet
 by-split : (none : Bool) (a : List ℕ) → length a ≡ CODES → (p : Split) (code : ℕ)
-    → SmallFigures (ifElse none (searchOutcome a ROUNDS code) (outcome (splitAnswer a p code) noSplit) .answer)
+    → SmallFigures (cond none (searchOutcome a ROUNDS code) (outcome (splitAnswer a p code) noSplit) .answer)
 by-split true a long p code = search-small a long ROUNDS code
 by-split false a long p code = split-small a long p code
 

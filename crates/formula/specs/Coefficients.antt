@@ -3,7 +3,7 @@
 -- prints it. Assumes nothing.
 use mathlib.Core.Path.{_≡_, refl}
 use mathlib.Core.List.{List, [], _∷_}
-use mathlib.Core.Bool.{Bool, true, false, cond, _&&_}
+use mathlib.Core.Bool.{Bool, true, cond, _&&_}
 use Prim.Native.Nat.{ℕ, suc}
 use lib.Dec.{eqb, leb}
 use lib.IntN.{ℤ, pos, negℤ}
@@ -134,7 +134,7 @@ each-listed = refl
 -- where a number stands in a list, or the list's length
 unfoldable pub placeIn : List ℕ → ℕ → ℕ
 placeIn [] n = 0
-placeIn (m ∷ ms) n = elim (eqb n m) [ true ↦ 0 | false ↦ suc (placeIn ms n) ]
+placeIn (m ∷ ms) n = cond (eqb n m) 0 (suc (placeIn ms n))
 
 -- the rule of the table: the magnitudes of a system's coefficients add up to at most 2000000000000 units
 unfoldable pub keepsRule : List ℤ → Bool

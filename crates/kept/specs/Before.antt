@@ -2,13 +2,12 @@
 -- 02, Five): `rating/specs/Rate` over the split and the search at BEFORE components. A mixture is of methane, ethane,
 -- propane and butane. Assumes nothing.
 use mathlib.Core.List.{List}
-use mathlib.Core.Bool.{Bool, cond}
+use mathlib.Core.Bool.{Bool, cond, _&&_}
 use Prim.Native.Nat.{ℕ, _*_, _/_, _%_, min}
 use lib.Count.{ones}
 use lib.Dec.{eqb, ltb}
 use lib.ListN.{getD}
 use Rattle.refusal.specs.Register.{OUT_OF_RANGE, MISFIT, UNBALANCED, TOO_FEW}
-use Rattle.analysis.specs.Register.{ifElse}
 use Rattle.analysis.specs.Required.{refusalIn}
 use Rattle.sheet.specs.Split.{noSplit}
 use Rattle.sheet.specs.declared.Split.{Split}
@@ -16,7 +15,7 @@ use Rattle.systems.specs.Choice.{presentTo, answerOf}
 use Rattle.systems.specs.Without.{HYDROCARBONS, chooseBefore}
 use Rattle.systems.specs.declared.Choice.{Choice}
 use Rattle.split.specs.Fold.{allTo, table}
-use Rattle.split.specs.Split.{RECORDS, both, systemOf}
+use Rattle.split.specs.Split.{RECORDS, systemOf}
 use Rattle.split.specs.Search.{LEVEL}
 use Rattle.split.specs.declared.Answer.{Answer}
 use Rattle.split.specs.declared.Answer.the-variants.{Rated, Refused}
@@ -40,16 +39,16 @@ codesBefore ch k = table (codeBefore ch k) RECORDS 0
 
 unfoldable pub matchesBefore : List ℕ → ℕ → List ℕ → List ℕ → ℕ → Bool
 matchesBefore ch k systems codes r =
-    both (eqb (getD systems r 0) (systemAt ch k r)) (eqb (getD codes r 0) (codeBefore ch k r))
+    (eqb (getD systems r 0) (systemAt ch k r) && eqb (getD codes r 0) (codeBefore ch k r))
 
 unfoldable pub fitsBefore : List ℕ → ℕ → ℕ → List ℕ → List ℕ → Bool
-fitsBefore ch k count systems codes = both (eqb count (3 * k)) (allTo (matchesBefore ch k systems codes) count)
+fitsBefore ch k count systems codes = eqb count (3 * k) && allTo (matchesBefore ch k systems codes) count
 
 -- ---- the answers, of a refusal's number (0: rated on), a choice of systems, a mixture and its inert part
 
 unfoldable pub splitWith : List ℕ → ℕ → List ℕ → ℕ → Split → Answer
 splitWith ch k mix n1 p =
-    ifElse (fitsBefore ch k (p .count) (p .systems) (p .codes))
+    cond (fitsBefore ch k (p .count) (p .systems) (p .codes))
     (proposedIn BEFORE LIMIT ch k mix (cellsIn BEFORE ch k (p .amounts)) n1)
     (Refused MISFIT 0)
 
@@ -77,9 +76,9 @@ searchedWith choice mix allowance =
 
 abbrev pub searchOutcomeWith : ℕ → Choice → List ℕ → ℕ → ℕ → ℕ → Outcome
 searchOutcomeWith number choice mix n1 allowance code =
-    ifElse (eqb number 0)
+    cond (eqb number 0)
     (foundOutcomeWith (choice .systems) (choice .count) n1 (searchedWith choice mix allowance))
-    (outcome (Refused number (ifElse (eqb number OUT_OF_RANGE) code 0)) noSplit)
+    (outcome (Refused number (cond (eqb number OUT_OF_RANGE) code 0)) noSplit)
 
 -- ---- an analysis before request Seven: the register without code 15, four components, systems 2, 4, 7 and 8
 
@@ -89,8 +88,8 @@ choiceBefore mix = answerOf (chooseBefore mix)
 -- 5 or 6, then 16 where fewer than two of the four are present
 abbrev pub refusalBefore : List ℕ → ℕ
 refusalBefore a =
-    ifElse (eqb (refusalIn registerBefore a) 0)
-    (ifElse (ltb (ones (presentTo HYDROCARBONS (simplifiedBefore a))) FEWEST) TOO_FEW 0)
+    cond (eqb (refusalIn registerBefore a) 0)
+    (cond (ltb (ones (presentTo HYDROCARBONS (simplifiedBefore a))) FEWEST) TOO_FEW 0)
     (refusalIn registerBefore a)
 
 unfoldable pub splitBefore : List ℕ → Split → ℕ → Answer

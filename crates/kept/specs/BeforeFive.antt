@@ -7,7 +7,7 @@
 -- same: to every proposed split, and by the search with every allowance, rating, spread, rounds and split. `code` is
 -- the code that refusal 5 carries.
 use mathlib.Core.Path.{_≡_, refl, sym, ap, _∙_, subst}
-use mathlib.Core.Bool.{Bool, true, false}
+use mathlib.Core.Bool.{Bool, true, false, cond}
 use mathlib.Core.Logic.{_↔_}
 use mathlib.Core.List.{List, [], _∷_}
 use Prim.Native.Nat.{ℕ, zero, suc, _≤_, _<_}
@@ -18,7 +18,7 @@ use lib.ListN.{getD, length}
 use borrow.Author.Tests.{eqb-true, leb-true}
 use Rattle.refusal.specs.Keys.{isIn}
 use Rattle.refusal.specs.Laws.Keys.{each-passes}
-use Rattle.analysis.specs.Register.{CODES, ifElse, statusIn}
+use Rattle.analysis.specs.Register.{CODES, statusIn}
 use Rattle.analysis.specs.Check.{requiredBy, totalFits}
 use Rattle.analysis.specs.Required.{requiring, refusalIn}
 use Rattle.analysis.specs.Laws.Required.{requiring-exactly-when}
@@ -168,7 +168,7 @@ module _ (a : List ℕ) (long : length a ≡ CODES) (before : refusalBeforeFive 
 not-refused : (n code : ℕ) (x : Answer) → IsRated (checkedBy n code x) → n ≡ 0
 not-refused n code x h = go (eqb n 0) refl h
   where
-    go : (b : Bool) → eqb n 0 ≡ b → IsRated (ifElse b x (Refused n (ifElse (eqb n 5) code 0))) → n ≡ 0
+    go : (b : Bool) → eqb n 0 ≡ b → IsRated (cond b x (Refused n (cond (eqb n 5) code 0))) → n ≡ 0
     go true e h = eqb-true n 0 e
     go false e h = absurd h
 
@@ -188,9 +188,9 @@ unfolding searchBeforeFive
 search-rated-before a long allowance code is = go (eqb (refusalBeforeFive a) 0) refl is
   where
     go : (b : Bool) → eqb (refusalBeforeFive a) 0 ≡ b
-        → IsRated (ifElse b (searchOutcomeWith 0 (choiceBeforeFive (simplifiedBefore a)) (simplifiedBefore a)
+        → IsRated (cond b (searchOutcomeWith 0 (choiceBeforeFive (simplifiedBefore a)) (simplifiedBefore a)
         (inertBefore a) allowance code)
-        (outcome (Refused (refusalBeforeFive a) (ifElse (eqb (refusalBeforeFive a) 5) code 0)) noSplit) .answer)
+        (outcome (Refused (refusalBeforeFive a) (cond (eqb (refusalBeforeFive a) 5) code 0)) noSplit) .answer)
         → searchOutcome a allowance code ≡ searchBeforeFive a allowance code
     go true e h = search-kept a long (eqb-true (refusalBeforeFive a) 0 e) allowance code
     go false e h = absurd h

@@ -3,7 +3,7 @@
 -- COMPONENTS (`Today`), and those from before hydrogen (document 02, Seven) are these at BEFORE. Assumes nothing.
 use Prim.Native.Nat.{ℕ, zero, suc, _+_, _*_, _-_, _/_, _%_, _^_}
 use mathlib.Core.List.{List}
-use mathlib.Core.Bool.{Bool, true, false, cond}
+use mathlib.Core.Bool.{Bool, cond, _&&_}
 use lib.Dec.{ltb, leb, eqb}
 use lib.ListN.{getD}
 use lib.IntN.{ℤ, pos, negsuc, _+ℤ_, _*ℤ_}
@@ -12,7 +12,7 @@ use Rattle.formula.specs.Partial.{partialNumber}
 use Rattle.systems.specs.Without.{HYDROCARBONS}
 use Rattle.systems.specs.Systems.{COMPONENTS, memberOf, hasOf}
 use Rattle.split.specs.Fold.{sumTo, sumToZ, allTo, someTo, first, table}
-use Rattle.split.specs.Split.{SYSTEMS, RECORDS, systemOf, both, heldOf, rankOf}
+use Rattle.split.specs.Split.{SYSTEMS, RECORDS, systemOf, heldOf, rankOf}
 use Rattle.split.specs.Rating.{spreadOf, inertNumber, verdict}
 use Rattle.split.specs.Start.{givenOf}
 use Rattle.split.specs.Move.{imbalanceOf, componentOf, giverOf, takerOf, shift, betweenOf}
@@ -64,7 +64,7 @@ module _ (w : ℕ) where
   -- ---- Split: the records
 
   unfoldable pub componentIn : ℕ → ℕ → ℕ
-  componentIn system j = first (λ c. both (hasOf system c) (eqb (rankOf system c) j)) w 0
+  componentIn system j = first (λ c. (hasOf system c && eqb (rankOf system c) j)) w 0
 
   unfoldable pub cellsIn : List ℕ → ℕ → List ℕ → List ℕ
   cellsIn ch k xs = table (λ i. recorded ch k xs (i / w) (i % w)) cellCount 0
@@ -106,13 +106,13 @@ module _ (w : ℕ) where
   movedIn a m d = shift a (giverOf m * w + componentOf m) (takerOf m * w + componentOf m) d
 
   unfoldable pub affordsIn : List ℕ → List ℕ → ℕ → ℕ → Bool
-  affordsIn ch a d m = both (leb d (cellIn a (giverOf m) (componentOf m))) (ltb d (partsIn ch a (giverOf m)))
+  affordsIn ch a d m = leb d (cellIn a (giverOf m) (componentOf m)) && ltb d (partsIn ch a (giverOf m))
 
   unfoldable pub lowersIn : List ℕ → ℕ → List ℕ → ℕ → ℕ → Bool
   lowersIn ch k a d m = ltb (imbalanceOf (numberIn ch (movedIn a m d)) k) (imbalanceOf (numberIn ch a) k)
 
   unfoldable pub canIn : List ℕ → ℕ → List ℕ → ℕ → ℕ → Bool
-  canIn ch k a d m = both (betweenOf ch k m) (both (affordsIn ch a d m) (lowersIn ch k a d m))
+  canIn ch k a d m = betweenOf ch k m && (affordsIn ch a d m && lowersIn ch k a d m)
 
   unfoldable pub firstIn : List ℕ → ℕ → List ℕ → ℕ → ℕ
   firstIn ch k a d = first (canIn ch k a d) moveCount 0
@@ -121,17 +121,13 @@ module _ (w : ℕ) where
 
   unfoldable pub goOnIn : ℕ → ℕ → Turn
   goOnIn level m =
-      elim (ltb m moveCount) [ true ↦ Move m | false ↦ elim (eqb level 0) [ true ↦ Refuse | false ↦ Halve ] ]
+      cond (ltb m moveCount) (Move m) (cond (eqb level 0) Refuse Halve)
 
   unfoldable pub turnIn : List ℕ → ℕ → ℕ → ℕ → List ℕ → ℕ → ℕ → Turn
   turnIn ch k limit allowance a level rounds =
-      elim (leb (spreadOf (numberIn ch a) k) limit) [
-        | true ↦ Rate (spreadOf (numberIn ch a) k)
-        | false ↦ elim (eqb rounds allowance) [
-          | true ↦ Refuse
-          | false ↦ goOnIn level (firstIn ch k a (2 ^ level))
-        ]
-      ]
+      cond (leb (spreadOf (numberIn ch a) k) limit)
+      (Rate (spreadOf (numberIn ch a) k))
+      (cond (eqb rounds allowance) Refuse (goOnIn level (firstIn ch k a (2 ^ level))))
 
   abbrev pub stepIn : List ℕ → ℕ → ℕ → List ℕ
   stepIn a m level = movedIn a m (2 ^ level)

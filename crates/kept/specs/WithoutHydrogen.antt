@@ -5,7 +5,7 @@
 -- as it was, to every proposed split, and by the search with every allowance: rating, spread, rounds, split and
 -- refusal. `code` is the code that refusal 5 carries.
 use mathlib.Core.Path.{_≡_, refl, sym, ap, ap₂, _∙_}
-use mathlib.Core.Bool.{Bool, true, false, not}
+use mathlib.Core.Bool.{Bool, true, false, not, cond, _&&_}
 use mathlib.Core.List.{List, [], _∷_, _++_}
 use Prim.Native.Nat.{ℕ, zero, suc, _*_, _/_, _%_, _<_, min}
 use native.Mathlib.Omega.{arith}
@@ -13,7 +13,6 @@ use lib.Count.{ones}
 use lib.Dec.{eqb, ltb}
 use lib.ListN.{getD}
 use borrow.Author.Tests.{eqb-true, ltb-true}
-use Rattle.analysis.specs.Register.{ifElse}
 use Rattle.analysis.specs.Required.{refusalIn}
 use Rattle.sheet.specs.Split.{noSplit}
 use Rattle.sheet.specs.Components.{codesReading, zeroListed}
@@ -28,7 +27,7 @@ use Rattle.systems.specs.Systems.{HYDROGEN, hasOf, elem}
 use Rattle.systems.specs.Laws.Members.{hydrocarbons-are}
 use Rattle.systems.specs.Choice.{presentTo, presentCount, answerOf, choiceOf}
 use Rattle.systems.specs.Without.{HYDROCARBONS, present-before, candidates-before, choose-before, present-same, before-same}
-use Rattle.split.specs.Split.{RECORDS, both, systemOf}
+use Rattle.split.specs.Split.{RECORDS, systemOf}
 use Rattle.split.specs.Search.{LEVEL}
 use Rattle.split.specs.declared.Answer.{Answer}
 use Rattle.split.specs.declared.Answer.the-variants.{Rated, Refused}
@@ -76,9 +75,9 @@ module _ (ch : List ℕ) (k : ℕ) (without : Without ch k) where
       → fitsBefore ch k count systems codes ≡ fitsOf ch k count systems codes
   unfolding fitsBefore fitsOf matchesBefore matchesAt
   fits-same count systems codes =
-      ap (both (eqb count (3 * k)))
+      ap (_&&_ (eqb count (3 * k)))
       (all-same (matchesBefore ch k systems codes) (matchesAt ch k systems codes) count
-      (λ r l. ap (λ (c : ℕ). both (eqb (getD systems r 0) (systemAt ch k r)) (eqb (getD codes r 0) c))
+      (λ r l. ap (λ (c : ℕ). (eqb (getD systems r 0) (systemAt ch k r) && eqb (getD codes r 0) c))
       (code-same r)))
 
 -- ---- so are the answers, where the mixture has no hydrogen
@@ -88,7 +87,7 @@ module _ (ch : List ℕ) (k : ℕ) (without : Without ch k) (mix′ mix : List �
   split-same : (p : Split) → splitWith ch k mix′ n1 p ≡ splitBy ch k mix n1 p
   unfolding splitWith splitBy
   split-same p =
-      ap₂ (λ (b : Bool) (x : Answer). ifElse b x (Refused 7 0))
+      ap₂ (λ (b : Bool) (x : Answer). cond b x (Refused 7 0))
       (fits-same ch k without (p .count) (p .systems) (p .codes))
       (proposed-kept ch k without mix′ mix no (p .amounts) LIMIT n1)
 
@@ -188,8 +187,8 @@ module _ (a : List ℕ) (none : getD a 15 0 ≡ 0) where
           (inertFirst a) allowance code
       go true e =
           let on = eqb-true (ratingRefusal a) 0 e in
-          ap (λ (x : Outcome). ifElse (eqb (ratingRefusal a) 0) x
-          (outcome (Refused (ratingRefusal a) (ifElse (eqb (ratingRefusal a) 5) code 0)) noSplit))
+          ap (λ (x : Outcome). cond (eqb (ratingRefusal a) 0) x
+          (outcome (Refused (ratingRefusal a) (cond (eqb (ratingRefusal a) 5) code 0)) noSplit))
           (sym (found-same (systemsFor a) (countFor a) (without on) (simplifiedBefore a) (mixOf a) no (inertFirst a) _ _
           (search-kept (systemsFor a) (countFor a) (without on) (simplifiedBefore a) (mixOf a) no LIMIT LEVEL
           (min allowance ROUNDS))))

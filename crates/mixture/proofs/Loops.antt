@@ -2,7 +2,7 @@
 use Prim.Native.Nat.{ℕ, zero, suc, _+_, _*_, _-_, _≤_, _<_}
 use mathlib.Core.Path.{_≡_, refl, sym, ap, _∙_}
 use mathlib.Core.List.{List, [], _∷_, map}
-use mathlib.Core.Bool.{Bool, true, false}
+use mathlib.Core.Bool.{Bool, true, false, cond}
 use native.Mathlib.Nat.{not-suc-le-zero, div-le-of-le-mul, div-add-mod', mul-le-mul-left}
 use native.Mathlib.Numerals.{add-one}
 use native.Mathlib.Omega.{arith}
@@ -10,7 +10,6 @@ use lib.Dec.{eqb, ltb}
 use lib.ListN.{getD, set, take, length, replicate, length-set, length-map}
 use lib.Seq.{take-all, ext-getD, getD-set-same, getD-set-other}
 use borrow.Author.Tests.{eqb-true, eqb-false, ne-eqb, lt-ltb, le-ltb}
-use Rattle.analysis.specs.Register.{ifElse}
 use Rattle.analysis.specs.Check.{totalOf}
 use Rattle.mixture.specs.Scaling.{WHOLE, quotientOf, remainderOf, quotientsOf, remaindersOf, missingOf, greatestTo, greatestPlace, distributed, scaledOf}
 use Rattle.mixture.specs.Laws.Share.{getD-map}
@@ -67,11 +66,11 @@ module _ (code : ℕ) where
 -- butane of the codes from 4 to below `code`, and the sum of their factors
 abbrev pub butaneTo : List ℕ → ℕ → ℕ
 butaneTo a zero = 0
-butaneTo a (suc k) = butaneTo a k + ifElse (ltb k 4) 0 (factorOf k * getD a k 0)
+butaneTo a (suc k) = butaneTo a k + cond (ltb k 4) 0 (factorOf k * getD a k 0)
 
 abbrev pub factorsTo : ℕ → ℕ
 factorsTo zero = 0
-factorsTo (suc k) = factorsTo k + ifElse (ltb k 4) 0 (factorOf k)
+factorsTo (suc k) = factorsTo k + cond (ltb k 4) 0 (factorOf k)
 
 pub record Butane (a : List ℕ) (t code : ℕ) : Type 0 where
   pub first : 4 ≤ code

@@ -3,7 +3,7 @@
 use Prim.Native.Nat.{ℕ, zero, suc, _+_, _*_, _≤_, _<_}
 use mathlib.Core.Path.{_≡_, refl, sym, ap, _∙_}
 use mathlib.Core.List.{List}
-use mathlib.Core.Bool.{Bool, true, false}
+use mathlib.Core.Bool.{Bool, true, false, cond}
 use native.Mathlib.Nat.{not-suc-le-zero, div-add-mod', mod-lt, lt-of-mul-lt-mul-right}
 use native.Mathlib.Omega.{arith}
 use lib.Dec.{eqb, ltb}
@@ -27,10 +27,10 @@ greatest-first rs zero j h = absurd (not-suc-le-zero h)
 greatest-first rs (suc n) j h =
     go (ltb (getD rs (greatestTo rs n) 0) (getD rs n 0)) refl h (λ l. greatest-first rs n j l) (λ l. greatest-least rs n j l)
   where
-    go : (b : Bool) → ltb (getD rs (greatestTo rs n) 0) (getD rs n 0) ≡ b → j < elim b [ true ↦ n | false ↦ greatestTo rs n ]
+    go : (b : Bool) → ltb (getD rs (greatestTo rs n) 0) (getD rs n 0) ≡ b → j < cond b n (greatestTo rs n)
         → (j < greatestTo rs n → getD rs j 0 < getD rs (greatestTo rs n) 0)
         → (j < n → getD rs j 0 ≤ getD rs (greatestTo rs n) 0)
-        → getD rs j 0 < getD rs (elim b [ true ↦ n | false ↦ greatestTo rs n ]) 0
+        → getD rs j 0 < getD rs (cond b n (greatestTo rs n)) 0
     go true e l rec least = omega (arith, ltb-true (getD rs (greatestTo rs n) 0) (getD rs n 0) e, least l)
     go false e l rec least = rec l
 

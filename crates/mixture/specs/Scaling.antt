@@ -2,7 +2,7 @@
 -- components. Assumes nothing.
 use Prim.Native.Nat.{ℕ, zero, suc, _+_, _*_, _-_, _/_, _%_}
 use mathlib.Core.List.{List, map}
-use mathlib.Core.Bool.{true, false}
+use mathlib.Core.Bool.{cond}
 use lib.Dec.{ltb}
 use lib.ListN.{getD, set, length}
 use Rattle.analysis.specs.Check.{totalOf}
@@ -32,7 +32,7 @@ missingOf qs = WHOLE - totalOf qs
 unfoldable pub greatestTo : List ℕ → ℕ → ℕ
 greatestTo rs zero = 0
 greatestTo rs (suc n) =
-    elim (ltb (getD rs (greatestTo rs n) 0) (getD rs n 0)) [ true ↦ n | false ↦ greatestTo rs n ]
+    cond (ltb (getD rs (greatestTo rs n) 0) (getD rs n 0)) n (greatestTo rs n)
 
 abbrev pub greatestPlace : List ℕ → ℕ
 greatestPlace rs = greatestTo rs (length rs)

@@ -1,18 +1,18 @@
 -- The answer to proposed cells, case by case, from what its tests came to.
 use mathlib.Core.Path.{_≡_, refl, sym, ap, ap₂, _∙_}
-use mathlib.Core.Bool.{Bool, true, false, not}
+use mathlib.Core.Bool.{Bool, true, false, not, _&&_, cond}
 use mathlib.Core.List.{List}
 use Prim.Native.Nat.{ℕ, zero, suc, _+_, _*_, _≤_, _<_}
 use native.Mathlib.Nat as N
 use native.Mathlib.Omega.{arith}
-use lib.Dec.{ltb, leb}
+use lib.Dec.{ltb}
 use lib.IntN.{ℤ, pos, negsuc, natAbs, _+ℤ_, _-ℤ_, _*ℤ_}
 use lib.ListN.{length, getD}
 use lib.Signed.{quotZ}
 use borrow.Author.Tests.{not-true, not-false, lt-leb, le-leb}
 use Rattle.split.specs.Fold.{sumTo, sumToZ}
 use Rattle.split.specs.Laws.Folds.{sum-same, greatest-same, least-same}
-use Rattle.split.specs.Split.{CELLS, partsOf, numberAt, both, Stock}
+use Rattle.split.specs.Split.{CELLS, partsOf, numberAt, Stock}
 use Rattle.split.specs.Rating.{resums, someEmpty, spreadOf, weightedOf, meanOf, inertNumber, ratingOf}
 use Rattle.split.specs.Find.{chosenFit, mixtureFit}
 use Rattle.split.specs.Laws.Sums.{resummed, parts-le}
@@ -67,7 +67,7 @@ module _ (limit : ℕ) (ch : List ℕ) (k : ℕ) (a : List ℕ) (n1 : ℕ) (st :
 
     rated-same : ratedBy limit (r .numbers) (r .parts) k n1 ≡ ratedOf limit ch k a n1
     unfolding ratedBy ratedOf ratingOf meanOf
-    rated-same = ap₂ (λ (s : ℕ) (w : ℤ). elim (ltb limit s) as (λ _. Answer) [ true ↦ Refused 10 0 | false ↦ Rated (quotZ w (pos 1000000) +ℤ inertNumber n1 +ℤ negsuc 1000002999) s 0 ]) spread-same weighed-same
+    rated-same = ap₂ (λ (s : ℕ) (w : ℤ). cond (ltb limit s) (Refused 10 0) (Rated (quotZ w (pos 1000000) +ℤ inertNumber n1 +ℤ negsuc 1000002999) s 0)) spread-same weighed-same
 
     pub rated-weighed : (x : Answer) → x ≡ ratedBy limit (r .numbers) (r .parts) k n1 → x ≡ weighedOf limit ch k a n1
     unfolding weighedOf
@@ -80,7 +80,7 @@ module _ (mix ch : List ℕ) (k n1 : ℕ) where
   unfolding proposalFit
   much-inert h = sym (rw (lt-leb n1 1000000 h))
 
-  pub inert-fits : n1 ≤ 1000000 → (b : Bool) → b ≡ both (mixtureFit mix) (chosenFit ch k) → b ≡ proposalFit mix ch k n1
+  pub inert-fits : n1 ≤ 1000000 → (b : Bool) → b ≡ (mixtureFit mix && chosenFit ch k) → b ≡ proposalFit mix ch k n1
   unfolding proposalFit
   inert-fits h b e = e ∙ sym (rw (le-leb n1 1000000 h))
 

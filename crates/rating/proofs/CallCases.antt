@@ -1,6 +1,6 @@
 -- What the public calls meet: the check's answer, the values of an analysis in range, what the search found. Assumes nothing.
 use mathlib.Core.Path.{_≡_, refl, sym, ap, ap₂, _∙_, subst}
-use mathlib.Core.Bool.{Bool, true, false}
+use mathlib.Core.Bool.{Bool, true, false, cond}
 use mathlib.Core.List.{List}
 use mathlib.Core.Logic.{_⊎_, inl, inr}
 use Prim.Native.Nat.{ℕ, _*_, _^_, _≤_, _<_, min}
@@ -15,7 +15,7 @@ use lib.ListN.{length, replicate}
 use borrow.Author.Tests.{eq-eqb}
 use Rattle.integer.specs.Laws.Ring.{mag-le}
 use Rattle.refusal.specs.Register.{TOO_FEW}
-use Rattle.analysis.specs.Register.{CODES, ifElse}
+use Rattle.analysis.specs.Register.{CODES}
 use Rattle.analysis.specs.CheckedCases as check
 use Rattle.analysis.specs.Laws.Ranges.{checked-number}
 use Rattle.analysis.specs.Check.{refusalOf, AtFault, Checking}
@@ -67,7 +67,7 @@ isIn (checked.Refused number code) = false
 -- an analysis that is turned away: the refusal is its own, and 5 carries a code at fault
 pub record TurnedAway (a : List ℕ) (number code : ℕ) : Type 0 where
   pub some : eqb (ratingRefusal a) 0 ≡ false
-  pub same : Refused number code ≡ Refused (ratingRefusal a) (ifElse (eqb (ratingRefusal a) 5) (codeOf (Refused number code)) 0)
+  pub same : Refused number code ≡ Refused (ratingRefusal a) (cond (eqb (ratingRefusal a) 5) (codeOf (Refused number code)) 0)
   pub fault : number ≡ 5 → AtFault a (codeOf (Refused number code))
 
 module _ (a : List ℕ) (x : Checked) (h : Checking a x) where
@@ -80,19 +80,19 @@ module _ (a : List ℕ) (x : Checked) (h : Checking a x) where
       carried : check.codeOf x ≡ code
       carried = ap check.codeOf e
 
-      by : (f : Bool) → eqb (refusalOf a) 5 ≡ f → number ≡ refusalOf a → code ≡ ifElse f (check.codeOf x) 0
-          → Refused number code ≡ Refused (refusalOf a) (ifElse (eqb (refusalOf a) 5) (codeOf (Refused number code)) 0)
+      by : (f : Bool) → eqb (refusalOf a) 5 ≡ f → number ≡ refusalOf a → code ≡ cond f (check.codeOf x) 0
+          → Refused number code ≡ Refused (refusalOf a) (cond (eqb (refusalOf a) 5) (codeOf (Refused number code)) 0)
       by true q n c =
           let five : eqb number 5 ≡ true = ap (λ (k : ℕ). eqb k 5) n ∙ q in
           ap (λ (k : ℕ). Refused k code) n ∙ rw (q, five)
       by false q n c = ap₂ Refused n c ∙ rw q
 
-      go : (b : Bool) → eqb (refusalOf a) 0 ≡ b → x ≡ ifElse b checked.InRange (checked.Refused (refusalOf a) (ifElse (eqb (refusalOf a) 5) (check.codeOf x) 0)) → TurnedAway a number code
+      go : (b : Bool) → eqb (refusalOf a) 0 ≡ b → x ≡ cond b checked.InRange (checked.Refused (refusalOf a) (cond (eqb (refusalOf a) 5) (check.codeOf x) 0)) → TurnedAway a number code
       go true q r = absurd (differ (isIn x) (ap isIn r) (ap isIn e))
       go false q r =
-          let same : checked.Refused number code ≡ checked.Refused (refusalOf a) (ifElse (eqb (refusalOf a) 5) (check.codeOf x) 0) = sym e ∙ r in
+          let same : checked.Refused number code ≡ checked.Refused (refusalOf a) (cond (eqb (refusalOf a) 5) (check.codeOf x) 0) = sym e ∙ r in
           let n : number ≡ refusalOf a = cc in
-          let c : code ≡ ifElse (eqb (refusalOf a) 5) (check.codeOf x) 0 = cc in
+          let c : code ≡ cond (eqb (refusalOf a) 5) (check.codeOf x) 0 = cc in
           let f = range-first a q in
           record {
             some = rw f q;
@@ -110,19 +110,19 @@ pub split-away : (a : List ℕ) (p : Split) (number code : ℕ) → TurnedAway a
 unfolding splitAnswer
 split-away a p number code t =
     t .same
-    ∙ sym (ap (λ (b : Bool). ifElse b (splitBy (systemsFor a) (countFor a) (mixOf a) (inertFirst a) p) (Refused (ratingRefusal a) (ifElse (eqb (ratingRefusal a) 5) (codeOf (Refused number code)) 0))) (t .some))
+    ∙ sym (ap (λ (b : Bool). cond b (splitBy (systemsFor a) (countFor a) (mixOf a) (inertFirst a) p) (Refused (ratingRefusal a) (cond (eqb (ratingRefusal a) 5) (codeOf (Refused number code)) 0))) (t .some))
 
 pub search-away : (a : List ℕ) (allowance number code : ℕ) → TurnedAway a number code → outcome (Refused number code) noSplit ≡ searchOutcome a allowance (codeOf (Refused number code))
 unfolding searchOutcome
 search-away a allowance number code t =
     ap (λ (x : Answer). outcome x noSplit) (t .same)
-    ∙ sym (ap (λ (b : Bool). ifElse b (foundOutcome (systemsFor a) (countFor a) (inertFirst a) (searched a allowance)) (outcome (Refused (ratingRefusal a) (ifElse (eqb (ratingRefusal a) 5) (codeOf (Refused number code)) 0)) noSplit)) (t .some))
+    ∙ sym (ap (λ (b : Bool). cond b (foundOutcome (systemsFor a) (countFor a) (inertFirst a) (searched a allowance)) (outcome (Refused (ratingRefusal a) (cond (eqb (ratingRefusal a) 5) (codeOf (Refused number code)) 0)) noSplit)) (t .some))
 
 -- ---- an analysis in range
 
 module _ (a : List ℕ) (long : length a ≡ CODES) (passed : refusalOf a ≡ 0) where
   mixture-in : mixtureOf a ≡ simplifiedOf a
-  mixture-in = ap (λ (n : ℕ). ifElse (eqb n 0) (simplifiedOf a) (replicate COMPONENTS 0)) passed
+  mixture-in = ap (λ (n : ℕ). cond (eqb n 0) (simplifiedOf a) (replicate COMPONENTS 0)) passed
 
   -- how many components are present, by what was simplified
   module _ (mix : List ℕ) (count : ℕ) (m : mix ≡ mixtureOf a) (k : count ≡ presentCount mix) where
@@ -140,7 +140,7 @@ module _ (a : List ℕ) (long : length a ≡ CODES) (passed : refusalOf a ≡ 0)
     mix-is = m ∙ mixture-in
 
     inert-is : n1 ≡ inertFirst a
-    inert-is = n ∙ ap (λ (k : ℕ). ifElse (eqb k 0) (inertFirst a) 0) passed
+    inert-is = n ∙ ap (λ (k : ℕ). cond (eqb k 0) (inertFirst a) 0) passed
 
     choice-is : choice ≡ choiceOf (mixOf a)
     choice-is = c ∙ ap choiceOf mix-is

@@ -11,7 +11,7 @@ use borrow.Author.Tests.{lt-ltb, le-ltb, ltb-true, ltb-false, eq-eqb, ne-eqb, eq
 use Rattle.systems.specs.Systems.{COMPONENTS, hasOf, candidates, Candidate}
 use Rattle.systems.specs.Laws.Table.{every, everyTo, eachTo, each-candidate}
 use Rattle.split.specs.Fold.{allTo, table}
-use Rattle.split.specs.Split.{CELLS, RECORDS, both, cellOf, systemOf, heldOf, rankOf, componentAt, cellsOf, amountsOf, Chosen}
+use Rattle.split.specs.Split.{CELLS, RECORDS, cellOf, systemOf, heldOf, rankOf, componentAt, cellsOf, amountsOf, Chosen}
 use Rattle.split.specs.Laws.Tables.{length-table, getD-table}
 use Rattle.split.specs.Laws.Clean.{held-row, row-held}
 use Rattle.split.specs.Laws.Places.{rank-lt, component-rank, component-lt, component-has, rank-component}
@@ -315,9 +315,9 @@ module _ (ch : List ℕ) (k count : ℕ) (systems codes : List ℕ) where
   fits-all h = rw (eq-eqb count (3 * k) h)
 
   -- one record of the system and the component expected of it
-  match-in : (r : ℕ) → r < 3 * k → both (eqb (getD systems r 0) (systemOf ch (r / 3))) (eqb (getD codes r 0) (codeOf (componentAt (systemOf ch (r / 3)) (r % 3)))) ≡ matchesAt ch k systems codes r
+  match-in : (r : ℕ) → r < 3 * k → (eqb (getD systems r 0) (systemOf ch (r / 3)) && eqb (getD codes r 0) (codeOf (componentAt (systemOf ch (r / 3)) (r % 3)))) ≡ matchesAt ch k systems codes r
   unfolding matchesAt
-  match-in r h = ap₂ (λ (x y : ℕ). both (eqb (getD systems r 0) x) (eqb (getD codes r 0) y)) (system-in ch k r h) (code-in ch k r h)
+  match-in r h = ap₂ (λ (x y : ℕ). (eqb (getD systems r 0) x && eqb (getD codes r 0) y)) (system-in ch k r h) (code-in ch k r h)
 
   -- the records below r are still to be tested
   pub record Fitting (r : ℕ) : Type 0 where
@@ -330,14 +330,14 @@ module _ (ch : List ℕ) (k count : ℕ) (systems codes : List ℕ) where
   -- record r, as the jth of row s
   abbrev recordFits : ℕ → ℕ → ℕ → Bool
   recordFits r s j =
-      both (eqb (getD systems r 0) (systemOf ch s)) (eqb (getD codes r 0) (codeOf (componentAt (systemOf ch s) j)))
+      (eqb (getD systems r 0) (systemOf ch s) && eqb (getD codes r 0) (codeOf (componentAt (systemOf ch s) j)))
 
   record-fits : (s j : ℕ) → s < k → j < 3 → matchesAt ch k systems codes (3 * s + j) ≡ recordFits (3 * s + j) s j
   record-fits s j h l =
       let row : (3 * s + j) / 3 ≡ s = omega arith in
       let place : (3 * s + j) % 3 ≡ j = omega arith in
       sym (match-in (3 * s + j) (omega arith))
-      ∙ ap₂ (λ (x y : ℕ). both (eqb (getD systems (3 * s + j) 0) (systemOf ch x))
+      ∙ ap₂ (λ (x y : ℕ). _&&_ (eqb (getD systems (3 * s + j) 0) (systemOf ch x))
       (eqb (getD codes (3 * s + j) 0) (codeOf (componentAt (systemOf ch x) y)))) row place
 
   -- a row's three, of the rows below n the last
@@ -372,13 +372,13 @@ module _ (ch : List ℕ) (k count : ℕ) (systems codes : List ℕ) where
     pub fitting-all : r ≤ 0 → true ≡ fitsOf ch k count systems codes
     fitting-all h = sym (f .rest ∙ all-none (matchesAt ch k systems codes) r h)
 
-both-is : (x y : Bool) → (x && y) ≡ both x y
+both-is : (x y : Bool) → (x && y) ≡ (x && y)
 both-is true y = refl
 both-is false y = refl
 
-pub match-is : (found system code x expected : ℕ) → x ≡ expected → (eqb found system && eqb code x) ≡ both (eqb found system) (eqb code expected)
+pub match-is : (found system code x expected : ℕ) → x ≡ expected → (eqb found system && eqb code x) ≡ (eqb found system && eqb code expected)
 match-is found system code x expected e =
-    both-is (eqb found system) (eqb code x) ∙ ap (λ (n : ℕ). both (eqb found system) (eqb code n)) e
+    both-is (eqb found system) (eqb code x) ∙ ap (λ (n : ℕ). (eqb found system && eqb code n)) e
 
 -- ---- a proposed split: whether its records fit, and the answer to its cells
 

@@ -1,6 +1,6 @@
 -- What the rating of a sheet meets. Assumes nothing.
 use mathlib.Core.Path.{_≡_, refl, sym, ap, _∙_, subst}
-use mathlib.Core.Bool.{Bool, true, false}
+use mathlib.Core.Bool.{Bool, true, false, cond}
 use mathlib.Core.Logic.{inl, inr}
 use mathlib.Core.List.{List}
 use Prim.Native.Nat.{ℕ}
@@ -8,7 +8,6 @@ use native.Mathlib.Omega.{arith}
 use lib.Dec.{eqb}
 use lib.ListN.{getD}
 use borrow.Author.Tests.{ne-eqb}
-use Rattle.analysis.specs.Register.{ifElse}
 use Rattle.analysis.specs.Check.{refusalOf}
 use Rattle.sheet.specs.Split.{noSplit}
 use Rattle.sheet.specs.ReadingCases as read
@@ -61,14 +60,14 @@ module _ (s : List ℕ) (r : Sheet) (h : ReadAs s r) (e : r .answer ≡ reading.
   free (Refused n p) (inl (inr b)) = rw (ne-eqb n 5 (λ z. omega (arith, b .0)))
   free (Refused n p) (inr q) = ap codeOf q
 
-  ends : RatedOrFew (ifElse (eqb (r .split .count) 0) (searchOutcome (r .analysis .amounts) 4000 0) (outcome (splitAnswer (r .analysis .amounts) (r .split) 0) noSplit) .answer)
+  ends : RatedOrFew (cond (eqb (r .split .count) 0) (searchOutcome (r .analysis .amounts) 4000 0) (outcome (splitAnswer (r .analysis .amounts) (r .split) 0) noSplit) .answer)
   ends = go (eqb (r .split .count) 0)
     where
-      go : (t : Bool) → RatedOrFew (ifElse t (searchOutcome (r .analysis .amounts) 4000 0) (outcome (splitAnswer (r .analysis .amounts) (r .split) 0) noSplit) .answer)
+      go : (t : Bool) → RatedOrFew (cond t (searchOutcome (r .analysis .amounts) 4000 0) (outcome (splitAnswer (r .analysis .amounts) (r .split) 0) noSplit) .answer)
       go true = search-in-range (r .analysis .amounts) 0 passed 4000
       go false = split-in-range (r .analysis .amounts) 0 passed (r .split)
 
-  module _ (o : Outcome) (q : o ≡ ifElse (eqb (r .split .count) 0) (searchOutcome (r .analysis .amounts) 4000 0) (outcome (splitAnswer (r .analysis .amounts) (r .split) 0) noSplit)) where
+  module _ (o : Outcome) (q : o ≡ cond (eqb (r .split .count) 0) (searchOutcome (r .analysis .amounts) 4000 0) (outcome (splitAnswer (r .analysis .amounts) (r .split) 0) noSplit)) where
     answer-ends : RatedOrFew (o .answer)
     answer-ends = subst (λ (x : Outcome). RatedOrFew (x .answer)) (sym q) ends
 
@@ -76,7 +75,7 @@ module _ (s : List ℕ) (r : Sheet) (h : ReadAs s r) (e : r .answer ≡ reading.
     unfolding sheetOutcome
     sheet-read =
         q
-        ∙ ap (λ (x : Sheet). ifElse (eqb (x .split .count) 0) (searchOutcome (x .analysis .amounts) 4000 0) (outcome (splitAnswer (x .analysis .amounts) (x .split) 0) noSplit)) whole
+        ∙ ap (λ (x : Sheet). cond (eqb (x .split .count) 0) (searchOutcome (x .analysis .amounts) 4000 0) (outcome (splitAnswer (x .analysis .amounts) (x .split) 0) noSplit)) whole
         ∙ sym (ap (λ (x : Reading). readBy x (readOf s 0 .analysis .amounts) (readOf s 0 .split) 0) good)
         ∙ ap (sheetOutcome s) (sym (free (o .answer) answer-ends))
 

@@ -10,7 +10,6 @@ use Rattle.refusal.specs.Keys.{each}
 use Rattle.refusal.specs.Register.{NO_SYSTEM, TOO_FEW}
 use Rattle.formula.specs.WorkingRule.{sumAbs}
 use Rattle.formula.specs.Coefficients.{placeIn, keepsRule, isSystem}
-use Rattle.analysis.specs.Register.{ifElse}
 use Rattle.systems.specs.Systems.{HYDROGEN, candidates}
 use Rattle.systems.specs.Choice.{inMask, presentOf, presentCount, fold, isChosen, listOf, chosenOf, candidatesFor}
 use Rattle.systems.specs.Choice.{candidatesOf}
@@ -54,7 +53,7 @@ chosen-from test marks (s ∷ ss) chosen h c =
     go : (b : Bool) → (test s ≡ true) × (each test ss ≡ true)
         → ((l : List ℕ) → each test ss ≡ true → each test l ≡ true
         → each test (fold (listOf marks) ss l) ≡ true)
-        → each test (fold (listOf marks) ss (elim b [ true ↦ chosen ++ (s ∷ []) | false ↦ chosen ])) ≡ true
+        → each test (fold (listOf marks) ss (cond b (chosen ++ (s ∷ [])) chosen)) ≡ true
     go true (t, u) rest = rest (chosen ++ (s ∷ [])) u (each-end test chosen s c t)
     go false (t, u) rest = rest chosen u c
 
@@ -71,7 +70,7 @@ none-left-out mix = chosen-each isSystem _ (candidatesOf (presentOf mix)) (offer
 -- ---- the number of a mixture
 
 module _ (mix : List ℕ) where
-  pub mixture-number : mixtureRefusal mix ≡ ifElse (ltb (presentCount mix) FEWEST) TOO_FEW 0
+  pub mixture-number : mixtureRefusal mix ≡ cond (ltb (presentCount mix) FEWEST) TOO_FEW 0
   unfolding mixtureRefusal
   mixture-number = rw (none-left-out mix)
 
@@ -79,6 +78,6 @@ module _ (mix : List ℕ) where
   pub never-left-out : mixtureRefusal mix ≡ NO_SYSTEM → ⊥
   never-left-out e = go (ltb (presentCount mix) FEWEST) (mixture-number ∙ refl) e
     where
-      go : (b : Bool) → mixtureRefusal mix ≡ ifElse b TOO_FEW 0 → mixtureRefusal mix ≡ NO_SYSTEM → ⊥
+      go : (b : Bool) → mixtureRefusal mix ≡ cond b TOO_FEW 0 → mixtureRefusal mix ≡ NO_SYSTEM → ⊥
       go true f g = omega arith
       go false f g = omega arith

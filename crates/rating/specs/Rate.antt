@@ -1,12 +1,12 @@
 -- The answers to an analysis with a proposed split, to an analysis by the search, and to a sheet
 -- (document 01, "The split and the rating", "The search", "What is turned away"). Assumes nothing.
+use mathlib.Core.Bool.{cond}
 use mathlib.Core.List.{List}
 use Prim.Native.Nat.{ℕ, _*_, min}
 use lib.Dec.{eqb, ltb}
 use Rattle.refusal.specs.Keys.{each}
 use Rattle.refusal.specs.Register.{OUT_OF_RANGE, MISFIT, NO_SYSTEM, TOO_FEW}
 use Rattle.formula.specs.Coefficients.{isSystem}
-use Rattle.analysis.specs.Register.{ifElse}
 use Rattle.analysis.specs.Check.{refusalOf}
 use Rattle.sheet.specs.Split.{noSplit}
 use Rattle.sheet.specs.Read.{readOf}
@@ -59,14 +59,14 @@ FEWEST = 2
 -- 02, Five), then 13 where a chosen system is none of Table A.2 that keeps its rule (Six, Seven); none is
 -- (`LeftOut`); else 0
 unfoldable pub mixtureRefusal : List ℕ → ℕ
-mixtureRefusal mix = ifElse (ltb (presentCount mix) FEWEST) TOO_FEW (ifElse (each isSystem (chooseOf mix)) 0 NO_SYSTEM)
+mixtureRefusal mix = cond (ltb (presentCount mix) FEWEST) TOO_FEW (cond (each isSystem (chooseOf mix)) 0 NO_SYSTEM)
 
 -- the number with which rating turns an analysis away: 5 or 6, then 16 or 13; 0 where it is rated on
 unfoldable pub ratingRefusal : List ℕ → ℕ
-ratingRefusal a = ifElse (eqb (refusalOf a) 0) (mixtureRefusal (mixOf a)) (refusalOf a)
+ratingRefusal a = cond (eqb (refusalOf a) 0) (mixtureRefusal (mixOf a)) (refusalOf a)
 
 abbrev pub checkedBy : ℕ → ℕ → Answer → Answer
-checkedBy number code rated = ifElse (eqb number 0) rated (Refused number (ifElse (eqb number OUT_OF_RANGE) code 0))
+checkedBy number code rated = cond (eqb number 0) rated (Refused number (cond (eqb number OUT_OF_RANGE) code 0))
 
 -- ---- a proposed split
 
@@ -74,7 +74,7 @@ checkedBy number code rated = ifElse (eqb number 0) rated (Refused number (ifEls
 -- cells
 unfoldable pub splitBy : List ℕ → ℕ → List ℕ → ℕ → Split → Answer
 splitBy ch k mix n1 p =
-    ifElse (fitsOf ch k (p .count) (p .systems) (p .codes))
+    cond (fitsOf ch k (p .count) (p .systems) (p .codes))
     (proposedOf LIMIT ch k mix (cellsOf ch k (p .amounts)) n1)
     (Refused MISFIT 0)
 
@@ -118,9 +118,9 @@ searched a allowance = searchedBy (choiceOf (mixOf a)) a allowance
 -- of an analysis that is refused with a number (0: rated on) and has some choice of systems
 abbrev pub searchOutcomeBy : ℕ → Choice → List ℕ → ℕ → ℕ → Outcome
 searchOutcomeBy number choice a allowance code =
-    ifElse (eqb number 0)
+    cond (eqb number 0)
     (foundOutcome (choice .systems) (choice .count) (inertFirst a) (searchedBy choice a allowance))
-    (outcome (Refused number (ifElse (eqb number OUT_OF_RANGE) code 0)) noSplit)
+    (outcome (Refused number (cond (eqb number OUT_OF_RANGE) code 0)) noSplit)
 
 -- of an analysis
 unfoldable pub searchOutcome : List ℕ → ℕ → ℕ → Outcome
@@ -132,7 +132,7 @@ abbrev pub readBy : Reading → List ℕ → Split → ℕ → Outcome
 readBy (reading.Refused number place code′) a p code =
     outcome (Refused number (read.placeOf (reading.Refused number place code′))) noSplit
 readBy reading.Read a p code =
-    ifElse (eqb (p .count) 0) (searchOutcome a ROUNDS code) (outcome (splitAnswer a p code) noSplit)
+    cond (eqb (p .count) 0) (searchOutcome a ROUNDS code) (outcome (splitAnswer a p code) noSplit)
 
 unfoldable pub sheetOutcome : List ℕ → ℕ → Outcome
 sheetOutcome s code = readBy (readOf s code .answer) (readOf s code .analysis .amounts) (readOf s code .split) code

@@ -1,12 +1,12 @@
 -- The records of a split of the chosen systems (document 01, "The split and the rating"). Assumes nothing.
 use Prim.Native.Nat.{ℕ, _+_, _*_, _/_, _%_}
 use mathlib.Core.List.{List, [], _∷_}
-use mathlib.Core.Bool.{Bool, cond}
+use mathlib.Core.Bool.{Bool, cond, _&&_}
 use lib.Dec.{ltb, eqb}
 use lib.ListN.{getD}
 use Rattle.systems.specs.Systems.{COMPONENTS}
 use Rattle.split.specs.Fold.{allTo, table}
-use Rattle.split.specs.Split.{RECORDS, both, cellOf, systemOf, heldOf, rankOf, componentAt}
+use Rattle.split.specs.Split.{RECORDS, cellOf, systemOf, heldOf, rankOf, componentAt}
 
 -- the code of a component in a split: methane, ethane, propane, butanes, hydrogen
 abbrev pub codes : List ℕ
@@ -39,8 +39,8 @@ cellAt ch k xs i =
 
 -- record r is of the system and the component expected of it
 unfoldable pub matchesAt : List ℕ → ℕ → List ℕ → List ℕ → ℕ → Bool
-matchesAt ch k systems codes r = both (eqb (getD systems r 0) (systemAt ch k r)) (eqb (getD codes r 0) (codeAt ch k r))
+matchesAt ch k systems codes r = eqb (getD systems r 0) (systemAt ch k r) && eqb (getD codes r 0) (codeAt ch k r)
 
 -- three records for each of the k systems, each of the system and the component expected of it
 unfoldable pub fitsOf : List ℕ → ℕ → ℕ → List ℕ → List ℕ → Bool
-fitsOf ch k count systems codes = both (eqb count (3 * k)) (allTo (matchesAt ch k systems codes) count)
+fitsOf ch k count systems codes = eqb count (3 * k) && allTo (matchesAt ch k systems codes) count

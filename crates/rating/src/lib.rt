@@ -4,11 +4,11 @@
 // those promises, is in crate `demand`, specs/Demand.antt.
 mod records;
 
+ghost use mathlib.Core.Bool.{cond};
 ghost use mathlib.Core.Path.{_≡_};
 ghost use Prim.Native.Nat.{_*_, _≤_, min};
 ghost use lib.Dec.{eqb};
 ghost use lib.ListN.{getD};
-ghost use Rattle.analysis.specs.Register.{ifElse};
 ghost use Rattle.analysis.specs.Check.{refusalOf, AtFault};
 ghost use Rattle.sheet.specs.Split.{noSplit};
 ghost use Rattle.sheet.specs.Read.{FaultIn};
@@ -134,7 +134,7 @@ pub fn rate_sheet(s: &[u8]) -> Outcome
 // The rating of what was read, an analysis in range.
 fn rate_read(a: Analysis, p: Split) -> Outcome
     requires { ⌜ refusalOf (a .amounts) ≡ 0 ⌝ }
-    ensures { λ r. ⌜ r ≡ ifElse (eqb (p .count) 0) (searchOutcome (a .amounts) ROUNDS 0) (outcome (splitAnswer (a .amounts) p 0) noSplit) ⌝ }
+    ensures { λ r. ⌜ r ≡ cond (eqb (p .count) 0) (searchOutcome (a .amounts) ROUNDS 0) (outcome (splitAnswer (a .amounts) p 0) noSplit) ⌝ }
 {
     let count = p.count;
     if count == 0 {

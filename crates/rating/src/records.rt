@@ -1,10 +1,11 @@
 // The records of a split and its cells: which system and component each record is of, and the amounts in
 // either order.
+ghost use mathlib.Core.Bool.{_&&_};
 ghost use mathlib.Core.Path.{_≡_};
 ghost use Prim.Native.Nat.{_*_, _<_, _≤_};
 ghost use lib.Dec.{eqb};
 ghost use Rattle.systems.specs.Systems.{COMPONENTS, Candidate};
-ghost use Rattle.split.specs.Split.{SYSTEMS, RECORDS, both, componentAt, cellsOf, Chosen};
+ghost use Rattle.split.specs.Split.{SYSTEMS, RECORDS, componentAt, cellsOf, Chosen};
 ghost use Rattle.rating.specs.Records.{codeOf, fitsOf};
 ghost use Rattle.rating.specs.Rate.{recordsOf};
 use sheet::RECORDS;
@@ -101,7 +102,7 @@ pub(crate) fn cells_of(
 // Whether a record is of the system and of the component of its jth record.
 fn matches(system: u8, j: usize, found: u8, code: u8) -> bool
     requires { ⌜ Candidate system × (j < 3) ⌝ }
-    ensures { λ x. ⌜ x ≡ both (eqb found system) (eqb code (codeOf (componentAt system j))) ⌝ }
+    ensures { λ x. ⌜ x ≡ (eqb found system && eqb code (codeOf (componentAt system j))) ⌝ }
 {
     (found == system) & (code == code_of(component(system, j)))
 }

@@ -1,14 +1,14 @@
 -- The reader's answers: each is the one of the definition, by the tests that lead to it. Assumes nothing.
 use mathlib.Core.Path.{_≡_, refl, ap, sym, _∙_, subst}
 use mathlib.Core.List.{List}
-use mathlib.Core.Bool.{Bool, true, false}
+use mathlib.Core.Bool.{Bool, true, false, cond}
 use mathlib.Core.Logic.{inl, inr}
 use Prim.Native.Nat.{ℕ, zero, suc, _+_, _-_, _*_, _≤_, _<_}
 use native.Mathlib.Omega.{arith}
-use lib.ListN.{length, getD}
+use lib.ListN.{getD}
 use lib.Dec.{eqb, leb}
-use borrow.Author.Tests.{eq-eqb, ne-eqb, le-leb, lt-leb, eqb-true, eqb-false}
-use Rattle.analysis.specs.Register.{Status, live, retired, splitsOnly, unknown, statusOf, ifElse}
+use borrow.Author.Tests.{le-leb, lt-leb, eqb-true, eqb-false}
+use Rattle.analysis.specs.Register.{Status, live, retired, splitsOnly, unknown, statusOf}
 use Rattle.analysis.specs.declared.Checked.{Checked}
 use Rattle.analysis.specs.declared.Checked.the-variants as checked
 use Rattle.analysis.specs.CheckedCases.{codeOf}
@@ -38,7 +38,7 @@ module _ (s : List ℕ) (w : Walked) (walked : w ≡ walkOf s 5 6) where
   first-torn e = by-walk ∙ ap (λ (x : Section). withComponents x (w .second) (w .left)) e
 
   module _ (n f end : ℕ) (e : w .first ≡ found.Records n f end) where
-    counted : sectionsOf s ≡ ifElse (leb n LISTED) (withSplit n (w .second) (w .left)) Torn
+    counted : sectionsOf s ≡ cond (leb n LISTED) (withSplit n (w .second) (w .left)) Torn
     counted = by-walk ∙ ap (λ (x : Section). withComponents x (w .second) (w .left)) e
 
     pub too-many : LISTED < n → sectionsOf s ≡ Torn
@@ -92,7 +92,7 @@ code-not-five : (c p : ℕ) → codeRefusal c p ≡ 5 → ⊥
 unfolding codeRefusal
 code-not-five c p h = go (eqb (refusalBy (statusOf c)) 0) (leb c p) h
   where
-    go : (t u : Bool) → ifElse t (ifElse u 4 0) (refusalBy (statusOf c)) ≡ 5 → ⊥
+    go : (t u : Bool) → cond t (cond u 4 0) (refusalBy (statusOf c)) ≡ 5 → ⊥
     go true true h = omega arith
     go true false h = omega arith
     go false u h = status-not-five (statusOf c) h
@@ -102,7 +102,7 @@ codes-not-five zero s at i p h = let z : _≡_ {A = ℕ} 0 1 = cc in absurd (nev
 codes-not-five (suc n) s at i p {k} {j} {c} h = go (eqb (codeRefusal (getD s at 0) p) 0) (λ e. codes-not-five n s (at + 5) (i + 1) (getD s at 0) e) h
   where
     go : (t : Bool) → (codesReading n s (at + 5) (i + 1) (getD s at 0) ≡ Refused k j c → k ≡ 5 → ⊥)
-        → ifElse t (codesReading n s (at + 5) (i + 1) (getD s at 0)) (Refused (codeRefusal (getD s at 0) p) i 0) ≡ Refused k j c → k ≡ 5 → ⊥
+        → cond t (codesReading n s (at + 5) (i + 1) (getD s at 0)) (Refused (codeRefusal (getD s at 0) p) i 0) ≡ Refused k j c → k ≡ 5 → ⊥
     go true ih h f = ih h f
     go false ih h f = let z : codeRefusal (getD s at 0) p ≡ k = cc in code-not-five (getD s at 0) p (z ∙ f)
 
@@ -120,12 +120,12 @@ module _ (s : List ℕ) (r : Sheet) where
     module _ (d : codesReading n s 1 0 0 ≡ Read) where
       -- what an answer to the amounts says of the number
       refused-number : (number code : ℕ) → checked.Refused number code ≡ answerOf (amountsRefusal n s) code
-          → (amountsRefusal n s ≡ 0 → ⊥) × (number ≡ amountsRefusal n s) × (code ≡ ifElse (eqb (amountsRefusal n s) 5) code 0)
+          → (amountsRefusal n s ≡ 0 → ⊥) × (number ≡ amountsRefusal n s) × (code ≡ cond (eqb (amountsRefusal n s) 5) code 0)
       refused-number number code e = go (eqb (amountsRefusal n s) 0) refl e
         where
           go : (t : Bool) → eqb (amountsRefusal n s) 0 ≡ t
-              → checked.Refused number code ≡ ifElse t checked.InRange (checked.Refused (amountsRefusal n s) (ifElse (eqb (amountsRefusal n s) 5) code 0))
-              → (amountsRefusal n s ≡ 0 → ⊥) × (number ≡ amountsRefusal n s) × (code ≡ ifElse (eqb (amountsRefusal n s) 5) code 0)
+              → checked.Refused number code ≡ cond t checked.InRange (checked.Refused (amountsRefusal n s) (cond (eqb (amountsRefusal n s) 5) code 0))
+              → (amountsRefusal n s ≡ 0 → ⊥) × (number ≡ amountsRefusal n s) × (code ≡ cond (eqb (amountsRefusal n s) 5) code 0)
           go true q e = let z : _≡_ {A = ℕ} 0 1 = cc in absurd (never z)
           go false q e = (eqb-false _ _ q, cc, cc)
 
@@ -145,7 +145,7 @@ module _ (s : List ℕ) (r : Sheet) where
       in-range-number e = go (eqb (amountsRefusal n s) 0) refl e
         where
           go : (t : Bool) → eqb (amountsRefusal n s) 0 ≡ t
-              → checked.InRange ≡ ifElse t checked.InRange (checked.Refused (amountsRefusal n s) (ifElse (eqb (amountsRefusal n s) 5) 0 0)) → amountsRefusal n s ≡ 0
+              → checked.InRange ≡ cond t checked.InRange (checked.Refused (amountsRefusal n s) (cond (eqb (amountsRefusal n s) 5) 0 0)) → amountsRefusal n s ≡ 0
           go true q e = eqb-true _ _ q
           go false q e = let z : _≡_ {A = ℕ} 0 1 = cc in absurd (never z)
 

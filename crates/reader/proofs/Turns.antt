@@ -1,7 +1,7 @@
 -- One turn of each loop over records, and what the tests say of the definitions. Assumes nothing.
 use mathlib.Core.Path.{_≡_, refl, ap, sym, _∙_}
-use mathlib.Core.List.{List, [], _∷_, _++_}
-use mathlib.Core.Bool.{Bool, true, false, _||_}
+use mathlib.Core.List.{List, _++_}
+use mathlib.Core.Bool.{Bool, true, false, _||_, cond}
 use Prim.Native.Nat.{ℕ, suc, _+_, _-_, _*_, _≤_, _<_}
 use native.Mathlib.Omega.{arith}
 use native.Mathlib.Numerals.{add-one}
@@ -10,7 +10,7 @@ use lib.ListN.{length, getD, set, drop, replicate, length-set, length-replicate,
 use lib.Seq.{sets, sets-eq, set-out, drop-at}
 use lib.Dec.{T, eqb, ltb, eqb→eq}
 use borrow.Author.Tests.{eq-eqb, ne-eqb, lt-ltb, ltb-true, ltb-false}
-use Rattle.analysis.specs.Register.{CODES, statusOf, ifElse}
+use Rattle.analysis.specs.Register.{CODES, statusOf}
 use Rattle.analysis.specs.Laws.Table.{at}
 use Rattle.sheet.specs.declared.Reading.the-variants.{Read, Refused}
 use Rattle.sheet.specs.Bytes.{numberAt}
@@ -23,7 +23,7 @@ use Rattle.sheet.specs.Laws.Cases.{status-above, code-status, code-order, code-
 
 -- the code's tests of a code are the register's
 abbrev tested : ℕ → ℕ
-tested c = ifElse (eqb c 0 || eqb c 14 || ltb 15 c) 2 (ifElse (eqb c 9 || eqb c 13) 3 0)
+tested c = cond (eqb c 0 || eqb c 14 || ltb 15 c) 2 (cond (eqb c 9 || eqb c 13) 3 0)
 
 abbrev places : List ℕ
 places = replicate CODES 0

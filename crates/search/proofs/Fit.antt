@@ -1,13 +1,13 @@
 -- The search from its input, by the cases of the tests.
 use Prim.Native.Nat.{ℕ, _≤_, _<_}
 use mathlib.Core.Path.{_≡_, refl, sym, ap, _∙_}
-use mathlib.Core.Bool.{Bool, true, false, not, _||_}
+use mathlib.Core.Bool.{Bool, true, false, not, _||_, _&&_, cond}
 use mathlib.Core.List.{List}
 use lib.ListN.{replicate}
 use lib.Dec.{ltb}
 use borrow.Author.Tests.{not-true, not-false, le-leb, lt-leb, ltb-true, ltb-false}
 use native.Mathlib.Omega.{arith}
-use Rattle.split.specs.Split.{CELLS, both, Stock}
+use Rattle.split.specs.Split.{CELLS, Stock}
 use Rattle.split.specs.Laws.Members.{both-left, both-right}
 use Rattle.split.specs.Rating.{someEmpty}
 use Rattle.split.specs.Start.{startOf}
@@ -28,16 +28,16 @@ module _ (mix ch : List ℕ) (k limit level allowance : ℕ) where
   unfolding searchFit
   find-high h = find-none mix ch k level limit allowance (rw (lt-leb level LEVEL h, searchFit))
 
-  module _ (h : level ≤ LEVEL) (b : Bool) (p : b ≡ both (mixtureFit mix) (chosenFit ch k)) where
+  module _ (h : level ≤ LEVEL) (b : Bool) (p : b ≡ (mixtureFit mix && chosenFit ch k)) where
     find-unfit : not b ≡ true → found (replicate CELLS 0) Unfit ≡ findOf mix ch k limit level allowance
     unfolding searchFit
     find-unfit e = go (mixtureFit mix) (chosenFit ch k) refl refl
       where
-        no : both (mixtureFit mix) (chosenFit ch k) ≡ false
+        no : (mixtureFit mix && chosenFit ch k) ≡ false
         no = sym p ∙ not-true b e
 
         clash : true ≡ false → _≡_ {A = ℕ} 1 0
-        clash u = ap (λ x. elim x [ true ↦ 1 | false ↦ 0 ]) u
+        clash u = ap (λ x. cond x 1 0) u
 
         go : (x y : Bool) → mixtureFit mix ≡ x → chosenFit ch k ≡ y → found (replicate CELLS 0) Unfit ≡ findOf mix ch k limit level allowance
         go false y f g = find-none mix ch k level limit allowance (rw (le-leb level LEVEL h, f, searchFit))
@@ -45,7 +45,7 @@ module _ (mix ch : List ℕ) (k limit level allowance : ℕ) where
         go true true f g = absurd (let w : 1 ≡ 0 = clash (rw (f, g) at no) in omega arith)
 
     module _ (l : not b ≡ false) (a : List ℕ) (s : a ≡ startOf mix ch k) (r : Rows) (q : r ≡ rowsOf ch k a) where
-      both-fit : both (mixtureFit mix) (chosenFit ch k) ≡ true
+      both-fit : (mixtureFit mix && chosenFit ch k) ≡ true
       both-fit = sym p ∙ not-false b l
 
       few : mixtureFit mix ≡ true
@@ -71,7 +71,7 @@ module _ (mix ch : List ℕ) (k limit level allowance : ℕ) where
           z ∙ ap (searchOf ch k limit level allowance) s ∙ find-search mix ch k level limit allowance (rw (le-leb level LEVEL h, few, known, e, searchFit))
 
   -- both tests at once
-  module _ (b : Bool) (p : b ≡ both (mixtureFit mix) (chosenFit ch k)) where
+  module _ (b : Bool) (p : b ≡ (mixtureFit mix && chosenFit ch k)) where
     pub find-turned : (ltb LEVEL level || not b) ≡ true → found (replicate CELLS 0) Unfit ≡ findOf mix ch k limit level allowance
     find-turned e = go (ltb LEVEL level) refl e
       where
@@ -83,7 +83,7 @@ module _ (mix ch : List ℕ) (k limit level allowance : ℕ) where
     not-turned e = go (ltb LEVEL level) refl e
       where
         clash : true ≡ false → _≡_ {A = ℕ} 1 0
-        clash u = ap (λ x. elim x [ true ↦ 1 | false ↦ 0 ]) u
+        clash u = ap (λ x. cond x 1 0) u
 
         go : (x : Bool) → ltb LEVEL level ≡ x → (x || not b) ≡ false → (level ≤ LEVEL) × (not b ≡ false)
         go true f g = absurd (let w : 1 ≡ 0 = clash g in omega arith)

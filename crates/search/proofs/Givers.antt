@@ -1,7 +1,7 @@
 -- Moves by their giver and their taker, and the scan over them.
 use Prim.Native.Nat.{ℕ, _+_, _*_, _-_, _%_, _≤_, _<_}
 use mathlib.Core.Path.{_≡_, refl, sym, ap, _∙_}
-use mathlib.Core.Bool.{Bool, true, false, not}
+use mathlib.Core.Bool.{Bool, true, false, not, cond}
 use mathlib.Core.List.{List}
 use native.Mathlib.Omega.{arith}
 use lib.Dec.{eqb, ltb}
@@ -21,7 +21,7 @@ abbrev PAIRS : ℕ
 PAIRS = SYSTEMS * SYSTEMS
 
 clash : {A : Type 0} (b : Bool) → b ≡ true → b ≡ false → A
-clash b p q = absurd (let z : _≡_ {A = ℕ} 0 1 = ap (λ x. elim x [ true ↦ 0 | false ↦ 1 ]) (sym p ∙ q) in omega arith)
+clash b p q = absurd (let z : _≡_ {A = ℕ} 0 1 = ap (λ x. cond x 0 1) (sym p ∙ q) in omega arith)
 
 by-test : (P : Bool → Type 0) (b : Bool) → (b ≡ true → P true) → (b ≡ false → P false) → P b
 by-test P true p q = p refl

@@ -2,11 +2,11 @@
 -- Assumes nothing.
 use Prim.Native.Nat.{ℕ, zero, suc, _+_}
 use mathlib.Core.List.{List, [], _∷_, _++_}
-use mathlib.Core.Bool.{Bool, true, false}
+use mathlib.Core.Bool.{Bool, true, false, cond}
 use lib.ListN.{getD, set}
 use lib.Dec.{leb, eqb}
 use Rattle.refusal.specs.Register.{UNKNOWN, RETIRED, OUT_OF_ORDER}
-use Rattle.analysis.specs.Register.{Status, live, retired, splitsOnly, unknown, statusOf, ifElse}
+use Rattle.analysis.specs.Register.{Status, live, retired, splitsOnly, unknown, statusOf}
 use Rattle.sheet.specs.declared.Reading.{Reading}
 use Rattle.sheet.specs.declared.Reading.the-variants.{Read, Refused}
 use Rattle.sheet.specs.Bytes.{numberAt, bytesOf}
@@ -25,13 +25,13 @@ refusalBy unknown = UNKNOWN
 -- the refusal of `code` after the code `p` (0 before the first), 2 or 3, then 4 where it is not above that; or 0
 unfoldable pub codeRefusal : ℕ → ℕ → ℕ
 codeRefusal code p =
-    ifElse (eqb (refusalBy (statusOf code)) 0) (ifElse (leb code p) OUT_OF_ORDER 0) (refusalBy (statusOf code))
+    cond (eqb (refusalBy (statusOf code)) 0) (cond (leb code p) OUT_OF_ORDER 0) (refusalBy (statusOf code))
 
 -- record by record: the first of `n` records at `at` that is refused, with its place, that of the first of them being `i`
 abbrev pub codesReading : ℕ → List ℕ → ℕ → ℕ → ℕ → Reading
 codesReading zero s at i p = Read
 codesReading (suc n) s at i p =
-    ifElse (eqb (codeRefusal (getD s at 0) p) 0)
+    cond (eqb (codeRefusal (getD s at 0) p) 0)
     (codesReading n s (at + COMPONENT_BYTES) (i + 1) (getD s at 0))
     (Refused (codeRefusal (getD s at 0) p) i 0)
 
@@ -43,15 +43,15 @@ amountsFrom (suc n) s at a = amountsFrom n s (at + COMPONENT_BYTES) (set a (getD
 -- is a component listed at 0 in `n` records at `at`?
 abbrev pub zeroListed : ℕ → List ℕ → ℕ → Bool
 zeroListed zero s at = false
-zeroListed (suc n) s at = ifElse (eqb (numberAt s (at + 1)) 0) true (zeroListed n s (at + COMPONENT_BYTES))
+zeroListed (suc n) s at = cond (eqb (numberAt s (at + 1)) 0) true (zeroListed n s (at + COMPONENT_BYTES))
 
 -- how many amounts are listed: only codes with an amount are
 abbrev pub countOf : List ℕ → ℕ
 countOf [] = 0
-countOf (x ∷ xs) = ifElse (eqb x 0) (countOf xs) (suc (countOf xs))
+countOf (x ∷ xs) = cond (eqb x 0) (countOf xs) (suc (countOf xs))
 
 -- the records of the amounts `xs`, the first of which is that of the code `k`
 abbrev pub componentBytes : ℕ → List ℕ → List ℕ
 componentBytes k [] = []
 componentBytes k (x ∷ xs) =
-    ifElse (eqb x 0) (componentBytes (suc k) xs) (k ∷ bytesOf x ++ componentBytes (suc k) xs)
+    cond (eqb x 0) (componentBytes (suc k) xs) (k ∷ bytesOf x ++ componentBytes (suc k) xs)

@@ -1,4 +1,5 @@
 -- Reading a sheet (document 01, "What is turned away", 1 to 6). Assumes nothing.
+use mathlib.Core.Bool.{cond}
 use Prim.Native.Nat.{ℕ, _+_, _*_, _<_}
 use mathlib.Core.Path.{_≡_}
 use mathlib.Core.Logic.{_⊎_}
@@ -6,7 +7,7 @@ use mathlib.Core.List.{List}
 use lib.ListN.{getD, replicate}
 use lib.Dec.{eqb}
 use Rattle.refusal.specs.Register.{TORN, OUT_OF_RANGE}
-use Rattle.analysis.specs.Register.{CODES, ifElse}
+use Rattle.analysis.specs.Register.{CODES}
 use Rattle.analysis.specs.Check.{refusalOf, AtFault}
 use Rattle.sheet.specs.declared.Reading.{Reading}
 use Rattle.sheet.specs.declared.Reading.the-variants.{Read, Refused}
@@ -25,11 +26,11 @@ amountsOf n s = amountsFrom n s 1 (replicate CODES 0)
 
 -- the number by the amounts: 5 for a component listed at 0, then that of the analysis
 unfoldable pub amountsRefusal : ℕ → List ℕ → ℕ
-amountsRefusal n s = ifElse (zeroListed n s 1) OUT_OF_RANGE (refusalOf (amountsOf n s))
+amountsRefusal n s = cond (zeroListed n s 1) OUT_OF_RANGE (refusalOf (amountsOf n s))
 
 -- a refusal by the amounts; 5 carries `code`
 abbrev pub byAmounts : ℕ → ℕ → Reading
-byAmounts number code = ifElse (eqb number 0) Read (Refused number 0 (ifElse (eqb number OUT_OF_RANGE) code 0))
+byAmounts number code = cond (eqb number 0) Read (Refused number 0 (cond (eqb number OUT_OF_RANGE) code 0))
 
 abbrev pub refusedSheet : Reading → Sheet
 refusedSheet x = record { answer = x; analysis = record { amounts = replicate CODES 0 }; split = noSplit }

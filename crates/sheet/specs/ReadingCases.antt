@@ -1,10 +1,10 @@
 -- What each case of `Reading` is (document 01, "What is turned away"): a refusal's number, 0 where there is none; what
 -- it carries, the record's place with 2 to 4 and the code at fault with 5; and what a lent buffer then holds. Assumes
 -- nothing.
+use mathlib.Core.Bool.{cond}
 use Prim.Native.Nat.{ℕ}
 use lib.Dec.{eqb}
 use Rattle.refusal.specs.Register.{OUT_OF_RANGE}
-use Rattle.analysis.specs.Register.{ifElse}
 use Rattle.sheet.specs.declared.Reading.{Reading}
 use Rattle.sheet.specs.declared.Reading.the-variants.{Read, Refused}
 
@@ -15,7 +15,7 @@ numberOf (Refused number place code) = number
 -- the place that it carries: of a record, or the code with 5; else 0
 abbrev pub placeOf : Reading → ℕ
 placeOf Read = 0
-placeOf (Refused number place code) = ifElse (eqb number OUT_OF_RANGE) code place
+placeOf (Refused number place code) = cond (eqb number OUT_OF_RANGE) code place
 
 -- the code at fault that 5 carries, else 0
 abbrev pub codeOf : Reading → ℕ

@@ -2,14 +2,14 @@
 -- reading what was written gives the same analysis and the same split. Assumes nothing.
 use mathlib.Core.Path.{_≡_, refl, ap, sym, _∙_, subst}
 use mathlib.Core.List.{List, [], _∷_, _++_, append-nil}
-use mathlib.Core.Bool.{Bool, true, false}
+use mathlib.Core.Bool.{Bool, true, false, cond}
 use Prim.Native.Nat.{ℕ, zero, suc, _+_, _-_, _*_, _≤_, _<_}
 use native.Mathlib.Omega.{arith}
 use lib.ListN.{length, getD, take, drop, replicate, length-append}
 use lib.Seq.{length-take-le, drop-length, getD-at, drop-at, take-at}
 use lib.Dec.{eqb}
 use borrow.Author.Tests.{eqb-true, eqb-false}
-use Rattle.analysis.specs.Register.{CODES, statusOf, ifElse}
+use Rattle.analysis.specs.Register.{CODES, statusOf}
 use Rattle.analysis.specs.Check.{greatestOf, inRange, allInRange, refusalOf}
 use Rattle.analysis.specs.Laws.Ranges.{passed-ranges}
 use Rattle.refusal.specs.Register.{TORN}
@@ -33,7 +33,7 @@ use Rattle.sheet.specs.Laws.Forth.{Bytes, one, Filled, filled-forth, spl
 -- how many of `l` codes from `k` on may be listed
 room : ℕ → ℕ → ℕ
 room k zero = 0
-room k (suc l) = ifElse (eqb (greatestOf k) 0) 0 1 + room (suc k) l
+room k (suc l) = cond (eqb (greatestOf k) 0) 0 1 + room (suc k) l
 
 count-room : (k : ℕ) (xs : List ℕ) → allInRange k xs ≡ true → countOf xs ≤ room k (length xs)
 unfolding room
@@ -44,7 +44,7 @@ count-room k (x ∷ xs) h =
   where
     go : inRange k x ≡ true → countOf xs ≤ room (suc k) (length xs) → (t u : Bool) → eqb x 0 ≡ t
         → eqb (greatestOf k) 0 ≡ u
-        → ifElse t (countOf xs) (suc (countOf xs)) ≤ ifElse u 0 1 + room (suc k) (length xs)
+        → cond t (countOf xs) (suc (countOf xs)) ≤ cond u 0 1 + room (suc k) (length xs)
     go g r true true e f = omega (arith, r)
     go g r true false e f = omega (arith, r)
     go g r false true e f = absurd (eqb-false x 0 e (unlisted k x (eqb-true _ _ f) g))

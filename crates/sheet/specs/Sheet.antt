@@ -1,9 +1,8 @@
 -- The sheet (document 01, "The register and the sheet"): its bytes, and its two sections. Assumes nothing.
 use Prim.Native.Nat.{ℕ, _+_, _*_}
-use mathlib.Core.Bool.{Bool}
+use mathlib.Core.Bool.{Bool, cond}
 use mathlib.Core.List.{List, _∷_, _++_}
 use lib.Dec.{leb}
-use Rattle.analysis.specs.Register.{ifElse}
 use Rattle.section.specs.declared.Section.{Section}
 use Rattle.section.specs.declared.Section.the-variants as found
 use Rattle.section.specs.declared.Walked.{Walked}
@@ -30,11 +29,11 @@ SHEET = 2 + COMPONENT_BYTES * LISTED + RECORD_BYTES * LONGEST_SPLIT
 -- where a count is not allowed, bytes are missing or bytes are left over
 abbrev pub withSplit : ℕ → Section → Bool → Sections
 withSplit n found.Torn left = Torn
-withSplit n (found.Records m first end) left = ifElse (allowedCount m) (ifElse left Torn (Both n m first)) Torn
+withSplit n (found.Records m first end) left = cond (allowedCount m) (cond left Torn (Both n m first)) Torn
 
 abbrev pub withComponents : Section → Section → Bool → Sections
 withComponents found.Torn split left = Torn
-withComponents (found.Records n first end) split left = ifElse (leb n LISTED) (withSplit n split left) Torn
+withComponents (found.Records n first end) split left = cond (leb n LISTED) (withSplit n split left) Torn
 
 abbrev pub judged : Walked → Sections
 judged w = withComponents (w .first) (w .second) (w .left)

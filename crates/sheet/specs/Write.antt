@@ -1,12 +1,12 @@
 -- Writing a sheet (document 01, "Writer, display, controller", "What is turned away", 5, 6, 14; document 02, Five, 1).
 -- Assumes nothing.
+use mathlib.Core.Bool.{cond}
 use Prim.Native.Nat.{ℕ}
 use mathlib.Core.Path.{_≡_}
 use mathlib.Core.List.{List, _++_}
 use lib.ListN.{length, drop}
 use lib.Dec.{leb, eqb}
 use Rattle.refusal.specs.Register.{TORN, OUT_OF_RANGE, SHORT_BLANK}
-use Rattle.analysis.specs.Register.{ifElse}
 use Rattle.analysis.specs.Check.{refusalOf, AtFault}
 use Rattle.sheet.specs.declared.Split.{Split}
 use Rattle.sheet.specs.declared.Written.{Written}
@@ -19,20 +19,20 @@ use Rattle.sheet.specs.Sheet.{sheetOf}
 -- and 14; or 0
 unfoldable pub writeRefusal : List ℕ → Split → ℕ → ℕ
 writeRefusal a p size =
-    ifElse (allowedCount (p .count))
-    (ifElse (eqb (refusalOf a) 0) (ifElse (leb (length (sheetOf a p)) size) 0 SHORT_BLANK) (refusalOf a))
+    cond (allowedCount (p .count))
+    (cond (eqb (refusalOf a) 0) (cond (leb (length (sheetOf a p)) size) 0 SHORT_BLANK) (refusalOf a))
     TORN
 
 -- the answer; a refusal 5 carries `code`
 unfoldable pub writtenOf : List ℕ → Split → ℕ → ℕ → Written
 writtenOf a p size code =
-    ifElse (eqb (writeRefusal a p size) 0)
+    cond (eqb (writeRefusal a p size) 0)
     (Length (length (sheetOf a p)))
-    (Refused (writeRefusal a p size) (ifElse (eqb (writeRefusal a p size) OUT_OF_RANGE) code 0))
+    (Refused (writeRefusal a p size) (cond (eqb (writeRefusal a p size) OUT_OF_RANGE) code 0))
 
 -- the buffer after it: the sheet's bytes at its start and the rest as it was, or all of it as it was
 unfoldable pub leftOf : List ℕ → Split → List ℕ → List ℕ
-leftOf a p b = ifElse (eqb (writeRefusal a p (length b)) 0) (sheetOf a p ++ drop (length (sheetOf a p)) b) b
+leftOf a p b = cond (eqb (writeRefusal a p (length b)) 0) (sheetOf a p ++ drop (length (sheetOf a p)) b) b
 
 -- the promise of the writer: answer and buffer are fixed but for the code of 5, and that is a code at fault
 pub record WrittenAs (a : List ℕ) (p : Split) (b : List ℕ) (r : Written) (left : List ℕ) : Type 0 where

@@ -41,7 +41,7 @@ someTo p (suc n) = cond (p n) true (someTo p n)
 -- the first of the n numbers from i on that p holds of, or i + n
 unfoldable pub first : (ℕ → Bool) → ℕ → ℕ → ℕ
 first p zero i = i
-first p (suc n) i = elim (p i) [ true ↦ i | false ↦ first p n (i + 1) ]
+first p (suc n) i = cond (p i) i (first p n (i + 1))
 
 -- the values of f at i, i + 1, .., of which there are n
 unfoldable pub table : (ℕ → ℕ) → ℕ → ℕ → List ℕ

@@ -1,14 +1,14 @@
 -- Moves: which there are, in their order, what one does, and the first that lowers the imbalance (document 01, "The search"). Assumes nothing.
 use Prim.Native.Nat.{ℕ, _+_, _*_, _-_, _/_, _%_}
 use mathlib.Core.List.{List}
-use mathlib.Core.Bool.{Bool, not}
+use mathlib.Core.Bool.{Bool, not, _&&_}
 use lib.IntN.{ℤ, pos, natAbs, _-ℤ_}
 use lib.Signed.{quotZ}
 use lib.Dec.{ltb, leb, eqb}
 use lib.ListN.{getD, set}
 use Rattle.systems.specs.Systems.{COMPONENTS, hasOf}
 use Rattle.split.specs.Fold.{sumTo, first}
-use Rattle.split.specs.Split.{SYSTEMS, cellOf, systemOf, partsOf, numberAt, both}
+use Rattle.split.specs.Split.{SYSTEMS, cellOf, systemOf, partsOf, numberAt}
 
 -- the square of the difference of two numbers, each first cut to thousandths of a methane number towards zero
 unfoldable pub squareOf : ℤ → ℤ → ℕ
@@ -41,20 +41,20 @@ movedOf a m d = shift a (giverOf m * COMPONENTS + componentOf m) (takerOf m * CO
 -- both are chosen systems, they differ, and both contain the component
 unfoldable pub betweenOf : List ℕ → ℕ → ℕ → Bool
 betweenOf ch k m =
-    both (ltb (giverOf m) k)
-    (both (ltb (takerOf m) k)
-    (both (not (eqb (giverOf m) (takerOf m)))
-    (both (hasOf (systemOf ch (giverOf m)) (componentOf m)) (hasOf (systemOf ch (takerOf m)) (componentOf m)))))
+    ltb (giverOf m) k
+    && (ltb (takerOf m) k
+    && (not (eqb (giverOf m) (takerOf m))
+    && (hasOf (systemOf ch (giverOf m)) (componentOf m) && hasOf (systemOf ch (takerOf m)) (componentOf m))))
 
 -- the giver has the stride d, and does not end empty
 unfoldable pub affordsOf : List ℕ → List ℕ → ℕ → ℕ → Bool
-affordsOf ch a d m = both (leb d (cellOf a (giverOf m) (componentOf m))) (ltb d (partsOf ch a (giverOf m)))
+affordsOf ch a d m = leb d (cellOf a (giverOf m) (componentOf m)) && ltb d (partsOf ch a (giverOf m))
 
 unfoldable pub lowersOf : List ℕ → ℕ → List ℕ → ℕ → ℕ → Bool
 lowersOf ch k a d m = ltb (imbalanceOf (numberAt ch (movedOf a m d)) k) (imbalanceOf (numberAt ch a) k)
 
 unfoldable pub canOf : List ℕ → ℕ → List ℕ → ℕ → ℕ → Bool
-canOf ch k a d m = both (betweenOf ch k m) (both (affordsOf ch a d m) (lowersOf ch k a d m))
+canOf ch k a d m = betweenOf ch k m && (affordsOf ch a d m && lowersOf ch k a d m)
 
 -- the first move that can be made and lowers the imbalance, or MOVES
 unfoldable pub firstOf : List ℕ → ℕ → List ℕ → ℕ → ℕ

@@ -1,7 +1,7 @@
 -- The search (document 01, "The search"): what is done before and in each round, and what the rounds come to. Assumes nothing.
 use Prim.Native.Nat.{ℕ, zero, suc, _+_, _-_, _^_}
 use mathlib.Core.List.{List}
-use mathlib.Core.Bool.{true, false}
+use mathlib.Core.Bool.{cond}
 use lib.Dec.{ltb, leb, eqb}
 use Rattle.split.specs.Split.{numberAt}
 use Rattle.split.specs.Rating.{spreadOf}
@@ -18,15 +18,14 @@ LEVEL = 16
 
 -- what is done where the first move that lowers the imbalance is m, MOVES where there is none
 unfoldable pub goOn : ℕ → ℕ → Turn
-goOn level m = elim (ltb m MOVES) [ true ↦ Move m | false ↦ elim (eqb level 0) [ true ↦ Refuse | false ↦ Halve ] ]
+goOn level m = cond (ltb m MOVES) (Move m) (cond (eqb level 0) Refuse Halve)
 
 -- before each round: spread within the limit, rated; rounds equal to the allowance, refused. The stride is 2 ^ level
 unfoldable pub turnOf : List ℕ → ℕ → ℕ → ℕ → List ℕ → ℕ → ℕ → Turn
 turnOf ch k limit allowance a level rounds =
-    elim (leb (spreadOf (numberAt ch a) k) limit) [
-      | true ↦ Rate (spreadOf (numberAt ch a) k)
-      | false ↦ elim (eqb rounds allowance) [ true ↦ Refuse | false ↦ goOn level (firstOf ch k a (2 ^ level)) ]
-    ]
+    cond (leb (spreadOf (numberAt ch a) k) limit)
+    (Rate (spreadOf (numberAt ch a) k))
+    (cond (eqb rounds allowance) Refuse (goOn level (firstOf ch k a (2 ^ level))))
 
 abbrev pub stepOf : List ℕ → ℕ → ℕ → List ℕ
 stepOf a m level = movedOf a m (2 ^ level)

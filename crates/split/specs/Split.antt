@@ -5,7 +5,7 @@
 -- of cells, a row of COMPONENTS cells for each chosen system; a cell of a component that the system lacks is 0.
 use Prim.Native.Nat.{ℕ, _+_, _*_, _/_, _%_, _≤_, _<_}
 use mathlib.Core.List.{List}
-use mathlib.Core.Bool.{Bool, true, false, cond}
+use mathlib.Core.Bool.{Bool, cond, _&&_}
 use mathlib.Core.Path.{_≡_}
 use lib.Dec.{ltb, eqb}
 use lib.ListN.{getD, length}
@@ -48,13 +48,9 @@ columnOf k a c = sumTo (λ s. cellOf a s c) k
 unfoldable pub numberAt : List ℕ → List ℕ → ℕ → ℤ
 numberAt ch a s = partialNumber (systemOf ch s) (amountOf ch a s 0) (amountOf ch a s 1) (amountOf ch a s 2)
 
-abbrev pub both : Bool → Bool → Bool
-both true y = y
-both false y = false
-
 -- row s is one of the k, and its system contains component c
 unfoldable pub heldOf : List ℕ → ℕ → ℕ → ℕ → Bool
-heldOf ch k s c = both (ltb s k) (hasOf (systemOf ch s) c)
+heldOf ch k s c = ltb s k && hasOf (systemOf ch s) c
 
 -- ---- the records of a split: systems rising, in each its components rising
 
@@ -64,7 +60,7 @@ rankOf system c = sumTo (λ b. cond (hasOf system b) 1 0) c
 
 -- the component of the system's jth record
 unfoldable pub componentAt : ℕ → ℕ → ℕ
-componentAt system j = first (λ c. both (hasOf system c) (eqb (rankOf system c) j)) COMPONENTS 0
+componentAt system j = first (λ c. hasOf system c && eqb (rankOf system c) j) COMPONENTS 0
 
 -- the cells of the amounts xs, given in record order
 unfoldable pub cellsOf : List ℕ → ℕ → List ℕ → List ℕ

@@ -1,7 +1,7 @@
 -- The split that a search begins with (document 01, "The search"). Assumes nothing.
 use Prim.Native.Nat.{ℕ, _+_, _/_, _%_}
 use mathlib.Core.List.{List}
-use mathlib.Core.Bool.{true, false, cond}
+use mathlib.Core.Bool.{cond}
 use lib.Dec.{ltb}
 use lib.ListN.{getD}
 use Rattle.systems.specs.Systems.{COMPONENTS, hasOf}
@@ -18,7 +18,7 @@ shareOf t n r = t / n + cond (ltb r (t % n)) 1 0
 
 -- row s's amount of component c
 unfoldable pub givenOf : List ℕ → List ℕ → ℕ → ℕ → ℕ → ℕ
-givenOf mix ch k s c = elim (heldOf ch k s c) [ true ↦ shareOf (getD mix c 0) (sharersOf ch c k) (sharersOf ch c s) | false ↦ 0 ]
+givenOf mix ch k s c = cond (heldOf ch k s c) (shareOf (getD mix c 0) (sharersOf ch c k) (sharersOf ch c s)) 0
 
 abbrev pub startCell : List ℕ → List ℕ → ℕ → ℕ → ℕ
 startCell mix ch k i = givenOf mix ch k (i / COMPONENTS) (i % COMPONENTS)

@@ -1,7 +1,7 @@
 -- What a split's rows come to, for every input (document 01, "The split and the rating"). Assumes nothing.
 use Prim.Native.Nat.{ℕ, zero, suc, _+_}
 use mathlib.Core.List.{List, [], _∷_}
-use mathlib.Core.Bool.{Bool, true, false}
+use mathlib.Core.Bool.{Bool, true, false, _&&_, cond}
 use lib.Dec.{ltb, leb}
 use lib.IntN.{ℤ, pos}
 use lib.ListN.{getD, replicate}
@@ -11,7 +11,7 @@ use Rattle.ternary.specs.declared.Partial.{Partial}
 use Rattle.ternary.specs.declared.Partial.the-variants.{Refused}
 use Rattle.systems.specs.Systems.{candidates, elem, memberOf}
 use Rattle.split.specs.Fold.{allTo}
-use Rattle.split.specs.Split.{SYSTEMS, cellOf, systemOf, partsOf, numberAt, both}
+use Rattle.split.specs.Split.{SYSTEMS, cellOf, systemOf, partsOf, numberAt}
 use Rattle.split_rows.specs.declared.Rows.{Rows}
 
 -- a list of numbers as a function
@@ -25,27 +25,22 @@ partsIn system a s = cellOf a s (memberOf system 0) + cellOf a s (memberOf syste
 -- its partial number, or why it has none
 unfoldable pub answerIn : ℕ → List ℕ → ℕ → Partial
 answerIn system a s =
-    elim (elem system candidates) [
-      | true ↦
-          formulaOf system
-          (cellOf a s (memberOf system 0))
-          (cellOf a s (memberOf system 1))
-          (cellOf a s (memberOf system 2))
-      | false ↦ Refused NO_SYSTEM
-    ]
+    cond (elem system candidates)
+    (formulaOf system (cellOf a s (memberOf system 0)) (cellOf a s (memberOf system 1)) (cellOf a s (memberOf system 2)))
+    (Refused NO_SYSTEM)
 
 -- row s has a partial number: its system is a candidate and its parts make a mixture
 unfoldable pub rowFit : List ℕ → List ℕ → ℕ → Bool
-rowFit ch a s = both (elem (systemOf ch s) candidates) (isMixture (partsOf ch a s))
+rowFit ch a s = elem (systemOf ch s) candidates && isMixture (partsOf ch a s)
 
 -- each of the k rows, for which there is room
 unfoldable pub rowsFit : List ℕ → ℕ → List ℕ → Bool
-rowsFit ch k a = both (leb k SYSTEMS) (allTo (rowFit ch a) k)
+rowsFit ch k a = leb k SYSTEMS && allTo (rowFit ch a) k
 
 -- the values of f at i, i + 1, .., of which there are n: those below k, then the value d
 unfoldable pub upTo : {A : Type 0} → A → ℕ → (ℕ → A) → ℕ → ℕ → List A
 upTo d k f zero i = []
-upTo d k f (suc n) i = elim (ltb i k) [ true ↦ f i | false ↦ d ] ∷ upTo d k f n (i + 1)
+upTo d k f (suc n) i = cond (ltb i k) (f i) d ∷ upTo d k f n (i + 1)
 
 abbrev pub none : Rows
 none = record { fit = false; numbers = replicate SYSTEMS (pos 0); parts = replicate SYSTEMS 0 }
@@ -53,7 +48,6 @@ none = record { fit = false; numbers = replicate SYSTEMS (pos 0); parts = replic
 -- where each row has a partial number, these and the rows' parts
 unfoldable pub rowsOf : List ℕ → ℕ → List ℕ → Rows
 rowsOf ch k a =
-    elim (rowsFit ch k a) [
-      | true ↦ record { fit = true; numbers = upTo (pos 0) k (numberAt ch a) SYSTEMS 0; parts = upTo 0 k (partsOf ch a) SYSTEMS 0 }
-      | false ↦ none
-    ]
+    cond (rowsFit ch k a)
+    (record { fit = true; numbers = upTo (pos 0) k (numberAt ch a) SYSTEMS 0; parts = upTo 0 k (partsOf ch a) SYSTEMS 0 })
+    none

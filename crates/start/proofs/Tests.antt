@@ -1,7 +1,7 @@
 -- The tests of the input, by their cases.
 use Prim.Native.Nat.{ℕ, _+_, _*_, _-_, _≤_, _<_}
 use mathlib.Core.Path.{_≡_, refl, sym, ap, _∙_}
-use mathlib.Core.Bool.{Bool, true, false}
+use mathlib.Core.Bool.{Bool, true, false, _&&_}
 use mathlib.Core.List.{List}
 use native.Mathlib.Omega.{arith}
 use lib.Dec.{leb}
@@ -10,7 +10,7 @@ use borrow.Author.Tests.{le-ltb, lt-ltb, le-leb, lt-leb}
 use Rattle.systems.specs.Systems.{COMPONENTS, candidates, memberOf, elem}
 use Rattle.split.specs.Fold.{sumTo, allTo}
 use Rattle.split.specs.Laws.Folds.{sum-none, sum-more}
-use Rattle.split.specs.Split.{SYSTEMS, systemOf, both}
+use Rattle.split.specs.Split.{SYSTEMS, systemOf}
 use Rattle.split.specs.Find.{chosenFit, mixtureFit}
 use Rattle.split.specs.Laws.Candidates.{candidate-is}
 use Rattle.split.specs.Laws.Downs.{all-next, all-false, all-end}
@@ -81,8 +81,8 @@ module _ (ch : List ℕ) (k : ℕ) where
       tested-all h = is-all true (sym (all-end (passes ch) k s h (z .rest)))
 
 -- both
-pub fit-not : (x y b : Bool) → b ≡ x → b ≡ false → false ≡ both x y
+pub fit-not : (x y b : Bool) → b ≡ x → b ≡ false → false ≡ (x && y)
 fit-not x y b e f = rw (sym e ∙ f)
 
-pub fit-is : (x y b r : Bool) → b ≡ x → b ≡ true → r ≡ y → r ≡ both x y
+pub fit-is : (x y b r : Bool) → b ≡ x → b ≡ true → r ≡ y → r ≡ (x && y)
 fit-is x y b r e f g = rw (sym e ∙ f) g

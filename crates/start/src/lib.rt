@@ -1,9 +1,10 @@
 // Whether an input can be worked on, and the split that a search begins with. No public function has a `requires`.
+ghost use mathlib.Core.Bool.{_&&_};
 ghost use mathlib.Core.Path.{_≡_};
 ghost use Prim.Native.Nat.{_+_, _*_, _/_, _<_, _≤_, max, min};
 ghost use lib.ListN.{length, replicate};
 ghost use Rattle.systems.specs.Systems.{COMPONENTS};
-ghost use Rattle.split.specs.Split.{SYSTEMS, CELLS, both};
+ghost use Rattle.split.specs.Split.{SYSTEMS, CELLS};
 ghost use Rattle.split.specs.Start.{sharersOf, startOf};
 ghost use Rattle.split.specs.Find.{chosenFit, mixtureFit};
 ghost use Rattle.start.specs.Inner.Column.{Cells, Marked, containedAt, partOf, columnTo, sharedOf, sharedTo};
@@ -56,7 +57,7 @@ fn chosen_fit(ch: &[u8; SYSTEMS], k: usize) -> bool
 
 // Whether a mixture has a million parts at most and its chosen systems are candidates that there is room for.
 pub fn fit(mix: [u32; COMPONENTS], choice: Choice) -> bool
-    ensures { λ r. ⌜ r ≡ both (mixtureFit mix) (chosenFit (choice .systems) (choice .count)) ⌝ }
+    ensures { λ r. ⌜ r ≡ (mixtureFit mix && chosenFit (choice .systems) (choice .count)) ⌝ }
 {
     if !mixture_fit(&mix) {
         return false;

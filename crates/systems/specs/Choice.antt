@@ -76,7 +76,7 @@ standingOf mix system = standingBy (presentOf mix) (allTo mix COMPONENTS) mix sy
 
 -- the candidates: all where hydrogen is present, else those of hydrocarbons alone
 abbrev pub candidatesFor : Bool → List ℕ
-candidatesFor hydrogen = elim hydrogen [ true ↦ candidates | false ↦ hydrocarbonSystems ]
+candidatesFor hydrogen = cond hydrogen candidates hydrocarbonSystems
 
 unfoldable pub candidatesOf : ℕ → List ℕ
 candidatesOf present = candidatesFor (inMask present HYDROGEN)
@@ -91,7 +91,7 @@ order = HYDROGEN ∷ hydrocarbonOrder
 -- the numbers of a list that are in a set
 unfoldable pub keep : ℕ → List ℕ → List ℕ
 keep mask [] = []
-keep mask (c ∷ cs) = elim (inMask mask c) [ true ↦ c ∷ keep mask cs | false ↦ keep mask cs ]
+keep mask (c ∷ cs) = cond (inMask mask c) (c ∷ keep mask cs) (keep mask cs)
 
 -- a fold over a list, from its first number on
 unfoldable pub fold : {A : Type 0} → (A → ℕ → A) → List ℕ → A → A
@@ -122,12 +122,12 @@ openOf marks c system = hasOf system c && not (isChosen marks system)
 
 -- a system's score for component c: 0 where it cannot be taken, else its key and 1
 unfoldable pub scoreOf : (ℕ → ℕ) → List Bool → ℕ → ℕ → ℕ
-scoreOf key marks c system = elim (openOf marks c system) [ true ↦ key system + 1 | false ↦ 0 ]
+scoreOf key marks c system = cond (openOf marks c system) (key system + 1) 0
 
 -- the better of the best so far (0: none) and the next system; equal ones go to the best so far, whose number is lower
 unfoldable pub betterOf : (ℕ → ℕ) → List Bool → ℕ → ℕ → ℕ → ℕ
 betterOf key marks c best system =
-    elim (ltb (scoreOf key marks c best) (scoreOf key marks c system)) [ true ↦ system | false ↦ best ]
+    cond (ltb (scoreOf key marks c best) (scoreOf key marks c system)) system best
 
 -- the fittest by that key of the systems that contain component c and are not chosen
 unfoldable pub fittestOf : (ℕ → ℕ) → List ℕ → List Bool → ℕ → ℕ
@@ -136,10 +136,7 @@ fittestOf key systems marks c = fold (betterOf key marks c) systems 0
 -- component c takes it where fewer than the wanted number of chosen systems contain c
 unfoldable pub takeOf : (ℕ → ℕ) → List ℕ → ℕ → List Bool → ℕ → List Bool
 takeOf key systems wanted marks c =
-    elim (ltb (containingOf systems marks c) wanted) [
-      | true ↦ set marks (fittestOf key systems marks c) true
-      | false ↦ marks
-    ]
+    cond (ltb (containingOf systems marks c) wanted) (set marks (fittestOf key systems marks c) true) marks
 
 -- the components of an order do so, one after the other
 unfoldable pub passOf : (ℕ → ℕ) → List ℕ → List ℕ → ℕ → List Bool → List Bool
@@ -152,7 +149,7 @@ marksOf key systems components =
 
 -- the chosen systems in the order of the candidates, which rises
 unfoldable pub listOf : List Bool → List ℕ → ℕ → List ℕ
-listOf marks l system = elim (isChosen marks system) [ true ↦ l ++ (system ∷ []) | false ↦ l ]
+listOf marks l system = cond (isChosen marks system) (l ++ (system ∷ [])) l
 
 unfoldable pub chosenOf : List ℕ → List Bool → List ℕ
 chosenOf systems marks = fold (listOf marks) systems []

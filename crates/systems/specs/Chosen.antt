@@ -9,7 +9,7 @@
 use Prim.Native.Nat.{ℕ, _^_, _≤_, _<_}
 use mathlib.Core.Path.{_≡_, refl, _∙_}
 use mathlib.Core.List.{List, [], _∷_}
-use mathlib.Core.Bool.{Bool, true, false, not, _&&_, _||_}
+use mathlib.Core.Bool.{Bool, true, false, not, _&&_, _||_, cond}
 use native.Mathlib.Omega.{arith}
 use lib.Ieee.Fits.{and-i, and-l, and-r}
 use lib.Count.{ones}
@@ -66,13 +66,9 @@ eachTop rank systems marks c test = every (λ s. not (topOf rank systems marks c
 abbrev pub always : (List Bool → Bool) → (ℕ → ℕ) → List ℕ → ℕ → List ℕ → List Bool → Bool
 always good rank systems wanted [] marks = good marks
 always good rank systems wanted (c ∷ cs) marks =
-    elim (ltb (containingOf systems marks c) wanted) [
-      | true ↦
-          not (openOf marks c 0)
-          && (some (openOf marks c) systems
-          && eachTop rank systems marks c (λ s. always good rank systems wanted cs (set marks s true)))
-      | false ↦ always good rank systems wanted cs marks
-    ]
+    cond (ltb (containingOf systems marks c) wanted)
+    (not (openOf marks c 0) && (some (openOf marks c) systems && eachTop rank systems marks c (λ s. always good rank systems wanted cs (set marks s true))))
+    (always good rank systems wanted cs marks)
 
 -- a key that puts higher ranks first takes a system of the highest rank
 module _ (key rank : ℕ → ℕ) (systems : List ℕ) (r : T (rises 0 systems))
@@ -153,10 +149,7 @@ MOST = 5
 -- four or five for five
 abbrev pub chosenFor : ℕ → ℕ → Bool
 chosenFor n k =
-    elim (eqb n 2) [
-      | true ↦ eqb k 2
-      | false ↦ elim (eqb n 5) [ true ↦ leb 4 k && leb k MOST | false ↦ eqb k 3 ]
-    ]
+    cond (eqb n 2) (eqb k 2) (cond (eqb n 5) (leb 4 k && leb k MOST) (eqb k 3))
 
 pub two-chosen : (n k : ℕ) → n ≡ 2 → chosenFor n k ≡ true → k ≡ 2
 two-chosen n k e h = eqb-true k 2 (rw (chosenFor, eq-eqb n 2 e) at h)

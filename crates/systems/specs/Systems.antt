@@ -2,7 +2,7 @@
 -- Assumes nothing.
 use Prim.Native.Nat.{ℕ}
 use mathlib.Core.List.{List, [], _∷_}
-use mathlib.Core.Bool.{Bool, true, false}
+use mathlib.Core.Bool.{Bool, true, false, cond}
 use mathlib.Core.Path.{_≡_, refl}
 use lib.Dec.{eqb}
 use lib.ListN.{getD}
@@ -46,15 +46,12 @@ memberOf system j = getD (getD members system []) j COMPONENTS
 -- whether the system contains component c
 unfoldable pub hasOf : ℕ → ℕ → Bool
 hasOf system c =
-    elim (eqb c (memberOf system 0)) [
-      | true ↦ true
-      | false ↦ elim (eqb c (memberOf system 1)) [ true ↦ true | false ↦ eqb c (memberOf system 2) ]
-    ]
+    cond (eqb c (memberOf system 0)) true (cond (eqb c (memberOf system 1)) true (eqb c (memberOf system 2)))
 
 -- whether a number is in a list
 unfoldable pub elem : ℕ → List ℕ → Bool
 elem n [] = false
-elem n (m ∷ ms) = elim (eqb n m) [ true ↦ true | false ↦ elem n ms ]
+elem n (m ∷ ms) = cond (eqb n m) true (elem n ms)
 
 -- the system is a candidate
 pub record Candidate (system : ℕ) : Type 0 where

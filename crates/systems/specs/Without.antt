@@ -34,7 +34,7 @@ mask-short f (suc n) i e =
 -- an order without hydrogen
 unfoldable others : List ℕ → List ℕ
 others [] = []
-others (c ∷ cs) = elim (eqb c HYDROGEN) [ true ↦ others cs | false ↦ c ∷ others cs ]
+others (c ∷ cs) = cond (eqb c HYDROGEN) (others cs) (c ∷ others cs)
 
 -- which is passed over where it is absent
 keep-others : (present : ℕ) → inMask present HYDROGEN ≡ false → (cs : List ℕ)
@@ -46,7 +46,7 @@ keep-others present e (c ∷ cs) = go (eqb c HYDROGEN) refl (keep-others present
     go : (b : Bool) → eqb c HYDROGEN ≡ b → keep present cs ≡ keep present (others cs)
         → keep present (c ∷ cs) ≡ keep present (others (c ∷ cs))
     go true q r = rw (q, others, ap (inMask present) (eqb-true c HYDROGEN q) ∙ e, keep) r
-    go false q r = rw (q, others) (ap (λ l. elim (inMask present c) [ true ↦ c ∷ l | false ↦ l ]) r)
+    go false q r = rw (q, others) (ap (λ l. cond (inMask present c) (c ∷ l) l) r)
 
 pub keep-without : (present : ℕ) → inMask present HYDROGEN ≡ false
     → keep present order ≡ keep present hydrocarbonOrder

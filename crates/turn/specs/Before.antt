@@ -1,6 +1,6 @@
 -- What is looked at before a round (document 01, "The search"), and that a turn does what it says. Assumes nothing.
 use Prim.Native.Nat.{ℕ}
-use mathlib.Core.Bool.{true, false}
+use mathlib.Core.Bool.{cond}
 use lib.Dec.{leb, eqb}
 use Rattle.split.specs.declared.Turn.{Turn}
 use Rattle.split.specs.declared.Turn.the-variants.{Rate, Refuse}
@@ -9,7 +9,7 @@ use Rattle.turn.specs.declared.Before.the-variants.{Within, Spent, Open}
 
 -- spread within the limit; else rounds equal to the allowance; else neither
 unfoldable pub beforeOf : ℕ → ℕ → ℕ → ℕ → Before
-beforeOf spread limit rounds allowance = elim (leb spread limit) [ true ↦ Within | false ↦ elim (eqb rounds allowance) [ true ↦ Spent | false ↦ Open ] ]
+beforeOf spread limit rounds allowance = cond (leb spread limit) Within (cond (eqb rounds allowance) Spent Open)
 
 -- ---- what a turn does then: it rates with the spread, it refuses, or it does what a look for a move comes to
 

@@ -1,13 +1,12 @@
 -- The writer's answers: each is the one of the definition, by the tests that lead to it. Assumes nothing.
 use mathlib.Core.Path.{_≡_, refl, ap, sym, _∙_, subst, subst⁻¹}
 use mathlib.Core.List.{List, _++_}
-use mathlib.Core.Bool.{Bool, true, false}
+use mathlib.Core.Bool.{Bool, true, false, cond}
 use Prim.Native.Nat.{ℕ, _+_, _*_, _≤_, _<_}
 use native.Mathlib.Omega.{arith}
 use lib.ListN.{length, drop}
 use lib.Dec.{eqb, ltb}
 use borrow.Author.Tests.{eqb-true, eqb-false, ltb-true, ltb-false, lt-ltb, le-ltb}
-use Rattle.analysis.specs.Register.{ifElse}
 use Rattle.analysis.specs.declared.Checked.{Checked}
 use Rattle.analysis.specs.declared.Checked.the-variants as checked
 use Rattle.analysis.specs.Check.{refusalOf, answerOf, Checking}
@@ -24,11 +23,11 @@ use Rattle.writer.specs.Inner.Answered.{Answered, roomFor}
 -- room or none
 pub room-short : (len size : ℕ) → size < len → Refused 14 0 ≡ roomFor len size
 unfolding roomFor
-room-short len size h = ap (λ (t : Bool). elim t [ true ↦ Refused 14 0 | false ↦ Length len ]) (sym (lt-ltb size len h))
+room-short len size h = ap (λ (t : Bool). cond t (Refused 14 0) (Length len)) (sym (lt-ltb size len h))
 
 pub room-length : (len size : ℕ) → len ≤ size → Length len ≡ roomFor len size
 unfolding roomFor
-room-length len size h = ap (λ (t : Bool). elim t [ true ↦ Refused 14 0 | false ↦ Length len ]) (sym (le-ltb size len h))
+room-length len size h = ap (λ (t : Bool). cond t (Refused 14 0) (Length len)) (sym (le-ltb size len h))
 
 module _ (a : List ℕ) (p : Split) (size : ℕ) where
   pub answer-count : allowedCount (p .count) ≡ false → Answered a p size (Refused 1 0)
@@ -38,12 +37,12 @@ module _ (a : List ℕ) (p : Split) (size : ℕ) where
   module _ (h : allowedCount (p .count) ≡ true) where
     -- what a refusal by the check says of the number
     refused-number : (number code : ℕ) → checked.Refused number code ≡ answerOf (refusalOf a) code
-        → (refusalOf a ≡ 0 → ⊥) × (refusalOf a ≡ number) × (ifElse (eqb (refusalOf a) 5) code 0 ≡ code)
+        → (refusalOf a ≡ 0 → ⊥) × (refusalOf a ≡ number) × (cond (eqb (refusalOf a) 5) code 0 ≡ code)
     refused-number number code e = go (eqb (refusalOf a) 0) refl e
       where
         go : (t : Bool) → eqb (refusalOf a) 0 ≡ t
-            → checked.Refused number code ≡ ifElse t checked.InRange (checked.Refused (refusalOf a) (ifElse (eqb (refusalOf a) 5) code 0))
-            → (refusalOf a ≡ 0 → ⊥) × (refusalOf a ≡ number) × (ifElse (eqb (refusalOf a) 5) code 0 ≡ code)
+            → checked.Refused number code ≡ cond t checked.InRange (checked.Refused (refusalOf a) (cond (eqb (refusalOf a) 5) code 0))
+            → (refusalOf a ≡ 0 → ⊥) × (refusalOf a ≡ number) × (cond (eqb (refusalOf a) 5) code 0 ≡ code)
         go true q e = let z : _≡_ {A = ℕ} 0 1 = cc in absurd (never z)
         go false q e = (eqb-false _ _ q, cc, cc)
 
@@ -63,7 +62,7 @@ module _ (a : List ℕ) (p : Split) (size : ℕ) where
     in-range y k e = go (eqb (refusalOf a) 0) refl (subst (λ (x : Checked). Checking a x) e k .answer)
       where
         go : (t : Bool) → eqb (refusalOf a) 0 ≡ t
-            → checked.InRange ≡ ifElse t checked.InRange (checked.Refused (refusalOf a) (ifElse (eqb (refusalOf a) 5) 0 0)) → refusalOf a ≡ 0
+            → checked.InRange ≡ cond t checked.InRange (checked.Refused (refusalOf a) (cond (eqb (refusalOf a) 5) 0 0)) → refusalOf a ≡ 0
         go true q e = eqb-true _ _ q
         go false q e = let z : _≡_ {A = ℕ} 0 1 = cc in absurd (never z)
 
@@ -85,7 +84,7 @@ module _ (a : List ℕ) (p : Split) (size : ℕ) where
       unfolding roomFor
       answer-room r q = subst⁻¹ (λ (x : Written). Answered a p size x) q (go (ltb size len) refl)
         where
-          go : (t : Bool) → ltb size len ≡ t → Answered a p size (elim t [ true ↦ Refused 14 0 | false ↦ Length len ])
+          go : (t : Bool) → ltb size len ≡ t → Answered a p size (cond t (Refused 14 0) (Length len))
           go true f = answer-short (ltb-true size len f)
           go false f = answer-length (ltb-false size len f)
 

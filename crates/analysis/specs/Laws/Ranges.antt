@@ -1,17 +1,17 @@
 -- What the check's answer says of an analysis, and what holds of one that is not refused, for those who compute with
 -- it. Assumes nothing.
 use mathlib.Core.Path.{_≡_, refl, sym, ap, _∙_}
-use mathlib.Core.List.{List, [], _∷_}
-use mathlib.Core.Bool.{Bool, true, false, not}
+use mathlib.Core.List.{List}
+use mathlib.Core.Bool.{Bool, true, false, not, cond}
 use mathlib.Core.Logic.{_⊎_, inl, inr}
-use Prim.Native.Nat.{ℕ, zero, suc, _+_, _≤_, _<_}
+use Prim.Native.Nat.{ℕ, _+_, _≤_, _<_}
 use native.Mathlib.Omega.{arith}
 use native.Mathlib.Numerals.{add-one}
 use lib.Dec.{eqb, leb}
 use lib.ListN.{length, getD, drop, drop-of-length-le}
 use lib.Seq.{drop-cons}
 use borrow.Author.Tests.{eqb-true, eqb-false, leb-true}
-use Rattle.analysis.specs.Register.{CODES, ifElse, register, statusOf}
+use Rattle.analysis.specs.Register.{CODES, register, statusOf}
 use Rattle.analysis.specs.declared.Checked.{Checked}
 use Rattle.analysis.specs.declared.Checked.the-variants.{InRange, Refused}
 use Rattle.analysis.specs.CheckedCases.{numberOf, codeOf}
@@ -22,7 +22,7 @@ use Rattle.analysis.specs.Laws.Required.{all-head, refusal-none, all-reg
 pub answer-number : (n code : ℕ) → numberOf (answerOf n code) ≡ n
 answer-number n code = go (eqb n 0) refl
   where
-    go : (t : Bool) → eqb n 0 ≡ t → numberOf (ifElse t InRange (Refused n (ifElse (eqb n 5) code 0))) ≡ n
+    go : (t : Bool) → eqb n 0 ≡ t → numberOf (cond t InRange (Refused n (cond (eqb n 5) code 0))) ≡ n
     go true e = sym (eqb-true n 0 e)
     go false e = refl
 
@@ -43,19 +43,19 @@ NoneOr least x = (x ≡ 0) ⊎ (least ≤ x)
 -- an amount that is in range, by cases on the two tests
 module _ (least greatest x : ℕ) where
   by-least : (absent t u : Bool) → eqb x 0 ≡ t → leb least x ≡ u
-      → ifElse t absent (ifElse u (leb x greatest) false) ≡ true → (x ≡ 0 → ⊥) → least ≤ x
+      → cond t absent (cond u (leb x greatest) false) ≡ true → (x ≡ 0 → ⊥) → least ≤ x
   by-least absent true u e d h n = absurd (n (eqb-true x 0 e))
   by-least absent false true e d h n = leb-true least x d
   by-least absent false false e d h n = let z : _≡_ {A = Bool} false true = h in let y : _≡_ {A = ℕ} 0 1 = cc in absurd (omega arith)
 
   by-greatest : (absent t u : Bool) → eqb x 0 ≡ t → leb least x ≡ u
-      → ifElse t absent (ifElse u (leb x greatest) false) ≡ true → x ≤ greatest
+      → cond t absent (cond u (leb x greatest) false) ≡ true → x ≤ greatest
   by-greatest absent true u e d h = let z = eqb-true x 0 e in omega arith
   by-greatest absent false true e d h = leb-true x greatest h
   by-greatest absent false false e d h = let z : _≡_ {A = Bool} false true = h in let y : _≡_ {A = ℕ} 0 1 = cc in absurd (omega arith)
 
   by-required : (t u : Bool) → eqb x 0 ≡ t → leb least x ≡ u
-      → ifElse t false (ifElse u (leb x greatest) false) ≡ true → x ≡ 0 → ⊥
+      → cond t false (cond u (leb x greatest) false) ≡ true → x ≡ 0 → ⊥
   by-required true u e d h n = let z : _≡_ {A = Bool} false true = h in let y : _≡_ {A = ℕ} 0 1 = cc in omega arith
   by-required false u e d h n = eqb-false x 0 e n
 

@@ -1,7 +1,7 @@
 -- What the check by a register in which more codes must be present says, and what it asks besides. Assumes nothing.
 use mathlib.Core.Path.{_≡_, refl, sym, ap, _∙_}
 use mathlib.Core.List.{List, [], _∷_}
-use mathlib.Core.Bool.{Bool, true, false, not, _||_}
+use mathlib.Core.Bool.{Bool, true, false, not, _||_, cond}
 use mathlib.Core.Logic.{_↔_}
 use Prim.Native.Nat.{ℕ, zero, suc, _+_, _<_}
 use native.Mathlib.Omega.{arith}
@@ -11,7 +11,6 @@ use borrow.Author.Tests.{eqb-true, eqb-false}
 use Rattle.refusal.specs.Keys.{isIn}
 use Rattle.analysis.specs.Register.{Status, live, retired, splitsOnly, unknown, Entry, register, statusIn}
 use Rattle.analysis.specs.Register.{statusOf}
-use Rattle.analysis.specs.Register.{ifElse}
 use Rattle.analysis.specs.Check.{leastBy, greatestBy, requiredBy, inRangeBy, inRange, allInRange, totalOf}
 use Rattle.analysis.specs.Check.{totalFits}
 use Rattle.analysis.specs.Check.{refusalBy, refusalOf}
@@ -23,7 +22,7 @@ pub all-register : (code : ℕ) (a : List ℕ) → allInRangeIn register code a 
 unfolding inRange statusOf
 all-register code [] = refl
 all-register code (x ∷ xs) =
-    ap (λ (b : Bool). ifElse (inRangeBy (statusIn register code) x) b false) (all-register (suc code) xs)
+    ap (λ (b : Bool). cond (inRangeBy (statusIn register code) x) b false) (all-register (suc code) xs)
 
 pub refusal-register : (a : List ℕ) → refusalIn register a ≡ refusalOf a
 unfolding refusalIn refusalOf
@@ -40,8 +39,8 @@ status-passes also splitsOnly x h = h
 status-passes also unknown x h = h
 status-passes also (live least greatest required) x h = go (eqb x 0) required also h
   where
-    go : (b r o : Bool) → ifElse b (not (r || o)) (ifElse (leb least x) (leb x greatest) false) ≡ true
-        → ifElse b (not r) (ifElse (leb least x) (leb x greatest) false) ≡ true
+    go : (b r o : Bool) → cond b (not (r || o)) (cond (leb least x) (leb x greatest) false) ≡ true
+        → cond b (not r) (cond (leb least x) (leb x greatest) false) ≡ true
     go false r o h = h
     go true false o h = refl
     go true true o h = absurd (never h)
@@ -52,14 +51,14 @@ code-passes codes [] c x h = h
 code-passes codes (e ∷ es) c x h = go (eqb c (e .code)) (λ t. code-passes codes es c x t) h
   where
     go : (b : Bool) → (inRangeBy (statusIn (requiring codes es) c) x ≡ true → inRangeBy (statusIn es c) x ≡ true)
-        → inRangeBy (ifElse b (requiredToo (isIn (e .code) codes) (e .status)) (statusIn (requiring codes es) c))
+        → inRangeBy (cond b (requiredToo (isIn (e .code) codes) (e .status)) (statusIn (requiring codes es) c))
         x ≡ true
-        → inRangeBy (ifElse b (e .status) (statusIn es c)) x ≡ true
+        → inRangeBy (cond b (e .status) (statusIn es c)) x ≡ true
     go true rest h = status-passes (isIn (e .code) codes) (e .status) x h
     go false rest h = rest h
 
 -- each of the tests of a list, where all pass
-pub all-head : (t u : Bool) → ifElse t u false ≡ true → (t ≡ true) × (u ≡ true)
+pub all-head : (t u : Bool) → cond t u false ≡ true → (t ≡ true) × (u ≡ true)
 all-head true u h = (refl, h)
 all-head false u h = absurd (never h)
 
@@ -101,7 +100,7 @@ some : (s : Status) (x : ℕ) → requiredBy s ≡ true → inRangeBy s x ≡ tr
 some s x r h = go (eqb x 0) (requiredBy s) refl r h
   where
     go : (b q : Bool) → eqb x 0 ≡ b → q ≡ true
-        → ifElse b (not q) (ifElse (leb (leastBy s) x) (leb x (greatestBy s)) false) ≡ true → 0 < x
+        → cond b (not q) (cond (leb (leastBy s) x) (leb x (greatestBy s)) false) ≡ true → 0 < x
     go true true e r h = absurd (never h)
     go true false e r h = absurd (never r)
     go false q e r h = omega (arith, eqb-false x 0 e)
@@ -123,8 +122,8 @@ status-required also splitsOnly x h p = h
 status-required also unknown x h p = h
 status-required also (live least greatest required) x h p = go (eqb x 0) required also refl h p
   where
-    go : (b r o : Bool) → eqb x 0 ≡ b → ifElse b (not r) (ifElse (leb least x) (leb x greatest) false) ≡ true
-        → (o ≡ true → 0 < x) → ifElse b (not (r || o)) (ifElse (leb least x) (leb x greatest) false) ≡ true
+    go : (b r o : Bool) → eqb x 0 ≡ b → cond b (not r) (cond (leb least x) (leb x greatest) false) ≡ true
+        → (o ≡ true → 0 < x) → cond b (not (r || o)) (cond (leb least x) (leb x greatest) false) ≡ true
     go false r o e h p = h
     go true true o e h p = absurd (never h)
     go true false false e h p = refl
@@ -137,8 +136,8 @@ code-required codes (e ∷ es) c x h p = go (eqb c (e .code)) refl (λ t. code-r
   where
     go : (b : Bool) → eqb c (e .code) ≡ b
         → (inRangeBy (statusIn es c) x ≡ true → inRangeBy (statusIn (requiring codes es) c) x ≡ true)
-        → inRangeBy (ifElse b (e .status) (statusIn es c)) x ≡ true
-        → inRangeBy (ifElse b (requiredToo (isIn (e .code) codes) (e .status)) (statusIn (requiring codes es) c)) x
+        → inRangeBy (cond b (e .status) (statusIn es c)) x ≡ true
+        → inRangeBy (cond b (requiredToo (isIn (e .code) codes) (e .status)) (statusIn (requiring codes es) c)) x
         ≡ true
     go true q rest h =
         status-required (isIn (e .code) codes) (e .status) x h

@@ -1,6 +1,6 @@
 -- The answers by cases, for the third demand. Assumes nothing.
 use mathlib.Core.Path.{_≡_, refl, sym, ap, _∙_, subst}
-use mathlib.Core.Bool.{Bool, true, false}
+use mathlib.Core.Bool.{Bool, true, false, cond}
 use mathlib.Core.List.{List}
 use Prim.Native.Nat.{ℕ, _+_, _*_, _≤_, _<_, min}
 use native.Mathlib.Omega.{arith}
@@ -8,7 +8,7 @@ use lib.Dec.{eqb}
 use lib.IntN.{ℤ}
 use lib.ListN.{getD, length}
 use borrow.Author.Tests.{eq-eqb, eqb-true}
-use Rattle.analysis.specs.Register.{CODES, ifElse}
+use Rattle.analysis.specs.Register.{CODES}
 use Rattle.sheet.specs.Split.{noSplit}
 use Rattle.sheet.specs.declared.Split.{Split}
 use Rattle.mixture.specs.Inert.{inertFirst}
@@ -87,7 +87,7 @@ pub split-by-records : (a : List ℕ) (p : Split) (code : ℕ) (fits : Bool) →
     → fitsOf (systemsFor a) (countFor a) (p .count) (p .systems) (p .codes) ≡ fits
     → let cells = cellsOf (systemsFor a) (countFor a) (p .amounts) in
     let rated = proposedOf LIMIT (systemsFor a) (countFor a) (mixOf a) cells (inertFirst a) in
-    splitAnswer a p code ≡ ifElse fits rated (Refused 7 0)
+    splitAnswer a p code ≡ cond fits rated (Refused 7 0)
 unfolding splitAnswer splitBy
 split-by-records a p code fits passed e = rw (passed, e)
 
@@ -116,8 +116,8 @@ split-rated a p code w s r is =
         (inertFirst a)
 
     go : (b f : Bool) → eqb (ratingRefusal a) 0 ≡ b
-        → ifElse b (ifElse f rated (Refused 7 0))
-        (Refused (ratingRefusal a) (ifElse (eqb (ratingRefusal a) 5) code 0)) ≡ Rated w s r
+        → cond b (cond f rated (Refused 7 0))
+        (Refused (ratingRefusal a) (cond (eqb (ratingRefusal a) 5) code 0)) ≡ Rated w s r
         → (RatedOn a) × (rated ≡ Rated w s r)
     go true true e h = (eqb-true (ratingRefusal a) 0 e, h)
     go true false e h = absurd (subst IsRated (sym h) tt)
@@ -145,8 +145,8 @@ unfolding searchOutcome foundOutcome
 search-rated a allowance code w s r is = go (eqb (ratingRefusal a) 0) (searched a allowance .search) refl refl is
   where
     by : Bool → Search → Outcome
-    by b x = ifElse b (foundBy (systemsFor a) (countFor a) (inertFirst a) (searched a allowance .cells) x)
-        (outcome (Refused (ratingRefusal a) (ifElse (eqb (ratingRefusal a) 5) code 0)) noSplit)
+    by b x = cond b (foundBy (systemsFor a) (countFor a) (inertFirst a) (searched a allowance .cells) x)
+        (outcome (Refused (ratingRefusal a) (cond (eqb (ratingRefusal a) 5) code 0)) noSplit)
 
     go : (b : Bool) (x : Search) → eqb (ratingRefusal a) 0 ≡ b → searched a allowance .search ≡ x
         → by b x .answer ≡ Rated w s r

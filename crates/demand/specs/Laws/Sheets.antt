@@ -1,6 +1,6 @@
 -- How the answers to sheets end, for the third demand. Assumes nothing.
 use mathlib.Core.Path.{_≡_, refl, sym, ap, _∙_, subst}
-use mathlib.Core.Bool.{Bool, true, false}
+use mathlib.Core.Bool.{Bool, true, false, cond}
 use mathlib.Core.Logic.{_⊎_, inl, inr}
 use mathlib.Core.List.{List}
 use Prim.Native.Nat.{ℕ, zero, suc, _+_, _≤_}
@@ -9,7 +9,7 @@ use lib.Dec.{eqb, leb}
 use lib.ListN.{getD}
 use borrow.Author.Tests.{eqb-false, eq-eqb, ne-eqb}
 use Rattle.refusal.specs.Register.{TOO_FEW}
-use Rattle.analysis.specs.Register.{Status, live, retired, splitsOnly, unknown, statusOf, ifElse}
+use Rattle.analysis.specs.Register.{Status, live, retired, splitsOnly, unknown, statusOf}
 use Rattle.analysis.specs.Check.{refusalBy, refusalOf, allInRange, totalFits, totalOf}
 use Rattle.sheet.specs.Components as components
 use Rattle.sheet.specs.Components.{codeRefusal, codesReading, zeroListed}
@@ -43,7 +43,7 @@ code-number : (c p : ℕ) → codeRefusal c p ≤ 4
 unfolding codeRefusal
 code-number c p = go (eqb (components.refusalBy (statusOf c)) 0) (leb c p)
   where
-    go : (t u : Bool) → ifElse t (ifElse u 4 0) (components.refusalBy (statusOf c)) ≤ 4
+    go : (t u : Bool) → cond t (cond u 4 0) (components.refusalBy (statusOf c)) ≤ 4
     go true true = omega arith
     go true false = omega arith
     go false u = omega (arith, status-number (statusOf c))
@@ -58,7 +58,7 @@ codes-number (suc n) s at i p = go (codes-number n s (at + 5) (i + 1) (getD s at
   where
     go : Numbered 1 6 (codesReading n s (at + 5) (i + 1) (getD s at 0)) → (t : Bool)
         → eqb (codeRefusal (getD s at 0) p) 0 ≡ t
-        → Numbered 1 6 (ifElse t (codesReading n s (at + 5) (i + 1) (getD s at 0)) (reading.Refused (codeRefusal (getD s at 0) p) i 0))
+        → Numbered 1 6 (cond t (codesReading n s (at + 5) (i + 1) (getD s at 0)) (reading.Refused (codeRefusal (getD s at 0) p) i 0))
     go rest true e = rest
     go rest false e = (omega (arith, eqb-false (codeRefusal (getD s at 0) p) 0 e), omega (arith, code-number (getD s at 0) p))
 
@@ -75,7 +75,7 @@ amounts-number : (n : ℕ) (s : List ℕ) → amountsRefusal n s ≤ 6
 unfolding amountsRefusal
 amounts-number n s = go (zeroListed n s 1)
   where
-    go : (t : Bool) → ifElse t 5 (refusalOf (amountsOf n s)) ≤ 6
+    go : (t : Bool) → cond t 5 (refusalOf (amountsOf n s)) ≤ 6
     go true = omega arith
     go false = check-number (amountsOf n s)
 
@@ -83,7 +83,7 @@ by-number : (number code : ℕ) → number ≤ 6 → Numbered 1 6 (byAmounts num
 by-number number code h = go (eqb number 0) refl
   where
     go : (t : Bool) → eqb number 0 ≡ t
-        → Numbered 1 6 (ifElse t reading.Read (reading.Refused number 0 (ifElse (eqb number 5) code 0)))
+        → Numbered 1 6 (cond t reading.Read (reading.Refused number 0 (cond (eqb number 5) code 0)))
     go true e = tt
     go false e = (omega (arith, eqb-false number 0 e), h)
 
@@ -108,7 +108,7 @@ read-number s code = go (sectionsOf s)
 
 -- the outcome of what was read, by whether there is no split: that of the search, or that of the split
 abbrev ratedBy : List ℕ → Split → ℕ → Bool → Outcome
-ratedBy a p code none = ifElse none (searchOutcome a ROUNDS code) (outcome (splitAnswer a p code) noSplit)
+ratedBy a p code none = cond none (searchOutcome a ROUNDS code) (outcome (splitAnswer a p code) noSplit)
 
 module _ (s : List ℕ) (code : ℕ) (h : readOf s code .answer ≡ reading.Read) where
   by-count : (none : Bool) → eqb (readOf s code .split .count) 0 ≡ none
@@ -166,7 +166,7 @@ sheet-ends s code = go (readOf s code .answer) refl (read-number s code)
     p = readOf s code .split
 
     by-split : InRange a → (t : Bool)
-        → let x = ifElse t (searchOutcome a ROUNDS code) (outcome (splitAnswer a p code) noSplit) .answer in
+        → let x = cond t (searchOutcome a ROUNDS code) (outcome (splitAnswer a p code) noSplit) .answer in
         RatedOr 1 11 x ⊎ (x ≡ Refused TOO_FEW 0)
     by-split h true = wider (searchOutcome a ROUNDS code .answer) (search-in-range a code h ROUNDS)
     by-split h false = wider (splitAnswer a p code) (split-in-range a code h p)

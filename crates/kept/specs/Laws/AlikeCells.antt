@@ -57,7 +57,7 @@ unfolding startIn givenOf
 start-alike mix′ mix ch k e =
     alike-by (givenOf mix′ ch k) (givenOf mix ch k)
     (λ s c l. ap
-    (λ (t : ℕ). elim (heldOf ch k s c) [ true ↦ shareOf t (sharersOf ch c k) (sharersOf ch c s) | false ↦ 0 ])
+    (λ (t : ℕ). cond (heldOf ch k s c) (shareOf t (sharersOf ch c k) (sharersOf ch c s)) 0)
     (e c l))
 
 -- ---- after a move

@@ -2,13 +2,13 @@
 -- search: its moves, its rounds, its end, and the splits that it comes by are alike. Assumes nothing.
 use Prim.Native.Nat.{ℕ, zero, suc, _+_, _-_, _^_, _≤_, _<_}
 use mathlib.Core.Path.{_≡_, refl, sym, ap, ap₂, _∙_}
-use mathlib.Core.Bool.{Bool, true, false}
+use mathlib.Core.Bool.{Bool, true, false, _&&_, cond}
 use mathlib.Core.List.{List}
 use native.Mathlib.Omega.{arith}
 use lib.Dec.{ltb, leb, eqb}
 use borrow.Author.Tests.{lt-ltb, ltb-true}
 use Rattle.systems.specs.Systems.{hasOf}
-use Rattle.split.specs.Split.{systemOf, both}
+use Rattle.split.specs.Split.{systemOf}
 use Rattle.split.specs.Rating.{spreadOf}
 use Rattle.split.specs.Move.{componentOf, giverOf, betweenOf}
 use Rattle.split.specs.Search.{found}
@@ -46,7 +46,7 @@ go-none level = refl
 
 -- a turn by its tests: spread within the limit, rounds spent
 abbrev turnBy : Bool → Bool → ℕ → Turn → Turn
-turnBy x y s t = elim x [ true ↦ Rate s | false ↦ elim y [ true ↦ Refuse | false ↦ t ] ]
+turnBy x y s t = cond x (Rate s) (cond y Refuse t)
 
 module _ (ch : List ℕ) (k : ℕ) (without : Without ch k) (a b : List ℕ) (alike : Alike a b) where
   lowers-same : (d m : ℕ) → m < moveCount BEFORE → lowersIn BEFORE ch k a d m ≡ lowersIn BLEND ch k b d m
@@ -60,7 +60,7 @@ module _ (ch : List ℕ) (k : ℕ) (without : Without ch k) (a b : List ℕ) (al
       → affordsIn BEFORE ch a d m ≡ affordsIn BLEND ch b d m
   unfolding affordsIn
   affords-same d m h from =
-      ap₂ both (ap (leb d) (alike .same (giverOf m) (componentOf m) (omega arith) (omega arith)))
+      ap₂ _&&_ (ap (leb d) (alike .same (giverOf m) (componentOf m) (omega arith) (omega arith)))
       (ap (ltb d) (parts-same ch k without a b alike (giverOf m) from))
 
   can-same : (d m : ℕ) → m < moveCount BEFORE → canIn BEFORE ch k a d m ≡ canIn BLEND ch k b d m
@@ -68,9 +68,9 @@ module _ (ch : List ℕ) (k : ℕ) (without : Without ch k) (a b : List ℕ) (al
   can-same d m h = go (betweenOf ch k m) refl
     where
       go : (x : Bool) → betweenOf ch k m ≡ x
-          → both x (both (affordsIn BEFORE ch a d m) (lowersIn BEFORE ch k a d m))
-          ≡ both x (both (affordsIn BLEND ch b d m) (lowersIn BLEND ch k b d m))
-      go true e = ap₂ both (affords-same d m h (between-true ch k m e .from)) (lowers-same d m h)
+          → (x && (affordsIn BEFORE ch a d m && lowersIn BEFORE ch k a d m))
+          ≡ (x && (affordsIn BLEND ch b d m && lowersIn BLEND ch k b d m))
+      go true e = ap₂ (affords-same d m h (between-true ch k m e .from) && lowers-same d m h)
       go false e = refl
 
   can-not : (d m : ℕ) → moveCount BEFORE ≤ m → m < moveCount BLEND → canIn BLEND ch k b d m ≡ false
@@ -106,7 +106,7 @@ unfolding goOnIn
 go-low level m = go (ltb m (moveCount BEFORE)) (eqb level 0) refl
   where
     go : (x y : Bool) → ltb m (moveCount BEFORE) ≡ x
-        → Low (elim x [ true ↦ Move m | false ↦ elim y [ true ↦ Refuse | false ↦ Halve ] ])
+        → Low (cond x (Move m) (cond y Refuse Halve))
     go true y e = ltb-true m (moveCount BEFORE) e
     go false true e = tt
     go false false e = tt

@@ -1,7 +1,7 @@
 -- The check before document 02's Seven and the check of today. Assumes nothing.
 use mathlib.Core.Path.{_≡_, refl, sym, ap, _∙_}
 use mathlib.Core.List.{List, [], _∷_, _++_}
-use mathlib.Core.Bool.{Bool, true, false}
+use mathlib.Core.Bool.{Bool, true, false, cond}
 use mathlib.Core.Logic.{_↔_}
 use Prim.Native.Nat.{ℕ, suc, _+_}
 use native.Mathlib.Nat.{add-zero}
@@ -9,7 +9,7 @@ use native.Mathlib.Omega.{arith}
 use lib.Dec.{eqb, leb}
 use lib.ListN.{length, getD, drop}
 use borrow.Author.Tests.{eqb-true, eqb-false, ne-eqb, leb-true}
-use Rattle.analysis.specs.Register.{CODES, BASE, Status, unknown, Entry, register, statusIn, ifElse}
+use Rattle.analysis.specs.Register.{CODES, BASE, Status, unknown, Entry, register, statusIn}
 use Rattle.analysis.specs.Check.{inRangeBy, totalOf, totalFits, refusalBy, refusalOf}
 use Rattle.analysis.specs.Required.{allInRangeIn, refusalIn}
 use Rattle.analysis.specs.Laws.Required.{refusal-register, all-head, all-from, refusal-none}
@@ -22,7 +22,7 @@ status-added : (es more : List Entry) (c : ℕ) → statusIn more c ≡ unknown
     → statusIn (es ++ more) c ≡ statusIn es c
 status-added [] more c h = h
 status-added (e ∷ es) more c h =
-    ap (λ (s : Status). ifElse (eqb c (e .code)) (e .status) s) (status-added es more c h)
+    ap (λ (s : Status). cond (eqb c (e .code)) (e .status) s) (status-added es more c h)
 
 -- two registers by which each amount is in range alike
 all-alike : (es fs : List Entry) (code : ℕ) (a : List ℕ)
@@ -31,8 +31,8 @@ all-alike : (es fs : List Entry) (code : ℕ) (a : List ℕ)
     → allInRangeIn es code a ≡ allInRangeIn fs code a
 all-alike es fs code [] h = refl
 all-alike es fs code (x ∷ xs) h =
-    ap (λ (b : Bool). ifElse b (allInRangeIn es (suc code) xs) false) (rw (add-zero code) at (h 0))
-    ∙ ap (λ (b : Bool). ifElse (inRangeBy (statusIn fs code) x) b false)
+    ap (λ (b : Bool). cond b (allInRangeIn es (suc code) xs) false) (rw (add-zero code) at (h 0))
+    ∙ ap (λ (b : Bool). cond (inRangeBy (statusIn fs code) x) b false)
     (all-alike es fs (suc code) xs (λ k. let e : code + suc k ≡ suc code + k = omega arith in rw e at (h (suc k))))
 
 -- ---- the register and the one before
@@ -68,7 +68,7 @@ without-kept a none =
 unknown-none : (x : ℕ) → inRangeBy unknown x ≡ true → x ≡ 0
 unknown-none x h = go (eqb x 0) refl h
   where
-    go : (b : Bool) → eqb x 0 ≡ b → ifElse b true (ifElse (leb 1 x) (leb x 0) false) ≡ true → x ≡ 0
+    go : (b : Bool) → eqb x 0 ≡ b → cond b true (cond (leb 1 x) (leb x 0) false) ≡ true → x ≡ 0
     go true e h = eqb-true x 0 e
     go false e h = let l = leb-true x 0 (all-head (leb 1 x) (leb x 0) h .1) in omega arith
 

@@ -2,7 +2,7 @@
 use Prim.Native.Nat.{ℕ, zero, suc, _+_, _-_, _≤_, _<_}
 use mathlib.Core.Path.{_≡_, refl, sym, ap, _∙_}
 use mathlib.Core.List.{List, [], _∷_, _++_, map}
-use mathlib.Core.Bool.{true, false}
+use mathlib.Core.Bool.{false, cond}
 use native.Mathlib.Nat.{zero-div, zero-mod}
 use native.Mathlib.Numerals.{add-one}
 use native.Mathlib.Omega.{arith}
@@ -47,7 +47,7 @@ greatest-front rs more (suc n) h =
     ap (λ (k : ℕ). getD (rs ++ more) k 0) g
     ∙ List·getD-append rs more 0 (greatestTo rs n) (omega (arith, greatest-most rs n)) in
     let y : getD (rs ++ more) n 0 ≡ getD rs n 0 = List·getD-append rs more 0 n (omega arith) in
-    λ i. elim (ltb (x i) (y i)) [ true ↦ n | false ↦ g i ]
+    λ i. cond (ltb (x i) (y i)) n (g i)
 
 -- 0 is greater than none
 greatest-none : (rs : List ℕ) (n : ℕ) → getD rs n 0 ≡ 0 → greatestTo rs (suc n) ≡ greatestTo rs n
@@ -55,7 +55,7 @@ unfolding greatestTo
 greatest-none rs n e =
     let f : ltb (getD rs (greatestTo rs n) 0) (getD rs n 0) ≡ false =
     le-ltb (getD rs (greatestTo rs n) 0) (getD rs n 0) (omega arith) in
-    λ i. elim (f i) [ true ↦ n | false ↦ greatestTo rs n ]
+    λ i. cond (f i) n (greatestTo rs n)
 
 greatest-end : (rs : List ℕ) → greatestPlace (rs ++ (0 ∷ [])) ≡ greatestPlace rs
 greatest-end rs =

@@ -6,7 +6,7 @@
 -- spread and rounds, with every limit, first stride and allowance, and the amounts and the rating of its last split.
 use Prim.Native.Nat.{ℕ, _<_}
 use mathlib.Core.Path.{_≡_, refl, sym, ap, ap₂, _∙_, subst}
-use mathlib.Core.Bool.{Bool, true, false, cond}
+use mathlib.Core.Bool.{Bool, true, false, cond, _&&_}
 use mathlib.Core.List.{List}
 use native.Mathlib.Omega.{arith}
 use lib.Dec.{ltb, eqb}
@@ -15,7 +15,7 @@ use borrow.Author.Tests.{eq-eqb}
 use Rattle.systems.specs.Systems.{hasOf}
 use Rattle.split.specs.Fold.{allTo}
 use Rattle.split.specs.Laws.Folds.{sum-same}
-use Rattle.split.specs.Split.{systemOf, both, heldOf, componentAt, cellsOf, amountsOf}
+use Rattle.split.specs.Split.{systemOf, heldOf, componentAt, cellsOf, amountsOf}
 use Rattle.split.specs.Rating.{ratingOf, proposedOf}
 use Rattle.split.specs.Start.{startOf}
 use Rattle.split.specs.Search.{searchOf}
@@ -57,7 +57,7 @@ module _ (ch : List ℕ) (k : ℕ) (without : Without ch k) (mix′ mix : List �
     unfolding heldOf
     held-none s h = go (ltb s k)
       where
-        go : (x : Bool) → both x (hasOf (systemOf ch s) BEFORE) ≡ false
+        go : (x : Bool) → (x && hasOf (systemOf ch s) BEFORE) ≡ false
         go true = without .lacks s h
         go false = refl
 

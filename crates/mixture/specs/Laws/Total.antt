@@ -2,7 +2,7 @@
 use Prim.Native.Nat.{ℕ, zero, suc, _+_, _*_, _-_, _≤_, _<_}
 use mathlib.Core.Path.{_≡_, refl, sym, ap, _∙_}
 use mathlib.Core.List.{List, [], _∷_}
-use mathlib.Core.Bool.{Bool, true, false}
+use mathlib.Core.Bool.{Bool, true, false, cond}
 use native.Mathlib.Nat.{not-suc-le-zero, div-add-mod', le-of-mul-le-mul-right}
 use native.Mathlib.Omega.{arith}
 use lib.Dec.{ltb}
@@ -36,7 +36,7 @@ greatest-below rs zero h = h
 greatest-below rs (suc n) h =
     go n (ltb (getD rs (greatestTo rs n) 0) (getD rs n 0)) (λ l. greatest-below rs n l)
   where
-    go : (k : ℕ) (b : Bool) → (0 < k → greatestTo rs k < k) → elim b [ true ↦ k | false ↦ greatestTo rs k ] < suc k
+    go : (k : ℕ) (b : Bool) → (0 < k → greatestTo rs k < k) → cond b k (greatestTo rs k) < suc k
     go k true rec = omega arith
     go zero false rec = omega arith
     go (suc k) false rec = omega (arith, rec (omega arith))
@@ -49,7 +49,7 @@ greatest-least rs (suc n) j h =
   where
     go : (b : Bool) → ltb (getD rs (greatestTo rs n) 0) (getD rs n 0) ≡ b → (e : Bool) → ltb j n ≡ e
         → (j < n → getD rs j 0 ≤ getD rs (greatestTo rs n) 0)
-        → getD rs j 0 ≤ getD rs (elim b [ true ↦ n | false ↦ greatestTo rs n ]) 0
+        → getD rs j 0 ≤ getD rs (cond b n (greatestTo rs n)) 0
     go true p true q rec = omega (arith, ltb-true (getD rs (greatestTo rs n) 0) (getD rs n 0) p, rec (ltb-true j n q))
     go true p false q rec =
         let e : j ≡ n = omega (arith, ltb-false j n q) in

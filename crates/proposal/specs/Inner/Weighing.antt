@@ -1,7 +1,7 @@
 -- The rating of rows from their numbers and parts (document 01, "The split and the rating"). Assumes nothing.
 use Prim.Native.Nat.{ℕ, _+_, _*_, _≤_, _<_}
 use mathlib.Core.List.{List}
-use mathlib.Core.Bool.{true, false}
+use mathlib.Core.Bool.{cond}
 use lib.Dec.{ltb}
 use lib.IntN.{ℤ, pos, negsuc, _+ℤ_, _*ℤ_}
 use lib.ListN.{getD}
@@ -22,14 +22,13 @@ weighedTo v p k = sumToZ (λ s. listed v s *ℤ pos (getD p s 0)) k
 -- the answer to such numbers and parts
 unfoldable pub ratedBy : ℕ → List ℤ → List ℕ → ℕ → ℕ → Answer
 ratedBy limit v p k n1 =
-    elim (ltb limit (spreadOf (listed v) k)) [
-      | true ↦ Refused WIDE 0
-      | false ↦ Rated (quotZ (weighedTo v p k) (pos 1000000) +ℤ inertNumber n1 +ℤ negsuc 1000002999) (spreadOf (listed v) k) 0
-    ]
+    cond (ltb limit (spreadOf (listed v) k))
+    (Refused WIDE 0)
+    (Rated (quotZ (weighedTo v p k) (pos 1000000) +ℤ inertNumber n1 +ℤ negsuc 1000002999) (spreadOf (listed v) k) 0)
 
 -- the answer to cells that re-sum
 unfoldable pub weighedOf : ℕ → List ℕ → ℕ → List ℕ → ℕ → Answer
-weighedOf limit ch k a n1 = elim (someEmpty ch k a) [ true ↦ Refused EMPTY_SYSTEM 0 | false ↦ ratedOf limit ch k a n1 ]
+weighedOf limit ch k a n1 = cond (someEmpty ch k a) (Refused EMPTY_SYSTEM 0) (ratedOf limit ch k a n1)
 
 -- small numbers of one or more rows that have a million parts at most
 pub record Weighable (v : List ℤ) (p : List ℕ) (k : ℕ) : Type 0 where

@@ -1,7 +1,7 @@
 -- How the answers to an analysis end, where it is rated on and where it is in range, and that what was read is in
 -- range. Assumes nothing.
 use mathlib.Core.Path.{_≡_, refl, ap, _∙_, subst}
-use mathlib.Core.Bool.{Bool, true, false}
+use mathlib.Core.Bool.{Bool, true, false, cond}
 use mathlib.Core.Logic.{_↔_, _⊎_, inl, inr}
 use mathlib.Core.List.{List}
 use Prim.Native.Nat.{ℕ, zero, suc, _+_, _≤_, _<_, min}
@@ -9,7 +9,7 @@ use native.Mathlib.Omega.{arith}
 use lib.Dec.{ltb}
 use lib.ListN.{getD, length, length-set}
 use Rattle.refusal.specs.Register.{TOO_FEW}
-use Rattle.analysis.specs.Register.{CODES, ifElse}
+use Rattle.analysis.specs.Register.{CODES}
 use Rattle.analysis.specs.Check.{refusalOf}
 use Rattle.sheet.specs.Split.{noSplit}
 use Rattle.sheet.specs.Bytes.{numberAt}
@@ -89,7 +89,7 @@ verdict-ends true true w x r = inr (omega arith, omega arith)
 verdict-ends true false true x r = inr (omega arith, omega arith)
 verdict-ends true false false x r = inl r
 
-fits-ends : (f : Bool) (x : Answer) → RatedOr 7 10 x → RatedOr 7 10 (ifElse f x (Refused 7 0))
+fits-ends : (f : Bool) (x : Answer) → RatedOr 7 10 x → RatedOr 7 10 (cond f x (Refused 7 0))
 fits-ends true x r = r
 fits-ends false x r = inr (omega arith, omega arith)
 

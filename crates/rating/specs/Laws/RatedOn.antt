@@ -1,6 +1,6 @@
 -- The analyses that are rated on, by cases; none is refused 13. Assumes nothing.
 use mathlib.Core.Path.{_≡_, refl, sym, _∙_}
-use mathlib.Core.Bool.{Bool, true, false}
+use mathlib.Core.Bool.{Bool, true, false, cond}
 use mathlib.Core.List.{List}
 use mathlib.Core.Logic.{_↔_, _⊎_, inl, inr}
 use Prim.Native.Nat.{ℕ, _≤_, _<_}
@@ -8,7 +8,6 @@ use native.Mathlib.Omega.{arith}
 use lib.Dec.{eqb, ltb}
 use borrow.Author.Tests.{eqb-true, eqb-false, eq-eqb, ltb-true, ltb-false, lt-ltb, le-ltb}
 use Rattle.refusal.specs.Register.{NO_SYSTEM, TOO_FEW}
-use Rattle.analysis.specs.Register.{ifElse}
 use Rattle.analysis.specs.Check.{allInRange, totalOf, totalFits, refusalBy, refusalOf}
 use Rattle.systems.specs.Choice.{presentCount}
 use Rattle.rating.specs.Rate.{FEWEST, mixOf, ratingRefusal}
@@ -28,7 +27,7 @@ module _ (a : List ℕ) where
       (rw (mixture-number (mixOf a)) at h)
     where
       go : (t u : Bool) → eqb (refusalOf a) 0 ≡ t → ltb (presentCount (mixOf a)) FEWEST ≡ u
-          → ifElse t (ifElse u TOO_FEW 0) (refusalOf a) ≡ 0 → InRange a × (FEWEST ≤ presentCount (mixOf a))
+          → cond t (cond u TOO_FEW 0) (refusalOf a) ≡ 0 → InRange a × (FEWEST ≤ presentCount (mixOf a))
       go true true p q h = absurd (omega arith)
       go true false p q h = (eqb-true (refusalOf a) 0 p, ltb-false (presentCount (mixOf a)) FEWEST q)
       go false u p q h = absurd (eqb-false (refusalOf a) 0 p h)

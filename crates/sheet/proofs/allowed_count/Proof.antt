@@ -1,13 +1,12 @@
 -- `sheet::allowed_count` meets its contract. Assumes nothing.
 use mathlib.Core.Path.{_≡_, refl, sym, _∙_}
-use mathlib.Core.Bool.{Bool, true, false}
+use mathlib.Core.Bool.{Bool, true, false, cond}
 use Prim.Native.Nat.{ℕ, suc, _%_, _≤_, _<_}
 use native.Mathlib.Omega.{arith}
 use lib.Dec.{eqb, ltb, leb}
 use lib.ListN.{replicate}
 use borrow.Author.Tests.{eq-eqb, ne-eqb, lt-ltb, le-ltb, leb-true}
 use Rattle.refusal.specs.Laws.Keys.{each-passes}
-use Rattle.analysis.specs.Register.{ifElse}
 use Rattle.analysis.specs.Laws.Table.{at, same, same-eq}
 use Rattle.sheet.specs.Split.{SHORTEST_SPLIT, LONGEST_SPLIT, splitCounts, allowedCount}
 use Rattle.sheet.proofs.allowed_count.Statement.{statement}
@@ -15,7 +14,7 @@ use Rattle.sheet.proofs.allowed_count.Tie as tie
 
 -- the code's tests of a count that is not above the most: computed at each
 abbrev tested : ℕ → Bool
-tested m = ifElse (eqb m 0) true (ifElse (ltb m SHORTEST_SPLIT) false (eqb (m % 3) 0))
+tested m = cond (eqb m 0) true (cond (ltb m SHORTEST_SPLIT) false (eqb (m % 3) 0))
 
 counted : (m : ℕ) → m ≤ LONGEST_SPLIT → tested m ≡ allowedCount m
 unfolding allowedCount

@@ -10,7 +10,7 @@ use borrow.Author.Tests.{eq-eqb, ne-eqb, le-leb, lt-leb, le-ltb, leb-true, leb-f
 use borrow.Author.Tests.{eqb-false}
 use Rattle.refusal.specs.Keys.{isIn}
 use Rattle.refusal.specs.Laws.Keys.{each-passes}
-use Rattle.analysis.specs.Register.{CODES, Entry, unknown, register, keysOf, statusIn, statusOf, ifElse}
+use Rattle.analysis.specs.Register.{CODES, Entry, unknown, register, keysOf, statusIn, statusOf}
 use Rattle.analysis.specs.Check.{refusalOf}
 use Rattle.section.specs.declared.Section.{Section}
 use Rattle.section.specs.declared.Section.the-variants as found
@@ -33,7 +33,7 @@ use Rattle.sheet.specs.Write.{writeRefusal, writtenOf, leftOf}
 pub never : _≡_ {A = ℕ} 0 1 → ⊥
 never z = omega arith
 
-pub both-true : (t x : Bool) → ifElse t x false ≡ true → (t ≡ true) × (x ≡ true)
+pub both-true : (t x : Bool) → cond t x false ≡ true → (t ≡ true) × (x ≡ true)
 both-true true x h = (refl, h)
 both-true false x h = (h, cc)
 
@@ -100,7 +100,7 @@ module _ (s : List ℕ) where
   first-back found.Torn e h = let z : _≡_ {A = ℕ} 0 1 = cc in absurd (never z)
   first-back (found.Records n' first' end) e {n} {m} {first} h = go (leb n' LISTED) refl h
     where
-      go : (t : Bool) → leb n' LISTED ≡ t → ifElse t (ending n' end (sectionAt s end 6)) Torn ≡ Both n m first
+      go : (t : Bool) → leb n' LISTED ≡ t → cond t (ending n' end (sectionAt s end 6)) Torn ≡ Both n m first
           → Sectioned s n m first
       go true a h =
           let f = section-found s 0 5 e in
@@ -134,7 +134,7 @@ module _ (s : List ℕ) where
       ap after (section-records s 0 5 (omega arith))
       ∙ ap (λ (k : ℕ). after (found.Records (getD s 0 0) 1 k)) i
       ∙ ap (λ (k : ℕ). after (found.Records k 1 (1 + 5 * n))) en
-      ∙ ap (λ (t : Bool). ifElse t (ending n (1 + 5 * n) (sectionAt s (1 + 5 * n) 6)) Torn) (le-leb n LISTED few)
+      ∙ ap (λ (t : Bool). cond t (ending n (1 + 5 * n) (sectionAt s (1 + 5 * n) 6)) Torn) (le-leb n LISTED few)
       ∙ ap (ending n (1 + 5 * n)) (section-records s (1 + 5 * n) 6 (omega arith))
       ∙ ap (λ (k : ℕ). ending n (1 + 5 * n) (found.Records (getD s (1 + 5 * n) 0) (1 + 5 * n + 1) k)) o
       ∙ ap (λ (k : ℕ). ending n (1 + 5 * n) (found.Records k (1 + 5 * n + 1) (length s))) em
@@ -154,7 +154,7 @@ module _ (s : List ℕ) (code : ℕ) where
     read-codes e = rw (h, e)
 
     pub read-amounts : codesReading n s 1 0 0 ≡ Read → (amountsRefusal n s ≡ 0 → ⊥)
-        → readOf s code ≡ refusedSheet (Refused (amountsRefusal n s) 0 (ifElse (eqb (amountsRefusal n s) 5) code 0))
+        → readOf s code ≡ refusedSheet (Refused (amountsRefusal n s) 0 (cond (eqb (amountsRefusal n s) 5) code 0))
     unfolding readOf readBy
     read-amounts e z = rw (h, e, ne-eqb _ _ z)
 
@@ -176,7 +176,7 @@ unfolding readOf readBy
 read-whole s code h = go (sectionsOf s) refl h
   where
     amounts-back : (n m first : ℕ) → sectionsOf s ≡ Both n m first → codesReading n s 1 0 0 ≡ Read → (t : Bool) → eqb (amountsRefusal n s) 0 ≡ t
-        → withAnswer (ifElse t Read (Refused (amountsRefusal n s) 0 (ifElse (eqb (amountsRefusal n s) 5) code 0))) (contentOf n m first s) .answer ≡ Read → Whole s
+        → withAnswer (cond t Read (Refused (amountsRefusal n s) 0 (cond (eqb (amountsRefusal n s) 5) code 0))) (contentOf n m first s) .answer ≡ Read → Whole s
     amounts-back n m first e d true f h = record { n = n; m = m; first = first; sections = e; codes = d; amounts = eqb-true _ _ f }
     amounts-back n m first e d false f h = let z : _≡_ {A = ℕ} 0 1 = cc in absurd (never z)
 
@@ -203,7 +203,7 @@ module _ (n : ℕ) (s : List ℕ) where
   unfolding amountsRefusal
   amounts-back h = go (zeroListed n s 1) refl h
     where
-      go : (t : Bool) → zeroListed n s 1 ≡ t → ifElse t 5 (refusalOf (amountsOf n s)) ≡ 0 → (zeroListed n s 1 ≡ false) × (refusalOf (amountsOf n s) ≡ 0)
+      go : (t : Bool) → zeroListed n s 1 ≡ t → cond t 5 (refusalOf (amountsOf n s)) ≡ 0 → (zeroListed n s 1 ≡ false) × (refusalOf (amountsOf n s) ≡ 0)
       go true e h = (absurd (omega arith), absurd (omega arith))
       go false e h = (e, h)
 
@@ -216,7 +216,7 @@ unlisted (e ∷ es) c h = go (eqb c (e .code)) h (λ t. unlisted es c t)
   where
     go : (b : Bool) → cond b true (isIn c (keysOf es)) ≡ false
         → (isIn c (keysOf es) ≡ false → statusIn es c ≡ unknown)
-        → ifElse b (e .status) (statusIn es c) ≡ unknown
+        → cond b (e .status) (statusIn es c) ≡ unknown
     go true h rest = let y : _≡_ {A = ℕ} 0 1 = cc in absurd (omega arith)
     go false h rest = rest h
 
@@ -247,7 +247,7 @@ module _ (c p : ℕ) where
   unfolding codeRefusal
   code-back h = go (eqb (refusalBy (statusOf c)) 0) (leb c p) refl refl h
     where
-      go : (t u : Bool) → eqb (refusalBy (statusOf c)) 0 ≡ t → leb c p ≡ u → ifElse t (ifElse u 4 0) (refusalBy (statusOf c)) ≡ 0
+      go : (t u : Bool) → eqb (refusalBy (statusOf c)) 0 ≡ t → leb c p ≡ u → cond t (cond u 4 0) (refusalBy (statusOf c)) ≡ 0
           → (refusalBy (statusOf c) ≡ 0) × (p < c)
       go true true e d h = (absurd (omega arith), absurd (omega arith))
       go true false e d h = (eqb-true _ _ e, leb-false c p d)
@@ -264,7 +264,7 @@ length-components k [] = refl
 length-components k (x ∷ xs) = go (eqb x 0) (length-components (suc k) xs)
   where
     go : (t : Bool) → length (componentBytes (suc k) xs) ≡ COMPONENT_BYTES * countOf xs
-        → length (ifElse t (componentBytes (suc k) xs) (k ∷ bytesOf x ++ componentBytes (suc k) xs)) ≡ COMPONENT_BYTES * ifElse t (countOf xs) (suc (countOf xs))
+        → length (cond t (componentBytes (suc k) xs) (k ∷ bytesOf x ++ componentBytes (suc k) xs)) ≡ COMPONENT_BYTES * cond t (countOf xs) (suc (countOf xs))
     go true h = h
     go false h = omega (arith, h)
 
@@ -301,7 +301,7 @@ module _ (a : List ℕ) (p : Split) where
     number-back h = go (allowedCount (p .count)) (eqb (refusalOf a) 0) (leb (length (sheetOf a p)) size) refl refl refl h
       where
         go : (t u v : Bool) → allowedCount (p .count) ≡ t → eqb (refusalOf a) 0 ≡ u → leb (length (sheetOf a p)) size ≡ v
-            → ifElse t (ifElse u (ifElse v 0 14) (refusalOf a)) 1 ≡ 0 → (allowedCount (p .count) ≡ true) × (refusalOf a ≡ 0) × (length (sheetOf a p) ≤ size)
+            → cond t (cond u (cond v 0 14) (refusalOf a)) 1 ≡ 0 → (allowedCount (p .count) ≡ true) × (refusalOf a ≡ 0) × (length (sheetOf a p) ≤ size)
         go true true true e f g h = (e, eqb-true _ _ f, leb-true _ _ g)
         go true true false e f g h = absurd (omega arith)
         go true false v e f g h = absurd (eqb-false _ _ f h)
@@ -312,7 +312,7 @@ module _ (a : List ℕ) (p : Split) where
     unfolding writtenOf
     written-length e = rw e
 
-    pub written-refused : (n : ℕ) → writeRefusal a p size ≡ n → (n ≡ 0 → ⊥) → writtenOf a p size code ≡ w.Refused n (ifElse (eqb n 5) code 0)
+    pub written-refused : (n : ℕ) → writeRefusal a p size ≡ n → (n ≡ 0 → ⊥) → writtenOf a p size code ≡ w.Refused n (cond (eqb n 5) code 0)
     unfolding writtenOf
     written-refused n e z = rw (e, ne-eqb _ _ z)
 
@@ -321,7 +321,7 @@ module _ (a : List ℕ) (p : Split) where
     written-back {n} h = go (eqb (writeRefusal a p size) 0) refl h
       where
         go : (t : Bool) → eqb (writeRefusal a p size) 0 ≡ t
-            → ifElse t (w.Length (length (sheetOf a p))) (w.Refused (writeRefusal a p size) (ifElse (eqb (writeRefusal a p size) 5) code 0)) ≡ w.Length n
+            → cond t (w.Length (length (sheetOf a p))) (w.Refused (writeRefusal a p size) (cond (eqb (writeRefusal a p size) 5) code 0)) ≡ w.Length n
             → (writeRefusal a p size ≡ 0) × (n ≡ length (sheetOf a p))
         go true e h = (eqb-true _ _ e, cc)
         go false e h = let z : _≡_ {A = ℕ} 0 1 = cc in absurd (never z)

@@ -6,7 +6,6 @@ use mathlib.Core.List.{List}
 use Prim.Native.Nat.{ℕ, zero, suc, _+_}
 use lib.Dec.{eqb}
 use lib.ListN.{getD}
-use Rattle.analysis.specs.Register.{ifElse}
 use Rattle.sheet.specs.Components.{COMPONENT_BYTES, codeRefusal, codesReading}
 use Rattle.sheet.specs.Sheet.{sectionsOf}
 use Rattle.sheet.specs.Read.{readBy, readOf, ReadAs, amountsRefusal, byAmounts, contentOf, withAnswer, afterCodes}
@@ -26,14 +25,14 @@ codes-coded zero s at i p = tt
 codes-coded (suc n) s at i p = go (codes-coded n s (at + COMPONENT_BYTES) (i + 1) (getD s at 0)) (eqb (codeRefusal (getD s at 0) p) 0)
   where
     go : Coded (codesReading n s (at + COMPONENT_BYTES) (i + 1) (getD s at 0)) → (t : Bool)
-        → Coded (ifElse t (codesReading n s (at + COMPONENT_BYTES) (i + 1) (getD s at 0)) (Refused (codeRefusal (getD s at 0) p) i 0))
+        → Coded (cond t (codesReading n s (at + COMPONENT_BYTES) (i + 1) (getD s at 0)) (Refused (codeRefusal (getD s at 0) p) i 0))
     go rest true = rest
     go rest false = λ e. refl
 
 by-coded : (number code : ℕ) → Coded (byAmounts number code)
 by-coded number code = go (eqb number 0)
   where
-    go : (t : Bool) → Coded (ifElse t Read (Refused number 0 (ifElse (eqb number 5) code 0)))
+    go : (t : Bool) → Coded (cond t Read (Refused number 0 (cond (eqb number 5) code 0)))
     go true = tt
     go false = λ e. rw e
 
@@ -63,7 +62,7 @@ module _ (s : List ℕ) (r : Sheet) (h : ReadAs s r) (number place code : ℕ) (
   pub carried-code : cond (eqb number 5) (placeOf (Refused number place code)) 0 ≡ code
   carried-code = go (eqb number 5) refl (subst Coded refused-answer (read-coded s code))
     where
-      go : (t : Bool) → eqb number 5 ≡ t → Coded (Refused number place code) → cond t (ifElse t code place) 0 ≡ code
+      go : (t : Bool) → eqb number 5 ≡ t → Coded (Refused number place code) → cond t (cond t code place) 0 ≡ code
       go true q z = refl
       go false q z = sym (z q)
 

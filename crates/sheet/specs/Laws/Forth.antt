@@ -1,14 +1,14 @@
 -- Writing what was read gives the same bytes, part by part. Assumes nothing.
 use mathlib.Core.Path.{_≡_, refl, ap, sym, _∙_}
 use mathlib.Core.List.{List, [], _∷_, _++_, append-assoc, append-nil}
-use mathlib.Core.Bool.{Bool, true, false}
+use mathlib.Core.Bool.{Bool, true, false, cond}
 use Prim.Native.Nat.{ℕ, zero, suc, _+_, _-_, _*_, _/_, _%_, _≤_, _<_}
 use native.Mathlib.Omega.{arith}
 use lib.ListN.{length, getD, set, take, drop, replicate, length-append, length-replicate, replicate-append-replicate}
 use lib.Seq.{set-at, append-snoc, drop-cons, take-append-seam}
 use lib.Dec.{eqb, leb}
 use borrow.Author.Tests.{ne-eqb, eqb-true, eqb-false, leb-true, leb-false}
-use Rattle.analysis.specs.Register.{CODES, statusOf, ifElse}
+use Rattle.analysis.specs.Register.{CODES, statusOf}
 use Rattle.sheet.specs.declared.Reading.the-variants.{Read, Refused}
 use Rattle.sheet.specs.Bytes.{number, numberAt, bytesOf}
 use Rattle.sheet.specs.Components.{refusalBy, codeRefusal, codesReading, amountsFrom, zeroListed, countOf, componentBytes}
@@ -103,7 +103,7 @@ module _ (n : ℕ) (s : List ℕ) (at : ℕ) where
   codes-head i p h = go (eqb (codeRefusal (getD s at 0) p) 0) refl h
     where
       go : (t : Bool) → eqb (codeRefusal (getD s at 0) p) 0 ≡ t
-          → ifElse t (codesReading n s (at + 5) (i + 1) (getD s at 0)) (Refused (codeRefusal (getD s at 0) p) i 0) ≡ Read
+          → cond t (codesReading n s (at + 5) (i + 1) (getD s at 0)) (Refused (codeRefusal (getD s at 0) p) i 0) ≡ Read
           → (codeRefusal (getD s at 0) p ≡ 0) × (codesReading n s (at + 5) (i + 1) (getD s at 0) ≡ Read)
       go true e h = (eqb-true _ _ e, h)
       go false e h = (cc, cc)
@@ -111,7 +111,7 @@ module _ (n : ℕ) (s : List ℕ) (at : ℕ) where
   pub zero-head : zeroListed (suc n) s at ≡ false → (numberAt s (at + 1) ≡ 0 → ⊥) × (zeroListed n s (at + 5) ≡ false)
   zero-head h = go (eqb (numberAt s (at + 1)) 0) refl h
     where
-      go : (t : Bool) → eqb (numberAt s (at + 1)) 0 ≡ t → ifElse t true (zeroListed n s (at + 5)) ≡ false → (numberAt s (at + 1) ≡ 0 → ⊥) × (zeroListed n s (at + 5) ≡ false)
+      go : (t : Bool) → eqb (numberAt s (at + 1)) 0 ≡ t → cond t true (zeroListed n s (at + 5)) ≡ false → (numberAt s (at + 1) ≡ 0 → ⊥) × (zeroListed n s (at + 5) ≡ false)
       go true e h = let z : _≡_ {A = ℕ} 0 1 = cc in (λ _. omega arith, cc)
       go false e h = (eqb-false _ _ e, h)
 

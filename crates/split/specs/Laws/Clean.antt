@@ -1,13 +1,13 @@
 -- Cells with nothing in a place that no record of the split names. Assumes nothing.
 use Prim.Native.Nat.{ℕ, _<_}
 use mathlib.Core.List.{List}
-use mathlib.Core.Bool.{Bool, true, false}
+use mathlib.Core.Bool.{Bool, true, false, _&&_}
 use mathlib.Core.Path.{_≡_, refl}
 use native.Mathlib.Omega.{arith}
 use lib.Dec.{ltb}
 use borrow.Author.Tests.{lt-ltb, ltb-true}
 use Rattle.systems.specs.Systems.{COMPONENTS, hasOf}
-use Rattle.split.specs.Split.{cellOf, systemOf, both, heldOf}
+use Rattle.split.specs.Split.{cellOf, systemOf, heldOf}
 
 -- a cell of a row beyond the k, or of a component that its row's system lacks, is 0
 pub record Clean (ch : List ℕ) (k : ℕ) (a : List ℕ) : Type 0 where
@@ -18,7 +18,7 @@ pub held-row : (ch : List ℕ) (k s c : ℕ) → heldOf ch k s c ≡ true → (s
 unfolding heldOf
 held-row ch k s c h = go (ltb s k) refl h
   where
-    go : (b : Bool) → ltb s k ≡ b → both b (hasOf (systemOf ch s) c) ≡ true → (s < k) × (hasOf (systemOf ch s) c ≡ true)
+    go : (b : Bool) → ltb s k ≡ b → (b && hasOf (systemOf ch s) c) ≡ true → (s < k) × (hasOf (systemOf ch s) c ≡ true)
     go true e h = (ltb-true s k e, h)
     go false e h = absurd (let z : _≡_ {A = ℕ} 0 1 = cc in omega arith)
 

@@ -1,17 +1,16 @@
 -- The three components of a candidate system as one record; tests of two Bools. Assumes nothing.
 use Prim.Native.Nat.{ℕ, _<_}
 use mathlib.Core.Path.{_≡_, refl}
-use mathlib.Core.Bool.{Bool, true, false}
+use mathlib.Core.Bool.{Bool, true, false, _&&_}
 use native.Mathlib.Omega.{arith}
 use Rattle.systems.specs.Systems.{COMPONENTS, memberOf, Candidate}
 use Rattle.systems.specs.Laws.Members.{member-lt, members-apart}
-use Rattle.split.specs.Split.{both}
 
-pub both-left : (x y : Bool) → both x y ≡ true → x ≡ true
+pub both-left : (x y : Bool) → (x && y) ≡ true → x ≡ true
 both-left true y e = refl
 both-left false y e = e
 
-pub both-right : (x y : Bool) → both x y ≡ true → y ≡ true
+pub both-right : (x y : Bool) → (x && y) ≡ true → y ≡ true
 both-right true y e = e
 both-right false y e = absurd (let z : _≡_ {A = ℕ} 0 1 = cc in omega arith)
 

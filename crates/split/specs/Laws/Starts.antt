@@ -43,14 +43,14 @@ shares-all t n h =
 
 -- ranked out by rank: those that p holds of get f 0, f 1, ..
 ranked : (p : ℕ → Bool) (f : ℕ → ℕ) (j : ℕ)
-    → sumTo (λ s. elim (p s) as (λ u. ℕ) [ true ↦ f (sumTo (λ r. cond (p r) 1 0) s) | false ↦ 0 ]) j ≡ sumTo f (sumTo (λ r. cond (p r) 1 0) j)
+    → sumTo (λ s. cond (p s) (f (sumTo (λ r. cond (p r) 1 0) s)) 0) j ≡ sumTo f (sumTo (λ r. cond (p r) 1 0) j)
 unfolding sumTo
 ranked p f zero = refl
 ranked p f (suc j) = go (p j) refl (ranked p f j)
   where
     go : (b : Bool) → p j ≡ b
-        → sumTo (λ s. elim (p s) as (λ u. ℕ) [ true ↦ f (sumTo (λ r. cond (p r) 1 0) s) | false ↦ 0 ]) j ≡ sumTo f (sumTo (λ r. cond (p r) 1 0) j)
-        → sumTo (λ s. elim (p s) as (λ u. ℕ) [ true ↦ f (sumTo (λ r. cond (p r) 1 0) s) | false ↦ 0 ]) (suc j) ≡ sumTo f (sumTo (λ r. cond (p r) 1 0) (suc j))
+        → sumTo (λ s. cond (p s) (f (sumTo (λ r. cond (p r) 1 0) s)) 0) j ≡ sumTo f (sumTo (λ r. cond (p r) 1 0) j)
+        → sumTo (λ s. cond (p s) (f (sumTo (λ r. cond (p r) 1 0) s)) 0) (suc j) ≡ sumTo f (sumTo (λ r. cond (p r) 1 0) (suc j))
     go true e ih = rw e (sum-more f (sumTo (λ r. cond (p r) 1 0) j) _ _ ih refl)
     go false e ih = rw (e, N.add-zero, N.add-zero) ih
 
@@ -61,7 +61,7 @@ Shared mix ch k c = (getD mix c 0 ≡ 0) ⊎ (0 < sharersOf ch c k)
 -- the start
 module _ (mix ch : List ℕ) (k : ℕ) (most : k ≤ SYSTEMS) where
   cell-start : (s c : ℕ) → s < k → c < COMPONENTS
-      → cellOf (startOf mix ch k) s c ≡ elim (hasOf (systemOf ch s) c) as (λ u. ℕ) [ true ↦ shareOf (getD mix c 0) (sharersOf ch c k) (sharersOf ch c s) | false ↦ 0 ]
+      → cellOf (startOf mix ch k) s c ≡ cond (hasOf (systemOf ch s) c) (shareOf (getD mix c 0) (sharersOf ch c k) (sharersOf ch c s)) 0
   unfolding startOf givenOf heldOf
   cell-start s c h l =
       let row : (0 + (s * COMPONENTS + c)) / COMPONENTS ≡ s = omega arith in
@@ -71,7 +71,7 @@ module _ (mix ch : List ℕ) (k : ℕ) (most : k ≤ SYSTEMS) where
   start-column : (c : ℕ) → c < COMPONENTS → columnOf k (startOf mix ch k) c ≡ sumTo (shareOf (getD mix c 0) (sharersOf ch c k)) (sharersOf ch c k)
   unfolding columnOf sharersOf
   start-column c l =
-      sum-same (λ s. cellOf (startOf mix ch k) s c) (λ s. elim (hasOf (systemOf ch s) c) as (λ u. ℕ) [ true ↦ shareOf (getD mix c 0) (sharersOf ch c k) (sharersOf ch c s) | false ↦ 0 ]) k (λ s h. cell-start s c h l)
+      sum-same (λ s. cellOf (startOf mix ch k) s c) (λ s. cond (hasOf (systemOf ch s) c) (shareOf (getD mix c 0) (sharersOf ch c k) (sharersOf ch c s)) 0) k (λ s h. cell-start s c h l)
       ∙ ranked (λ s. hasOf (systemOf ch s) c) (shareOf (getD mix c 0) (sharersOf ch c k)) k
 
   -- of a component that a chosen system contains all is shared, and of another nothing

@@ -81,7 +81,7 @@ module _ (system : ℕ) (cand : Candidate system) (f : ℕ → ℕ) where
   unfolding hasOf
   rest-none c h = go (eqb c (m 0)) (eqb c (m 1)) (eqb c (m 2)) h
     where
-      go : (x y z : Bool) → (elim x [ true ↦ true | false ↦ elim y [ true ↦ true | false ↦ z ] ] ≡ false → f c ≡ 0) → cond z 0 (cond y 0 (cond x 0 (f c))) ≡ 0
+      go : (x y z : Bool) → (cond x true (cond y true z) ≡ false → f c ≡ 0) → cond z 0 (cond y 0 (cond x 0 (f c))) ≡ 0
       go x y true h = refl
       go x true false h = refl
       go true false false h = refl

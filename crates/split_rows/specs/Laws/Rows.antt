@@ -1,7 +1,7 @@
 -- What the rows' evaluation says, by its cases. Assumes nothing.
 use Prim.Native.Nat.{ℕ, zero, suc, _+_, _-_, _≤_, _<_}
 use mathlib.Core.Path.{_≡_, refl, sym, ap, _∙_}
-use mathlib.Core.Bool.{Bool, true, false}
+use mathlib.Core.Bool.{Bool, true, false, _&&_, cond}
 use mathlib.Core.List.{List}
 use native.Mathlib.Nat as N
 use native.Mathlib.Omega.{arith}
@@ -13,7 +13,7 @@ use Rattle.integer.specs.Laws.Bits.{back}
 use lib.IntN.{ℤ, pos}
 use lib.ListN.{length, getD, set, length-set, replicate, length-replicate, getD-replicate}
 use lib.Seq.{getD-set-same, getD-set-other, ext-getD}
-use borrow.Author.Tests.{ltb-true, ltb-false, lt-ltb, le-leb, lt-leb, leb-true}
+use borrow.Author.Tests.{ltb-true, ltb-false, lt-ltb, le-leb, lt-leb}
 use borrow.Author.Count.{below-more}
 use Rattle.formula.specs.Coefficients.{isSystem}
 use Rattle.formula.specs.Partial.{partialNumber}
@@ -26,7 +26,7 @@ use Rattle.systems.specs.Systems.{candidates, elem, memberOf, Candidate}
 use Rattle.split.specs.Laws.Candidates.{known-system}
 use Rattle.split.specs.Fold.{allTo}
 use Rattle.split.specs.Laws.Folds.{all-each, all-of}
-use Rattle.split.specs.Split.{SYSTEMS, cellOf, systemOf, partsOf, numberAt, both, Stock, Sound}
+use Rattle.split.specs.Split.{SYSTEMS, cellOf, systemOf, partsOf, numberAt, Stock, Sound}
 use Rattle.split.specs.Laws.Members.{both-right}
 use Rattle.split.specs.Rating.{someEmpty}
 use Rattle.split.specs.Laws.Rows.{parts-few}
@@ -40,7 +40,7 @@ use Rattle.split_rows.specs.declared.Rows.{Rows}
 
 module _ {A : Type 0} (d : A) (k : ℕ) (f : ℕ → A) where
   abbrev at : ℕ → A
-  at i = elim (ltb i k) [ true ↦ f i | false ↦ d ]
+  at i = cond (ltb i k) (f i) d
 
   pub length-up : (n i : ℕ) → length (upTo d k f n i) ≡ n
   unfolding upTo
@@ -144,11 +144,11 @@ module _ (system : ℕ) (a : List ℕ) (s : ℕ) where
             let t : p ≡ Refused 13 = q ∙ sym (no-candidate e) in
             absurd (let z : _≡_ {A = ℕ} 0 1 = cc in omega arith)
 
-    pub refused : (n : ℕ) → p ≡ Refused n → both (elem system candidates) (isMixture (partsIn system a s)) ≡ false
+    pub refused : (n : ℕ) → p ≡ Refused n → (elem system candidates && isMixture (partsIn system a s)) ≡ false
     unfolding partsIn answerIn
     refused n u = go (elem system candidates) (isMixture (n1 + n2 + n3)) refl refl
       where
-        go : (b m : Bool) → elem system candidates ≡ b → isMixture (n1 + n2 + n3) ≡ m → both (elem system candidates) (isMixture (n1 + n2 + n3)) ≡ false
+        go : (b m : Bool) → elem system candidates ≡ b → isMixture (n1 + n2 + n3) ≡ m → (elem system candidates && isMixture (n1 + n2 + n3)) ≡ false
         go true true e f =
             let g = mixture-of (n1 + n2 + n3) f in
             let k : isSystem system ≡ true = known-system system (record { listed = e }) in
@@ -201,7 +201,7 @@ module _ (ch : List ℕ) (k : ℕ) (a : List ℕ) where
   each-fit f s l = all-each (rowFit ch a) k s (both-right (leb k SYSTEMS) _ f) l
 
   clash : false ≡ true → _≡_ {A = ℕ} 0 1
-  clash u = ap (λ b. elim b [ true ↦ 1 | false ↦ 0 ]) u
+  clash u = ap (λ b. cond b 1 0) u
 
   pub rows-unfit : (s : ℕ) → s < k → rowFit ch a s ≡ false → none ≡ rowsOf ch k a
   unfolding rowsOf

@@ -2,7 +2,7 @@
 use Prim.Native.Nat.{ℕ, zero, suc, _+_, _^_, _-_, _<_}
 use mathlib.Core.Path.{_≡_, refl, sym, ap, ap₂, _∙_}
 use mathlib.Core.List.{List, [], _∷_}
-use mathlib.Core.Bool.{Bool, true, false, not, _&&_}
+use mathlib.Core.Bool.{Bool, true, false, not, _&&_, cond}
 use native.Mathlib.Nat.{add-zero, pow-suc}
 use native.Mathlib.Omega.{arith}
 use lib.Ieee.Fits.{and-l, and-r}
@@ -83,7 +83,7 @@ module _ (k l : ℕ → ℕ) (systems : List ℕ)
         → takeOf k systems wanted marks c ≡ takeOf l systems wanted marks c
     unfolding takeOf
     take-alike wanted h =
-        ap (λ x. elim (ltb (containingOf systems marks c) wanted) [ true ↦ set marks x true | false ↦ marks ])
+        ap (λ x. cond (ltb (containingOf systems marks c) wanted) (set marks x true) marks)
         (fittest-alike h)
 
   pass-alike : (wanted : ℕ) (components : List ℕ) → T (every (λ c. ltb c COMPONENTS) components)

@@ -1,7 +1,7 @@
 -- The writer's answer for a buffer of `size` bytes. Assumes nothing.
 use mathlib.Core.Path.{_≡_}
 use mathlib.Core.List.{List}
-use mathlib.Core.Bool.{true, false}
+use mathlib.Core.Bool.{cond}
 use Prim.Native.Nat.{ℕ}
 use lib.Dec.{ltb}
 use Rattle.refusal.specs.Register.{SHORT_BLANK}
@@ -19,4 +19,4 @@ pub record Answered (a : List ℕ) (p : Split) (size : ℕ) (r : Written) : Type
 
 -- a length, or 14 where a buffer is shorter
 unfoldable pub roomFor : ℕ → ℕ → Written
-roomFor len size = elim (ltb size len) [ true ↦ Refused SHORT_BLANK 0 | false ↦ Length len ]
+roomFor len size = cond (ltb size len) (Refused SHORT_BLANK 0) (Length len)
