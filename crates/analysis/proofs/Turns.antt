@@ -11,38 +11,38 @@ use borrow.Author.Tests.{le-leb, lt-leb, eq-eqb, ne-eqb, eqb-false}
 use Rattle.analysis.specs.Register.{CODES}
 use Rattle.analysis.specs.declared.Checked.{Checked}
 use Rattle.analysis.specs.declared.Checked.the-variants.{InRange, Refused}
-use Rattle.analysis.specs.Check.{inRange, allInRange, totalOf, totalFits, refusalBy, refusalOf, AtFault, answerOf, Checking, Fault}
-use Rattle.analysis.specs.CheckedCases.{numberOf, codeOf}
+use Rattle.analysis.specs.Check.{inRange, allInRange, totalOf, totalFits, refusalByTests, analysisRefusal, AtFault, checkedOf, Checking, Fault}
+use Rattle.analysis.specs.CheckedCases.{numberOf, faultOf}
 use Rattle.analysis.specs.Laws.Ranges.{answer-number}
 
 -- ---- the number of a refusal
 
 module _ (fault sum : ℕ) where
-  pub refused-range : (fault ≡ CODES → ⊥) → 5 ≡ refusalBy (eqb fault CODES) (totalFits sum)
+  pub refused-range : (fault ≡ CODES → ⊥) → 5 ≡ refusalByTests (eqb fault CODES) (totalFits sum)
   refused-range f = rw (ne-eqb fault CODES f)
 
-  pub refused-low : fault ≡ CODES → sum < 999900 → 6 ≡ refusalBy (eqb fault CODES) (totalFits sum)
+  pub refused-low : fault ≡ CODES → sum < 999900 → 6 ≡ refusalByTests (eqb fault CODES) (totalFits sum)
   unfolding totalFits
   refused-low f h = simp (eq-eqb fault CODES f, lt-leb 999900 sum h)
 
-  pub refused-not : fault ≡ CODES → 999900 ≤ sum → sum ≤ 1000100 → 0 ≡ refusalBy (eqb fault CODES) (totalFits sum)
+  pub refused-not : fault ≡ CODES → 999900 ≤ sum → sum ≤ 1000100 → 0 ≡ refusalByTests (eqb fault CODES) (totalFits sum)
   unfolding totalFits
   refused-not f h l = simp (eq-eqb fault CODES f, le-leb 999900 sum h, le-leb sum 1000100 l)
 
-  pub refused-high : fault ≡ CODES → 999900 ≤ sum → 1000100 < sum → 6 ≡ refusalBy (eqb fault CODES) (totalFits sum)
+  pub refused-high : fault ≡ CODES → 999900 ≤ sum → 1000100 < sum → 6 ≡ refusalByTests (eqb fault CODES) (totalFits sum)
   unfolding totalFits
   refused-high f h l = simp (eq-eqb fault CODES f, le-leb 999900 sum h, lt-leb sum 1000100 l)
 
 -- ---- the answer with a number
 
 module _ (n m fault : ℕ) (e : n ≡ m) where
-  pub answer-none : n ≡ 0 → InRange ≡ answerOf m fault
+  pub answer-none : n ≡ 0 → InRange ≡ checkedOf m fault
   answer-none z = rw (eq-eqb m 0 (sym e ∙ z))
 
-  pub answer-range : n ≡ 5 → Refused n fault ≡ answerOf m fault
+  pub answer-range : n ≡ 5 → Refused n fault ≡ checkedOf m fault
   answer-range z = rw (sym e ∙ z, z)
 
-  pub answer-total : (n ≡ 0 → ⊥) → (n ≡ 5 → ⊥) → Refused n 0 ≡ answerOf m fault
+  pub answer-total : (n ≡ 0 → ⊥) → (n ≡ 5 → ⊥) → Refused n 0 ≡ checkedOf m fault
   answer-total z w = rw (sym e) (rw (ne-eqb n 0 z, ne-eqb n 5 w))
 
 -- ---- the walk from the last code to the first
@@ -109,38 +109,38 @@ module _ (a : List ℕ) (fault sum code next : ℕ) (w : Walked a fault sum code
 
 -- ---- the check
 
-five : (t u : Bool) → refusalBy t u ≡ 5 → t ≡ false
+five : (t u : Bool) → refusalByTests t u ≡ 5 → t ≡ false
 five false u h = refl
 five true true h = absurd (omega arith)
 five true false h = absurd (omega arith)
 
-own-code : (r : Checked) (n fault : ℕ) (b c : Bool) → eqb n 0 ≡ b → eqb n 5 ≡ c → r ≡ answerOf n fault → r ≡ answerOf n (codeOf r)
+own-code : (r : Checked) (n fault : ℕ) (b c : Bool) → eqb n 0 ≡ b → eqb n 5 ≡ c → r ≡ checkedOf n fault → r ≡ checkedOf n (faultOf r)
 own-code r n fault true c p q e = rw p (rw p at e)
 own-code r n fault false true p q e =
     let f : r ≡ Refused n fault = rw (p, q) at e in
-    rw (p, q) (f ∙ ap (Refused n) (sym (ap codeOf f)))
+    rw (p, q) (f ∙ ap (Refused n) (sym (ap faultOf f)))
 own-code r n fault false false p q e = rw (p, q) (rw (p, q) at e)
 
-module _ (a : List ℕ) (fault sum code : ℕ) (r : Checked) (z : code ≤ 0) (w : Walked a fault sum code) (e : r ≡ answerOf (refusalBy (eqb fault CODES) (totalFits sum)) fault) where
+module _ (a : List ℕ) (fault sum code : ℕ) (r : Checked) (z : code ≤ 0) (w : Walked a fault sum code) (e : r ≡ checkedOf (refusalByTests (eqb fault CODES) (totalFits sum)) fault) where
   found : Fault a fault
   found =
       let y : code ≡ 0 = omega arith in
       record { within = w .within; ranges = rw y at (w .ranges); fault = w .at-fault }
 
-  number : refusalBy (eqb fault CODES) (totalFits sum) ≡ refusalOf a
-  unfolding refusalOf
+  number : refusalByTests (eqb fault CODES) (totalFits sum) ≡ analysisRefusal a
+  unfolding analysisRefusal
   number =
       let y : code ≡ 0 = omega arith in
       rw (found .ranges, rw y at (w .total))
 
   pub checking : Checking a r
   checking =
-      let f : r ≡ answerOf (refusalOf a) fault = e ∙ ap (λ n. answerOf n fault) number in
+      let f : r ≡ checkedOf (analysisRefusal a) fault = e ∙ ap (λ n. checkedOf n fault) number in
       record {
-        answer = own-code r (refusalOf a) fault (eqb (refusalOf a) 0) (eqb (refusalOf a) 5) refl refl f;
+        answer = own-code r (analysisRefusal a) fault (eqb (analysisRefusal a) 0) (eqb (analysisRefusal a) 5) refl refl f;
         code = λ k.
-            let h : refusalOf a ≡ 5 = sym (ap numberOf f ∙ answer-number (refusalOf a) fault) ∙ k in
+            let h : analysisRefusal a ≡ 5 = sym (ap numberOf f ∙ answer-number (analysisRefusal a) fault) ∙ k in
             let g : fault < CODES = let x = eqb-false fault CODES (five (eqb fault CODES) (totalFits sum) (number ∙ h)) in let y = found .within in omega (arith, x) in
-            let d : codeOf r ≡ fault = ap codeOf (rw h at f) in
+            let d : faultOf r ≡ fault = ap faultOf (rw h at f) in
             rw d (found .fault g);
       }

@@ -6,10 +6,10 @@ use mathlib.Core.Bool.{Bool, true, false, not, cond}
 use Prim.Native.Nat.{ℕ, suc, _+_, _<_, _≤_}
 use lib.ListN.{getD}
 use lib.Dec.{leb, eqb}
-use Rattle.refusal.specs.Register.{OUT_OF_RANGE, TOTAL}
+use Rattle.refusal.specs.Register.{OUT_OF_RANGE, TOTAL, carried}
 use Rattle.analysis.specs.declared.Checked.{Checked}
 use Rattle.analysis.specs.declared.Checked.the-variants.{InRange, Refused}
-use Rattle.analysis.specs.CheckedCases.{numberOf, codeOf}
+use Rattle.analysis.specs.CheckedCases.{numberOf, faultOf}
 use Rattle.analysis.specs.Register.{CODES, Status, live, retired, splitsOnly, unknown, statusOf}
 
 -- the least and the greatest amount; 1 and 0, which leave no amount, where the code is not live
@@ -66,27 +66,27 @@ unfoldable pub totalFits : ℕ → Bool
 totalFits total = cond (leb 999900 total) (leb total 1000100) false
 
 -- 5 where the ranges do not hold, then 6 where the total does not, else 0
-abbrev pub refusalBy : Bool → Bool → ℕ
-refusalBy false total = OUT_OF_RANGE
-refusalBy true false = TOTAL
-refusalBy true true = 0
+abbrev pub refusalByTests : Bool → Bool → ℕ
+refusalByTests false total = OUT_OF_RANGE
+refusalByTests true false = TOTAL
+refusalByTests true true = 0
 
 -- the number with which an analysis is refused; 0 where it is in range
-unfoldable pub refusalOf : List ℕ → ℕ
-refusalOf a = refusalBy (allInRange 0 a) (totalFits (totalOf a))
+unfoldable pub analysisRefusal : List ℕ → ℕ
+analysisRefusal a = refusalByTests (allInRange 0 a) (totalFits (totalOf a))
 
 -- is `code` at fault, its amount outside its range or absent where it may not be?
 abbrev pub AtFault : List ℕ → ℕ → Type 0
 AtFault a code = inRange code (getD a code 0) ≡ false
 
 -- the answer with the number `n`; 5 carries `code`, and 6 none
-abbrev pub answerOf : ℕ → ℕ → Checked
-answerOf n code = cond (eqb n 0) InRange (Refused n (cond (eqb n OUT_OF_RANGE) code 0))
+abbrev pub checkedOf : ℕ → ℕ → Checked
+checkedOf n code = cond (eqb n 0) InRange (Refused n (carried n code 0))
 
 -- the promise of the check: the answer is fixed but for the code of 5, and that is a code at fault
 pub record Checking (a : List ℕ) (r : Checked) : Type 0 where
-  pub answer : r ≡ answerOf (refusalOf a) (codeOf r)
-  pub code : numberOf r ≡ 5 → AtFault a (codeOf r)
+  pub answer : r ≡ checkedOf (analysisRefusal a) (faultOf r)
+  pub code : numberOf r ≡ 5 → AtFault a (faultOf r)
 
 -- what a search for a code at fault finds: `r`, or CODES where there is none
 pub record Fault (a : List ℕ) (r : ℕ) : Type 0 where

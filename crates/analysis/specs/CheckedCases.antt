@@ -8,6 +8,6 @@ abbrev pub numberOf : Checked → ℕ
 numberOf InRange = 0
 numberOf (Refused number code) = number
 
-abbrev pub codeOf : Checked → ℕ
-codeOf InRange = 0
-codeOf (Refused number code) = code
+abbrev pub faultOf : Checked → ℕ
+faultOf InRange = 0
+faultOf (Refused number code) = code

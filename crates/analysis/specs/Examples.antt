@@ -4,52 +4,52 @@ use mathlib.Core.List.{List, [], _∷_, _++_}
 use Prim.Native.Nat.{ℕ, _-_}
 use lib.ListN.{replicate}
 use Rattle.analysis.specs.Register.{CODES, statusOf}
-use Rattle.analysis.specs.Check.{inRange, totalFits, refusalOf}
+use Rattle.analysis.specs.Check.{inRange, totalFits, analysisRefusal}
 
 -- a gas of methane and ethane as given, and 10000 parts of propane, 1000 of each butane
 abbrev gas : ℕ → ℕ → List ℕ
 gas methane ethane = 0 ∷ methane ∷ ethane ∷ 10000 ∷ 1000 ∷ 1000 ∷ replicate (CODES - 6) 0
 
 -- total 999899 is 6, 999900 and 1000100 pass, 1000101 is 6
-total-999899 : refusalOf (gas 967899 20000) ≡ 6
-unfolding refusalOf inRange totalFits statusOf
+total-999899 : analysisRefusal (gas 967899 20000) ≡ 6
+unfolding analysisRefusal inRange totalFits statusOf
 total-999899 = refl
 
-total-999900 : refusalOf (gas 967900 20000) ≡ 0
-unfolding refusalOf inRange totalFits statusOf
+total-999900 : analysisRefusal (gas 967900 20000) ≡ 0
+unfolding analysisRefusal inRange totalFits statusOf
 total-999900 = refl
 
-total-1000100 : refusalOf (gas 968100 20000) ≡ 0
-unfolding refusalOf inRange totalFits statusOf
+total-1000100 : analysisRefusal (gas 968100 20000) ≡ 0
+unfolding analysisRefusal inRange totalFits statusOf
 total-1000100 = refl
 
-total-1000101 : refusalOf (gas 968101 20000) ≡ 6
-unfolding refusalOf inRange totalFits statusOf
+total-1000101 : analysisRefusal (gas 968101 20000) ≡ 6
+unfolding analysisRefusal inRange totalFits statusOf
 total-1000101 = refl
 
 -- ethane 99 is 5, 100 passes
-ethane-99 : refusalOf (gas 987901 99) ≡ 5
-unfolding refusalOf inRange statusOf
+ethane-99 : analysisRefusal (gas 987901 99) ≡ 5
+unfolding analysisRefusal inRange statusOf
 ethane-99 = refl
 
-ethane-100 : refusalOf (gas 987900 100) ≡ 0
-unfolding refusalOf inRange totalFits statusOf
+ethane-100 : analysisRefusal (gas 987900 100) ≡ 0
+unfolding analysisRefusal inRange totalFits statusOf
 ethane-100 = refl
 
 -- methane may be alone beside nitrogen, and may not be absent
-methane-alone : refusalOf (0 ∷ 999700 ∷ replicate 10 0 ++ (200 ∷ replicate (CODES - 13) 0)) ≡ 0
-unfolding refusalOf inRange totalFits statusOf
+methane-alone : analysisRefusal (0 ∷ 999700 ∷ replicate 10 0 ++ (200 ∷ replicate (CODES - 13) 0)) ≡ 0
+unfolding analysisRefusal inRange totalFits statusOf
 methane-alone = refl
 
-methane-absent : refusalOf (gas 0 20000) ≡ 5
-unfolding refusalOf inRange statusOf
+methane-absent : analysisRefusal (gas 0 20000) ≡ 5
+unfolding analysisRefusal inRange statusOf
 methane-absent = refl
 
 -- hydrogen 10 and 100000 pass, 9 and 100001 are 5
 abbrev blend : ℕ → ℕ → List ℕ
 blend methane hydrogen = 0 ∷ methane ∷ replicate (CODES - 3) 0 ++ (hydrogen ∷ [])
 
-hydrogen-ends : (refusalOf (blend 999700 10) ≡ 6) × (refusalOf (blend 900000 100000) ≡ 0)
-    × (refusalOf (blend 999700 9) ≡ 5) × (refusalOf (blend 899999 100001) ≡ 5)
-unfolding refusalOf inRange totalFits statusOf
+hydrogen-ends : (analysisRefusal (blend 999700 10) ≡ 6) × (analysisRefusal (blend 900000 100000) ≡ 0)
+    × (analysisRefusal (blend 999700 9) ≡ 5) × (analysisRefusal (blend 899999 100001) ≡ 5)
+unfolding analysisRefusal inRange totalFits statusOf
 hydrogen-ends = (refl, refl, refl, refl)

@@ -6,7 +6,7 @@ use mathlib.Core.Bool.{Bool, true, false, cond}
 use Prim.Native.Nat.{ℕ}
 use lib.Dec.{eqb}
 use lib.ListN.{take}
-use Rattle.refusal.specs.Keys.{distinct, rising}
+use Rattle.refusal.specs.Keys.{distinct, rising, isIn}
 
 -- a code is live, with the least and the greatest amount in parts and whether it must be present; or retired; or legal in
 -- splits only; or no key of the register. A part, by document 01, is 0.0001 % by volume.
@@ -87,6 +87,7 @@ retiredIn (e ∷ es) = cond (isRetired (e .status)) (e .code ∷ retiredIn es) (
 
 -- no key stands twice
 pub no-key-twice : distinct (keysOf register) ≡ true
+unfolding isIn
 no-key-twice = refl
 
 -- and the keys rise from 1

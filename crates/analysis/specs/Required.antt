@@ -7,7 +7,7 @@ use Rattle.refusal.specs.Keys.{isIn}
 use Rattle.analysis.specs.Register.{Status, live, retired, splitsOnly, unknown, Entry, statusIn}
 use Rattle.analysis.specs.Check.{inRangeBy, totalOf}
 use Rattle.analysis.specs.Check.{totalFits}
-use Rattle.analysis.specs.Check.{refusalBy}
+use Rattle.analysis.specs.Check.{refusalByTests}
 
 -- a live code that may not be absent
 abbrev pub requiredToo : Bool → Status → Status
@@ -30,4 +30,4 @@ allInRangeIn entries code (x ∷ xs) =
 
 -- the number with which an analysis is refused by a register; 0 where it is in range
 unfoldable pub refusalIn : List Entry → List ℕ → ℕ
-refusalIn entries a = refusalBy (allInRangeIn entries 0 a) (totalFits (totalOf a))
+refusalIn entries a = refusalByTests (allInRangeIn entries 0 a) (totalFits (totalOf a))

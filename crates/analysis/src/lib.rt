@@ -6,8 +6,8 @@ ghost use Prim.Native.Nat.{_+_, _<_, _≤_};
 ghost use lib.Dec.{eqb};
 ghost use Rattle.analysis.specs.Register.{CODES};
 ghost use Rattle.analysis.specs.Inner.Packed.{rangeOf};
-ghost use Rattle.analysis.specs.CheckedCases.{numberOf, codeOf};
-ghost use Rattle.analysis.specs.Check.{inRange, totalFits, refusalBy, refusalOf, answerOf, AtFault};
+ghost use Rattle.analysis.specs.CheckedCases.{numberOf, faultOf};
+ghost use Rattle.analysis.specs.Check.{inRange, totalFits, refusalByTests, analysisRefusal, checkedOf, AtFault};
 use refusal::OUT_OF_RANGE;
 use refusal::TOTAL;
 
@@ -70,7 +70,7 @@ fn plus(sum: u64, amount: u32) -> u64
 
 // 5 where a code is at fault, then 6 where the total is out of its range, else 0.
 fn refusal(fault: usize, sum: u64) -> u32
-    ensures { λ r. ⌜ r ≡ refusalBy (eqb fault CODES) (totalFits sum) ⌝ }
+    ensures { λ r. ⌜ r ≡ refusalByTests (eqb fault CODES) (totalFits sum) ⌝ }
 {
     if fault != CODES {
         return OUT_OF_RANGE;
@@ -87,7 +87,7 @@ fn refusal(fault: usize, sum: u64) -> u32
 // The answer: 5 carries the code at fault, 6 none.
 fn answer(fault: usize, sum: u64) -> Checked
     requires { ⌜ fault ≤ CODES ⌝ }
-    ensures { λ r. ⌜ r ≡ answerOf (refusalBy (eqb fault CODES) (totalFits sum)) fault ⌝ }
+    ensures { λ r. ⌜ r ≡ checkedOf (refusalByTests (eqb fault CODES) (totalFits sum)) fault ⌝ }
 {
     let number = refusal(fault, sum);
     if number == 0 {
@@ -105,8 +105,8 @@ fn answer(fault: usize, sum: u64) -> Checked
 // Is the analysis in range, or with which number is it refused? One walk from the last code to the first finds the
 // lowest code at fault, CODES where there is none, and the total.
 pub fn check(a: Analysis) -> Checked
-    ensures { λ r. ⌜ r ≡ answerOf (refusalOf (a .amounts)) (codeOf r) ⌝ }
-    ensures { λ r. ⌜ (numberOf r ≡ 5 → AtFault (a .amounts) (codeOf r)) ⌝ }
+    ensures { λ r. ⌜ r ≡ checkedOf (analysisRefusal (a .amounts)) (faultOf r) ⌝ }
+    ensures { λ r. ⌜ (numberOf r ≡ 5 → AtFault (a .amounts) (faultOf r)) ⌝ }
 {
     let amounts = a.amounts;
     let ranges = RANGES;

@@ -10,7 +10,7 @@ use mir.ValLaws.{toZ-ofZ}
 use Rattle.integer.specs.Laws.Ring.{mag-le}
 use Rattle.split.specs.declared.Answer.{Answer}
 use Rattle.split.specs.declared.Answer.the-variants.{Rated, Refused}
-use Rattle.split.specs.AnswerCases.{numberOf, codeOf, figuresOf, heldOf}
+use Rattle.split.specs.AnswerCases.{numberOf, faultOf, figuresOf, bufferOf}
 use Rattle.rating.specs.declared.Outcome.{Outcome}
 use Rattle.demand.specs.Small.{SmallFigures}
 use Rattle.c_reply.specs.Interface.{codeIn, replyOf}
@@ -42,18 +42,18 @@ module _ (x : Answer) (number place : ℕ) (e : x ≡ Refused number place) wher
 
 -- ---- number and place tell the code that 5 carries
 
-code-kept : (x : Answer) → codeIn (replyOf x) ≡ codeOf x
+code-kept : (x : Answer) → codeIn (replyOf x) ≡ faultOf x
 code-kept (Rated w s r) = refl
 code-kept (Refused number place) = refl
 
-same-code : (x : Answer) (r : Reply) → r ≡ replyOf x → codeIn r ≡ codeOf x
+same-code : (x : Answer) (r : Reply) → r ≡ replyOf x → codeIn r ≡ faultOf x
 same-code x r e = ap codeIn e ∙ code-kept x
 
-pub fault-at : (x : Answer) (r : Reply) → r ≡ replyOf x → (P : ℕ → Type 0) → (numberOf x ≡ 5 → P (codeOf x)) → r .number ≡ 5 → P (codeIn r)
+pub fault-at : (x : Answer) (r : Reply) → r ≡ replyOf x → (P : ℕ → Type 0) → (numberOf x ≡ 5 → P (faultOf x)) → r .number ≡ 5 → P (codeIn r)
 fault-at x r e P p z = subst P (sym (same-code x r e)) (p (sym (ap (λ (y : Reply). y .number) e) ∙ z))
 
 -- `f` gives the answer for a code with 5
-module _ (f : ℕ → Answer) (x : Answer) (h : x ≡ f (codeOf x)) (r : Reply) (e : r ≡ replyOf x) where
+module _ (f : ℕ → Answer) (x : Answer) (h : x ≡ f (faultOf x)) (r : Reply) (e : r ≡ replyOf x) where
   answered : x ≡ f (codeIn r)
   answered = h ∙ ap f (sym (same-code x r e))
 
@@ -69,12 +69,12 @@ abbrev Put : Outcome → Reply → (figures₀ figures : List ℤ) (count₀ cou
 Put x r figures₀ figures count₀ count systems₀ systems codes₀ codes parts₀ parts =
     (r ≡ replyOf (x .answer))
     × (figures ≡ figuresOf (x .answer) figures₀)
-    × (count ≡ heldOf (x .answer) (x .split .count) count₀)
-    × (systems ≡ heldOf (x .answer) (x .split .systems) systems₀)
-    × (codes ≡ heldOf (x .answer) (x .split .codes) codes₀)
-    × (parts ≡ heldOf (x .answer) (x .split .amounts) parts₀)
+    × (count ≡ bufferOf (x .answer) (x .split .count) count₀)
+    × (systems ≡ bufferOf (x .answer) (x .split .systems) systems₀)
+    × (codes ≡ bufferOf (x .answer) (x .split .codes) codes₀)
+    × (parts ≡ bufferOf (x .answer) (x .split .amounts) parts₀)
 
-module _ (f : ℕ → Outcome) (x : Outcome) (h : x ≡ f (codeOf (x .answer))) (r : Reply) (figures₀ figures : List ℤ) (count₀ count : ℕ) (systems₀ systems codes₀ codes parts₀ parts : List ℕ) (p : Put x r figures₀ figures count₀ count systems₀ systems codes₀ codes parts₀ parts) where
+module _ (f : ℕ → Outcome) (x : Outcome) (h : x ≡ f (faultOf (x .answer))) (r : Reply) (figures₀ figures : List ℤ) (count₀ count : ℕ) (systems₀ systems codes₀ codes parts₀ parts : List ℕ) (p : Put x r figures₀ figures count₀ count systems₀ systems codes₀ codes parts₀ parts) where
   pub put-is : Put (f (codeIn r)) r figures₀ figures count₀ count systems₀ systems codes₀ codes parts₀ parts
   put-is =
       subst (λ (y : Outcome). Put y r figures₀ figures count₀ count systems₀ systems codes₀ codes parts₀ parts)

@@ -6,7 +6,7 @@ ghost use mathlib.Core.Path.{_≡_};
 ghost use lib.ListN.{getD};
 ghost use Rattle.analysis.specs.Check.{AtFault};
 ghost use Rattle.sheet.specs.Read.{FaultIn};
-ghost use Rattle.split.specs.AnswerCases.{numberOf, codeOf, figuresOf, heldOf};
+ghost use Rattle.split.specs.AnswerCases.{numberOf, faultOf, figuresOf, bufferOf};
 ghost use Rattle.rating.specs.Rate.{splitAnswer, searchOutcome, sheetOutcome};
 ghost use Rattle.demand.specs.Small.{SmallFigures};
 ghost use Rattle.c_reply.specs.Interface.{codeIn, replyOf, splitFrom};
@@ -26,8 +26,8 @@ pub const FIGURES: usize = 3;
 
 // The rating of a sheet, with figures that fit.
 fn rated(sheet: &[u8]) -> Outcome
-    ensures { λ r. ⌜ (r ≡ sheetOutcome (now (sheet .entry)) (codeOf (r .answer)))
-        × (numberOf (r .answer) ≡ 5 → FaultIn (getD (now (sheet .entry)) 0 0) (now (sheet .entry)) (codeOf (r .answer)))
+    ensures { λ r. ⌜ (r ≡ sheetOutcome (now (sheet .entry)) (faultOf (r .answer)))
+        × (numberOf (r .answer) ≡ 5 → FaultIn (getD (now (sheet .entry)) 0 0) (now (sheet .entry)) (faultOf (r .answer)))
         × SmallFigures (r .answer) ⌝ }
 {
     rating::rate_sheet(sheet)
@@ -35,16 +35,16 @@ fn rated(sheet: &[u8]) -> Outcome
 
 // The rating by the search, with figures that fit.
 fn searched(amounts: [u32; CODES], allowance: u32) -> Outcome
-    ensures { λ r. ⌜ (r ≡ searchOutcome amounts allowance (codeOf (r .answer)))
-        × (numberOf (r .answer) ≡ 5 → AtFault amounts (codeOf (r .answer))) × SmallFigures (r .answer) ⌝ }
+    ensures { λ r. ⌜ (r ≡ searchOutcome amounts allowance (faultOf (r .answer)))
+        × (numberOf (r .answer) ≡ 5 → AtFault amounts (faultOf (r .answer))) × SmallFigures (r .answer) ⌝ }
 {
     rating::rate_by_search(Analysis { amounts }, allowance)
 }
 
 // The rating of a proposed split, with figures that fit.
 fn proposed(amounts: [u32; CODES], split: Split) -> Answer
-    ensures { λ r. ⌜ (r ≡ splitAnswer amounts split (codeOf r))
-        × (numberOf r ≡ 5 → AtFault amounts (codeOf r)) × SmallFigures r ⌝ }
+    ensures { λ r. ⌜ (r ≡ splitAnswer amounts split (faultOf r))
+        × (numberOf r ≡ 5 → AtFault amounts (faultOf r)) × SmallFigures r ⌝ }
 {
     rating::rate_split(Analysis { amounts }, split)
 }
@@ -77,10 +77,10 @@ fn put_outcome(
     requires { ⌜ SmallFigures (x .answer) ⌝ }
     ensures { λ r. ⌜ (r ≡ replyOf (x .answer))
         × (now (figures .exit) ≡ figuresOf (x .answer) (now (figures .entry)))
-        × (now (count .exit) ≡ heldOf (x .answer) (x .split .count) (now (count .entry)))
-        × (now (systems .exit) ≡ heldOf (x .answer) (x .split .systems) (now (systems .entry)))
-        × (now (codes .exit) ≡ heldOf (x .answer) (x .split .codes) (now (codes .entry)))
-        × (now (parts .exit) ≡ heldOf (x .answer) (x .split .amounts) (now (parts .entry))) ⌝ }
+        × (now (count .exit) ≡ bufferOf (x .answer) (x .split .count) (now (count .entry)))
+        × (now (systems .exit) ≡ bufferOf (x .answer) (x .split .systems) (now (systems .entry)))
+        × (now (codes .exit) ≡ bufferOf (x .answer) (x .split .codes) (now (codes .entry)))
+        × (now (parts .exit) ≡ bufferOf (x .answer) (x .split .amounts) (now (parts .entry))) ⌝ }
 {
     let answer = x.answer;
     let split = x.split;
@@ -100,10 +100,10 @@ pub fn rate_sheet(
 ) -> Reply
     ensures { λ r. let x = sheetOutcome (now (sheet .entry)) (codeIn r) in ⌜ (r ≡ replyOf (x .answer))
         × (now (figures .exit) ≡ figuresOf (x .answer) (now (figures .entry)))
-        × (now (count .exit) ≡ heldOf (x .answer) (x .split .count) (now (count .entry)))
-        × (now (systems .exit) ≡ heldOf (x .answer) (x .split .systems) (now (systems .entry)))
-        × (now (codes .exit) ≡ heldOf (x .answer) (x .split .codes) (now (codes .entry)))
-        × (now (parts .exit) ≡ heldOf (x .answer) (x .split .amounts) (now (parts .entry))) ⌝ }
+        × (now (count .exit) ≡ bufferOf (x .answer) (x .split .count) (now (count .entry)))
+        × (now (systems .exit) ≡ bufferOf (x .answer) (x .split .systems) (now (systems .entry)))
+        × (now (codes .exit) ≡ bufferOf (x .answer) (x .split .codes) (now (codes .entry)))
+        × (now (parts .exit) ≡ bufferOf (x .answer) (x .split .amounts) (now (parts .entry))) ⌝ }
     ensures { λ r. ⌜ (r .number ≡ 5 → FaultIn (getD (now (sheet .entry)) 0 0) (now (sheet .entry)) (codeIn r)) ⌝ }
 {
     let outcome = rated(sheet);
@@ -122,10 +122,10 @@ pub fn rate_by_search(
 ) -> Reply
     ensures { λ r. let x = searchOutcome (now (amounts .entry)) allowance (codeIn r) in ⌜ (r ≡ replyOf (x .answer))
         × (now (figures .exit) ≡ figuresOf (x .answer) (now (figures .entry)))
-        × (now (count .exit) ≡ heldOf (x .answer) (x .split .count) (now (count .entry)))
-        × (now (systems .exit) ≡ heldOf (x .answer) (x .split .systems) (now (systems .entry)))
-        × (now (codes .exit) ≡ heldOf (x .answer) (x .split .codes) (now (codes .entry)))
-        × (now (parts .exit) ≡ heldOf (x .answer) (x .split .amounts) (now (parts .entry))) ⌝ }
+        × (now (count .exit) ≡ bufferOf (x .answer) (x .split .count) (now (count .entry)))
+        × (now (systems .exit) ≡ bufferOf (x .answer) (x .split .systems) (now (systems .entry)))
+        × (now (codes .exit) ≡ bufferOf (x .answer) (x .split .codes) (now (codes .entry)))
+        × (now (parts .exit) ≡ bufferOf (x .answer) (x .split .amounts) (now (parts .entry))) ⌝ }
     ensures { λ r. ⌜ (r .number ≡ 5 → AtFault (now (amounts .entry)) (codeIn r)) ⌝ }
 {
     let gas = *amounts;

@@ -52,7 +52,7 @@ readReply x = reply (reading.numberOf x) (reading.placeOf x)
 
 -- amounts, or a split's count or column
 abbrev pub readOr {ℓ} : {A : Type ℓ} → Reading → A → A → A
-readOr x new old = reading.heldOf x new old
+readOr x new old = reading.bufferOf x new old
 
 -- ---- writing
 

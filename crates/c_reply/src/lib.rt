@@ -3,7 +3,7 @@
 //
 // No public function has a `requires`.
 ghost use mathlib.Core.Path.{_≡_};
-ghost use Rattle.split.specs.AnswerCases.{heldOf};
+ghost use Rattle.split.specs.AnswerCases.{bufferOf};
 ghost use Rattle.c_reply.specs.Interface.{reply, replyOf, splitFrom};
 use sheet::RECORDS;
 use sheet::Split;
@@ -66,10 +66,10 @@ pub fn put_split(
     codes: &mut [u8; RECORDS],
     parts: &mut [u32; RECORDS],
 )
-    ensures { λ _. ⌜ (now (count .exit) ≡ heldOf answer (split .count) (now (count .entry)))
-        × (now (systems .exit) ≡ heldOf answer (split .systems) (now (systems .entry)))
-        × (now (codes .exit) ≡ heldOf answer (split .codes) (now (codes .entry)))
-        × (now (parts .exit) ≡ heldOf answer (split .amounts) (now (parts .entry))) ⌝ }
+    ensures { λ _. ⌜ (now (count .exit) ≡ bufferOf answer (split .count) (now (count .entry)))
+        × (now (systems .exit) ≡ bufferOf answer (split .systems) (now (systems .entry)))
+        × (now (codes .exit) ≡ bufferOf answer (split .codes) (now (codes .entry)))
+        × (now (parts .exit) ≡ bufferOf answer (split .amounts) (now (parts .entry))) ⌝ }
 {
     let found_count = split.count;
     let found_systems = split.systems;

@@ -25,7 +25,7 @@ use Rattle.c_reply.specs.declared.Reply.{Reply}
 
 -- ---- writing: only 5 carries a code
 
-carries : (t : Bool) (n len c : ℕ) → write.codeOf (cond t (Length len) (Refused n (cond (eqb n 5) c 0)))
+carries : (t : Bool) (n len c : ℕ) → write.faultOf (cond t (Length len) (Refused n (cond (eqb n 5) c 0)))
     ≡ cond (eqb (write.numberOf (cond t (Length len) (Refused n (cond (eqb n 5) c 0)))) 5) c 0
 carries true n len c = refl
 carries false n len c = go (eqb n 5)
@@ -36,29 +36,29 @@ carries false n len c = go (eqb n 5)
 
 -- the writer's promise, of the split that it was given
 pub written-by : (a : List ℕ) (p q : Split) (b : List ℕ) (r : Written) (left : List ℕ) → p ≡ q
-    → r ≡ writtenOf a p (length b) (write.codeOf r) → left ≡ leftOf a p b → (write.numberOf r ≡ 5 → AtFault a (write.codeOf r))
+    → r ≡ writtenOf a p (length b) (write.faultOf r) → left ≡ leftOf a p b → (write.numberOf r ≡ 5 → AtFault a (write.faultOf r))
     → WrittenAs a q b r left
 written-by a p q b r left e x y z =
     subst (λ (s : Split). WrittenAs a s b r left) e (record { answer = x; buffer = y; code = z })
 
 module _ (a : List ℕ) (p : Split) (b : List ℕ) (r : Written) (left : List ℕ) (w : WrittenAs a p b r left) where
-  coded : write.codeOf r ≡ cond (eqb (write.numberOf r) 5) (write.codeOf r) 0
+  coded : write.faultOf r ≡ cond (eqb (write.numberOf r) 5) (write.faultOf r) 0
   unfolding writtenOf
   coded =
-      ap write.codeOf (w .answer)
-      ∙ carries (eqb (writeRefusal a p (length b)) 0) (writeRefusal a p (length b)) (length (sheetOf a p)) (write.codeOf r)
-      ∙ sym (ap (λ (x : Written). cond (eqb (write.numberOf x) 5) (write.codeOf r) 0) (w .answer))
+      ap write.faultOf (w .answer)
+      ∙ carries (eqb (writeRefusal a p (length b)) 0) (writeRefusal a p (length b)) (length (sheetOf a p)) (write.faultOf r)
+      ∙ sym (ap (λ (x : Written). cond (eqb (write.numberOf x) 5) (write.faultOf r) 0) (w .answer))
 
   pub written-done : (n : ℕ) → r ≡ Length n → (old : ℕ)
       → ((reply 0 0 ≡ writtenReply (writtenOf a p (size b) 0)) × (left ≡ leftOf a p b) × (n ≡ writtenLength (writtenOf a p (size b) 0) old))
       × (_≡_ {A = ℕ} 0 5 → AtFault a 0)
   written-done n e old =
-      let f : writtenOf a p (length b) 0 ≡ Length n = ap (writtenOf a p (length b)) (sym (ap write.codeOf e)) ∙ sym (w .answer) ∙ e in
+      let f : writtenOf a p (length b) 0 ≡ Length n = ap (writtenOf a p (length b)) (sym (ap write.faultOf e)) ∙ sym (w .answer) ∙ e in
       ((sym (ap writtenReply f), w .buffer, sym (ap (λ (x : Written). writtenLength x old) f)), λ (z : _≡_ {A = ℕ} 0 5). absurd (omega (arith, z)))
 
   module _ (number code : ℕ) (e : r ≡ Refused number code) where
-    same : write.codeOf r ≡ codeIn (reply number code)
-    same = ap write.codeOf e ∙ subst (λ (x : Written). write.codeOf x ≡ cond (eqb (write.numberOf x) 5) (write.codeOf x) 0) e coded
+    same : write.faultOf r ≡ codeIn (reply number code)
+    same = ap write.faultOf e ∙ subst (λ (x : Written). write.faultOf x ≡ cond (eqb (write.numberOf x) 5) (write.faultOf x) 0) e coded
 
     answer-back : writtenOf a p (length b) (codeIn (reply number code)) ≡ Refused number code
     answer-back = ap (writtenOf a p (length b)) (sym same) ∙ sym (w .answer) ∙ e
@@ -101,7 +101,7 @@ module _ (s : List ℕ) (r : Sheet) (h : ReadAs s r) (number place code : ℕ) (
     pub read-fault : o .number ≡ 5 → FaultIn (getD s 0 0) s (codeIn o)
     read-fault z =
         subst⁻¹ (λ (c : ℕ). FaultIn (getD s 0 0) s c) (ap codeIn q ∙ same-code)
-        (subst (FaultIn (getD s 0 0) s) (ap read.codeOf e) (h .code (ap read.numberOf e ∙ ap (λ (x : Reply). x .number) (sym q) ∙ z)))
+        (subst (FaultIn (getD s 0 0) s) (ap read.faultOf e) (h .code (ap read.numberOf e ∙ ap (λ (x : Reply). x .number) (sym q) ∙ z)))
 
 module _ (s : List ℕ) (r : Sheet) (h : ReadAs s r) (e : r .answer ≡ reading.Read) where
   pub whole : r ≡ readOf s 0

@@ -13,39 +13,40 @@ use lib.Pow.{pow-mono}
 use lib.ListN.{getD, set, length, drop, replicate, length-set, getD-replicate}
 use lib.Seq.{getD-set-same, getD-set-other}
 use borrow.Author.Tests.{lt-ltb, le-ltb, eqb-true, eqb-false, eq-eqb, ne-eqb}
-use Rattle.systems.specs.Systems.{COMPONENTS, memberOf, hasOf, elem, candidates}
-use Rattle.systems.specs.Choice.{NUMBERS, hydrocarbonOrder, order, fold, weightedOf, fitnessOf, allTo, maskFrom, maskOf, inMask, presentOf, presentIn, standingOf, candidatesFor, keep, isChosen, oneIf, countOf, containingOf, scoreOf, betterOf, fittestOf, takeOf, passOf, marksOf}
+use Rattle.refusal.specs.Keys.{isIn}
+use Rattle.systems.specs.Systems.{COMPONENTS, memberOf, hasOf, candidates}
+use Rattle.systems.specs.Choice.{NUMBERS, hydrocarbonOrder, order, fold, weightedParts, fitnessOf, allTo, maskFrom, maskOf, inMask, presentOf, presentIn, standingOf, candidatesFor, keep, isChosen, oneIf, countOf, containingOf, scoreOf, betterOf, fittestOf, takeOf, passOf, marksOf}
 use Rattle.systems.specs.Laws.Table.{none-has, to-true, everyTo, eachTo}
 use Rattle.systems.specs.Laws.Presence.{Every, every-elem, mask-lt}
 use Rattle.systems.specs.Without.{HYDROCARBONS}
 use Rattle.systems.specs.Laws.Scores.{better-next, better-before}
-use Rattle.choice.specs.Inner.Keys.{KEYS, weighedTo, keyOf, Keyed}
+use Rattle.choice.specs.Inner.Keys.{KEYS, keyWeights, keyOf, Keyed}
 use Rattle.choice.proofs.Loops.{next, done}
 use Rattle.choice.proofs.Packed.{offered-few, offered-past, candidate-lt, candidates-apart}
 
 -- ---- the fitness of a candidate
 
-pub weighed-next : (mix : List ℕ) (system c k x : ℕ) → k ≡ weighedTo mix system c + 1 → x ≡ cond (hasOf system c) (weightedOf mix c) 0 → k + x ≡ weighedTo mix system (c + 1) + 1
-unfolding weighedTo
+pub weighed-next : (mix : List ℕ) (system c k x : ℕ) → k ≡ keyWeights mix system c + 1 → x ≡ cond (hasOf system c) (weightedParts mix c) 0 → k + x ≡ keyWeights mix system (c + 1) + 1
+unfolding keyWeights
 weighed-next mix system c k x e w = rw (add-one c) (omega (arith, e, w))
 
 -- the components that a candidate contains are its members
-fitness-at : (mix : List ℕ) (s : ℕ) → elem s candidates ≡ true → weighedTo mix s COMPONENTS ≡ fitnessOf mix s
-unfolding Every weighedTo fitnessOf hasOf memberOf
+fitness-at : (mix : List ℕ) (s : ℕ) → isIn s candidates ≡ true → keyWeights mix s COMPONENTS ≡ fitnessOf mix s
+unfolding Every keyWeights fitnessOf hasOf memberOf
 fitness-at mix =
-    every-elem (λ s. weighedTo mix s COMPONENTS ≡ fitnessOf mix s) candidates
+    every-elem (λ s. keyWeights mix s COMPONENTS ≡ fitnessOf mix s) candidates
     (omega arith, (omega arith, (omega arith, (omega arith, (omega arith, (omega arith, (omega arith, omega arith)))))))
 
 listedAt : Bool → ℕ → Bool
-listedAt hy i = elem (getD (candidatesFor hy) i 0) candidates
+listedAt hy i = isIn (getD (candidatesFor hy) i 0) candidates
 
 listed-all : (hy : Bool) → T (everyTo (listedAt hy) (length (candidatesFor hy)))
-unfolding listedAt elem
+unfolding listedAt isIn
 listed-all true = tt
 listed-all false = tt
 
 pub fitness-is : (hy : Bool) (mix : List ℕ) (i : ℕ) → i < length (candidatesFor hy)
-    → weighedTo mix (getD (candidatesFor hy) i 0) COMPONENTS ≡ fitnessOf mix (getD (candidatesFor hy) i 0)
+    → keyWeights mix (getD (candidatesFor hy) i 0) COMPONENTS ≡ fitnessOf mix (getD (candidatesFor hy) i 0)
 unfolding listedAt
 fitness-is hy mix i h =
     fitness-at mix (getD (candidatesFor hy) i 0)
@@ -53,7 +54,7 @@ fitness-is hy mix i h =
 
 -- ---- the number present, and the standing
 
-pub all-next : (mix : List ℕ) (c k x : ℕ) → k ≡ allTo mix c + 1 → x ≡ weightedOf mix c → k + x ≡ allTo mix (c + 1) + 1
+pub all-next : (mix : List ℕ) (c k x : ℕ) → k ≡ allTo mix c + 1 → x ≡ weightedParts mix c → k + x ≡ allTo mix (c + 1) + 1
 unfolding allTo
 all-next mix c k x e w = rw (add-one c) (omega (arith, e, w))
 
@@ -86,7 +87,7 @@ unfolding presentIn
 count-is-present p system m n e f = rw (e, f) (refl, present-le p system)
 
 pub standing-is : (hy : Bool) (mix : List ℕ) (i p top n f : ℕ) → i < length (candidatesFor hy) → p ≡ presentOf mix → top ≡ allTo mix COMPONENTS + 1 → n ≡ presentIn p (getD (candidatesFor hy) i 0)
-    → f ≡ weighedTo mix (getD (candidatesFor hy) i 0) COMPONENTS + 1 → n * top + f ≡ standingOf mix (getD (candidatesFor hy) i 0) + 1
+    → f ≡ keyWeights mix (getD (candidatesFor hy) i 0) COMPONENTS + 1 → n * top + f ≡ standingOf mix (getD (candidatesFor hy) i 0) + 1
 unfolding standingOf
 standing-is hy mix i p top n f h e t q w =
     let g : f ≡ fitnessOf mix (getD (candidatesFor hy) i 0) + 1 = w ∙ ap (λ (x : ℕ). x + 1) (fitness-is hy mix i h) in

@@ -8,7 +8,7 @@ use native.Mathlib.Omega.{arith}
 use lib.ListN.{getD, set, length, drop, replicate, length-append}
 use lib.Seq.{set-at, append-snoc}
 use Rattle.systems.specs.Systems.{COMPONENTS, HYDROGEN}
-use Rattle.systems.specs.Choice.{NUMBERS, SYSTEMS, hydrocarbonOrder, order, takeOf, passOf, marksOf, fold, isChosen, keep, inMask, presentOf, standingOf, candidatesFor, candidatesOf, listOf, chosenOf, chooseBy, paddedOf, answerOf, choiceOf}
+use Rattle.systems.specs.Choice.{NUMBERS, SYSTEMS, hydrocarbonOrder, order, takeOf, passOf, marksOf, fold, isChosen, keep, inMask, presentOf, standingOf, candidatesFor, candidatesOf, listOf, chosenOf, chooseBy, paddedOf, choiceFrom, choiceOf}
 use Rattle.systems.specs.Laws.Presence.{choose-is}
 use Rattle.systems.specs.Without.{HYDROCARBONS, keep-without}
 use borrow.Author.Tests.{eq-eqb, ne-eqb}
@@ -66,7 +66,7 @@ module _ (hy : Bool) (marks : List Bool) where
         }
 
   pub listed-all : (count : ℕ) (systems : List ℕ) (i : ℕ) → Listed hy marks count systems i → length (candidatesFor hy) ≤ i
-      → _≡_ {A = Choice} (record { count = count; systems = systems }) (answerOf (chosenOf (candidatesFor hy) marks))
+      → _≡_ {A = Choice} (record { count = count; systems = systems }) (choiceFrom (chosenOf (candidatesFor hy) marks))
   listed-all count systems i k h =
       let e : k .sofar ≡ chosenOf (candidatesFor hy) marks = done (listOf marks) (candidatesFor hy) i (k .sofar) (chosenOf (candidatesFor hy) marks) h (k .rest) in
       λ j. record { count = (k .counted ∙ ap length e) j; systems = (k .padded ∙ ap paddedOf e) j }
@@ -89,7 +89,7 @@ module _ (hy : Bool) (keys : List ℕ) (count : ℕ) (systems : List ℕ) (i : �
       listed-same hy marks count systems i (getD (candidatesFor hy) i 0) (k fit marks d) h refl (open-of-key fit marks (getD (candidatesFor hy) i 0) (λ w. z (d .at i h ∙ w)))
 
 pub lists-all : (hy : Bool) (keys : List ℕ) (count : ℕ) (systems : List ℕ) (i : ℕ) → Lists hy keys count systems i → length (candidatesFor hy) ≤ i
-    → (fit : ℕ → ℕ) → (marks : List Bool) → Keyed hy fit marks keys → _≡_ {A = Choice} (record { count = count; systems = systems }) (answerOf (chosenOf (candidatesFor hy) marks))
+    → (fit : ℕ → ℕ) → (marks : List Bool) → Keyed hy fit marks keys → _≡_ {A = Choice} (record { count = count; systems = systems }) (choiceFrom (chosenOf (candidatesFor hy) marks))
 lists-all hy keys count systems i k h fit marks d = listed-all hy marks count systems i (k fit marks d) h
 
 -- ---- the turns of the components
@@ -134,29 +134,29 @@ turns-all p fresh keys i k h l fit f =
 -- the turns and the list make the choice
 pub choice-is : (hy : Bool) (mix keys components : List ℕ) (r : Choice)
     → Keyed hy (standingOf mix) (marksOf (standingOf mix) (candidatesFor hy) components) keys
-    → ((fit : ℕ → ℕ) → (marks : List Bool) → Keyed hy fit marks keys → r ≡ answerOf (chosenOf (candidatesFor hy) marks))
-    → r ≡ answerOf (chooseBy (standingOf mix) (candidatesFor hy) components)
+    → ((fit : ℕ → ℕ) → (marks : List Bool) → Keyed hy fit marks keys → r ≡ choiceFrom (chosenOf (candidatesFor hy) marks))
+    → r ≡ choiceFrom (chooseBy (standingOf mix) (candidatesFor hy) components)
 choice-is hy mix keys components r k t = t (standingOf mix) (marksOf (standingOf mix) (candidatesFor hy) components) k
 
 -- among the candidates that there are
 module _ (mix : List ℕ) (p : ℕ) (r : Choice) (e : p ≡ presentOf mix) where
   offered-choice : (hy : Bool) → inMask p HYDROGEN ≡ hy
-      → r ≡ answerOf (chooseBy (standingOf mix) (candidatesFor hy) (keep p order)) → r ≡ choiceOf mix
+      → r ≡ choiceFrom (chooseBy (standingOf mix) (candidatesFor hy) (keep p order)) → r ≡ choiceOf mix
   unfolding candidatesOf
   offered-choice hy h f =
-      f ∙ ap (λ b. answerOf (chooseBy (standingOf mix) (candidatesFor b) (keep p order))) (sym h)
-      ∙ ap (λ q. answerOf (chooseBy (standingOf mix) (candidatesOf q) (keep q order))) e
-      ∙ ap answerOf (sym (choose-is mix))
+      f ∙ ap (λ b. choiceFrom (chooseBy (standingOf mix) (candidatesFor b) (keep p order))) (sym h)
+      ∙ ap (λ q. choiceFrom (chooseBy (standingOf mix) (candidatesOf q) (keep q order))) e
+      ∙ ap choiceFrom (sym (choose-is mix))
 
   pub choice-all : p / 2 ^ HYDROGEN % 2 ≡ 1
-      → r ≡ answerOf (chooseBy (standingOf mix) (candidatesFor true) (keep p order)) → r ≡ choiceOf mix
+      → r ≡ choiceFrom (chooseBy (standingOf mix) (candidatesFor true) (keep p order)) → r ≡ choiceOf mix
   unfolding inMask
   choice-all h = offered-choice true (eq-eqb (p / 2 ^ HYDROGEN % 2) 1 h)
 
   pub choice-hydrocarbons : (p / 2 ^ HYDROGEN % 2 ≡ 1 → ⊥)
-      → r ≡ answerOf (chooseBy (standingOf mix) (candidatesFor false) (keep p hydrocarbonOrder)) → r ≡ choiceOf mix
+      → r ≡ choiceFrom (chooseBy (standingOf mix) (candidatesFor false) (keep p hydrocarbonOrder)) → r ≡ choiceOf mix
   unfolding inMask keep
   choice-hydrocarbons h f =
       let absent = ne-eqb (p / 2 ^ HYDROGEN % 2) 1 h in
       offered-choice false absent
-      (f ∙ ap (λ l. answerOf (chooseBy (standingOf mix) (candidatesFor false) l)) (sym (keep-without p absent)))
+      (f ∙ ap (λ l. choiceFrom (chooseBy (standingOf mix) (candidatesFor false) l)) (sym (keep-without p absent)))

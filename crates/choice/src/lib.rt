@@ -7,9 +7,9 @@ ghost use mathlib.Core.List.{List};
 ghost use lib.ListN.{getD, length, replicate};
 ghost use Rattle.systems.specs.Systems.{COMPONENTS, hasOf};
 ghost use Rattle.systems.specs.Choice.{NUMBERS, weights, order, allTo, presentOf, presentCount, presentIn};
-ghost use Rattle.systems.specs.Choice.{standingOf, candidatesFor, keep, takeOf, passOf, answerOf, chosenOf, chooseBy};
+ghost use Rattle.systems.specs.Choice.{standingOf, candidatesFor, keep, takeOf, passOf, choiceFrom, chosenOf, chooseBy};
 ghost use Rattle.systems.specs.Choice.{hydrocarbonOrder, marksOf, choiceOf};
-ghost use Rattle.choice.specs.Inner.Keys.{KEYS, Keyed, weighedTo};
+ghost use Rattle.choice.specs.Inner.Keys.{KEYS, Keyed, keyWeights};
 use systems::COMPONENTS;
 use systems::Choice;
 use systems::HYDROGEN;
@@ -98,7 +98,7 @@ fn weighted(hydrogen: bool, i: usize, c: usize, x: u32) -> u64
 // The fitness of the candidate in place i times 480, and 1.
 fn fitness(m: [u32; COMPONENTS], hydrogen: bool, i: usize) -> u64
     requires { ⌜ i < length (candidatesFor hydrogen) ⌝ }
-    ensures { λ r. ⌜ (r ≡ weighedTo m (getD (candidatesFor hydrogen) i 0) COMPONENTS + 1)
+    ensures { λ r. ⌜ (r ≡ keyWeights m (getD (candidatesFor hydrogen) i 0) COMPONENTS + 1)
         × (r ≤ 429496729500 * COMPONENTS + 1) ⌝ }
 {
     let mut k: u64 = 1;
@@ -253,7 +253,7 @@ fn hydrocarbon_turns(keys: &mut [u64; KEYS], p: u32)
 // The chosen systems, in the order of the candidates.
 fn listed(keys: [u64; KEYS], hydrogen: bool) -> Choice
     ensures { λ r. ⌜ ((standing : ℕ → ℕ) → (marks : List Bool) → Keyed hydrogen standing marks keys
-        → r ≡ answerOf (chosenOf (candidatesFor hydrogen) marks)) ⌝ }
+        → r ≡ choiceFrom (chosenOf (candidatesFor hydrogen) marks)) ⌝ }
 {
     let n = candidates(hydrogen);
     let mut count: usize = 0;
@@ -272,7 +272,7 @@ fn listed(keys: [u64; KEYS], hydrogen: bool) -> Choice
 // The choice among all candidates: the components present take one system each and then two.
 fn among_all(m: [u32; COMPONENTS], p: u32) -> Choice
     requires { ⌜ p ≡ presentOf m ⌝ }
-    ensures { λ r. ⌜ r ≡ answerOf (chooseBy (standingOf m) (candidatesFor true) (keep p order)) ⌝ }
+    ensures { λ r. ⌜ r ≡ choiceFrom (chooseBy (standingOf m) (candidatesFor true) (keep p order)) ⌝ }
 {
     let mut keys = keys_of(m, p, true);
     pass(&mut keys, p, 1);
@@ -283,7 +283,7 @@ fn among_all(m: [u32; COMPONENTS], p: u32) -> Choice
 // The same among those of hydrocarbons. Of its own: compiled, each has its number of candidates as a constant.
 fn among_hydrocarbons(m: [u32; COMPONENTS], p: u32) -> Choice
     requires { ⌜ p ≡ presentOf m ⌝ }
-    ensures { λ r. ⌜ r ≡ answerOf (chooseBy (standingOf m) (candidatesFor false) (keep p hydrocarbonOrder)) ⌝ }
+    ensures { λ r. ⌜ r ≡ choiceFrom (chooseBy (standingOf m) (candidatesFor false) (keep p hydrocarbonOrder)) ⌝ }
 {
     let mut keys = keys_of(m, p, false);
     hydrocarbon_turns(&mut keys, p);

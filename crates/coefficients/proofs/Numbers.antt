@@ -19,6 +19,7 @@ every f [] = true
 every f (m ∷ ms) = f m && every f ms
 
 pub each : (f : ℕ → Bool) (ms : List ℕ) → T (every f ms) → (n : ℕ) → isIn n ms ≡ true → T (f n)
+unfolding isIn
 each f [] t n h = absurd (subst⁻¹ T h tt)
 each f (m ∷ ms) t n h = at (eqb n m) refl h (each f ms (and-r (f m) (every f ms) t) n)
   where
@@ -33,6 +34,7 @@ Apart n [] = Unit {0}
 Apart n (m ∷ ms) = Apart n ms × (n ≡ m → ⊥)
 
 pub not-in : (n : ℕ) (ms : List ℕ) → Apart n ms → isIn n ms ≡ false
+unfolding isIn
 not-in n [] a = refl
 not-in n (m ∷ ms) a = at (eqb n m) refl (not-in n ms (a .0))
   where

@@ -30,7 +30,7 @@ beyond : (s : ℕ) → 21 ≤ s → Apart s printed
 beyond s h = above s 21 printed tt h
 
 pub none-beyond : (s : ℕ) → 21 ≤ s → false ≡ isSystem s
-unfolding isSystem
+unfolding isSystem isIn
 none-beyond s h = sym (ap (λ (b : Bool). b && keepsRule (getD tables (placeIn printed s) [])) (not-in s printed (beyond s h)))
 
 -- ---- a system's row of the table
@@ -46,7 +46,7 @@ abbrev among : ℕ → Bool
 among m = cond (isSystem m) (isIn m all) true
 
 no-system : (s : ℕ) → Apart s all → isSystem s ≡ false
-unfolding isSystem keepsRule sumAbs placeIn
+unfolding isSystem keepsRule sumAbs placeIn isIn
 no-system s a = at (isSystem s) refl
   where
     listed : isSystem s ≡ true → T (among s)

@@ -7,7 +7,7 @@ use Prim.Native.Nat.{ℕ, suc, _*_, _≤_}
 use native.Mathlib.Nat.{mul-assoc, mul-comm, mul-pos}
 use native.Mathlib.Omega.{arith}
 use lib.Dec.{T, le→leb, lt→ltb}
-use lib.IntN.{ℤ, pos, negsuc, natAbs}
+use lib.IntN.{ℤ, pos, negsuc, natAbs, negℤ}
 use lib.Ieee.{Float, nan, inf, fin, binary64, up, down, div, round, ofInt, ofBits, toBits, inFloat, whole, inSigned}
 use lib.Ieee.{toSigned}
 use lib.Ieee.Back.{positive-back, negative-back, round-whole}
@@ -98,6 +98,6 @@ divided-once units h =
 -- 250000000 units are 25.0; -12345678 units are the double nearest to -1.2345678
 pub examples :
     (methaneNumber (pos 250000000) ≡ ofBits binary64 0x4039_0000_0000_0000)
-    × (toBits binary64 (methaneNumber (negsuc 12345677)) ≡ 0xbff3_c0ca_2a5b_1d5d)
+    × (toBits binary64 (methaneNumber (negℤ (pos 12345678))) ≡ 0xbff3_c0ca_2a5b_1d5d)
 unfolding methaneNumber div ofInt ofBits toBits
 examples = (refl, refl)

@@ -11,14 +11,15 @@ use lib.Dec.{ltb}
 use lib.IntN.{ℤ, pos}
 use lib.ListN.{getD, length}
 use borrow.Author.Tests.{ltb-true, ltb-false, le-ltb}
+use Rattle.refusal.specs.Keys.{isIn}
 use Rattle.refusal.specs.Register.{TOO_FEW}
 use Rattle.formula.specs.WorkingRule.{worked, rowsOf, horner, coefs, sumAbs}
 use Rattle.formula.specs.Coefficients.{placeIn, keepsRule, isSystem, tableOf}
 use Rattle.formula.specs.Partial.{partialNumber}
 use Rattle.analysis.specs.Register.{CODES, statusOf}
-use Rattle.analysis.specs.Check.{inRange, totalFits, refusalOf}
+use Rattle.analysis.specs.Check.{inRange, totalFits, analysisRefusal}
 use Rattle.sheet.specs.declared.Split.{Split}
-use Rattle.mixture.specs.Simplification.{tenthsOf, amountOf, butaneOf}
+use Rattle.mixture.specs.Simplification.{tenthsOf, amountOfCode, butaneOf}
 use Rattle.mixture.specs.Inert.{methaneShare, inertFirst}
 use Rattle.mixture.specs.Scaling as scaling
 use Rattle.mixture.specs.Scaling.{distributed, scaledOf}
@@ -31,8 +32,8 @@ use Rattle.systems.specs.Choice as choice
 use Rattle.systems.specs.Laws.Presence.{present-count, two-present}
 use Rattle.split.specs.Fold.{sumTo, sumToZ, greatestTo, leastTo, allTo, someTo, table}
 use Rattle.split.specs.Laws.Folds.{sum-has}
-use Rattle.split.specs.Split.{cellOf, systemOf, columnOf, componentAt, cellsOf, partsOf, numberAt, heldOf, rankOf}
-use Rattle.split.specs.Rating.{spreadOf, weightedOf, meanOf, inertNumber, ratingOf, resums, someEmpty, proposedOf}
+use Rattle.split.specs.Split.{cellOf, systemOf, columnOf, componentAt, cellsOf, partsOf, rowNumber, heldOf, rankOf}
+use Rattle.split.specs.Rating.{spreadOf, weightedOf, meanOf, inertNumber, ratingOf, resums, someEmpty, proposedOf, LIMIT}
 use Rattle.split.specs.Fits.{Resums}
 use Rattle.split.specs.Refused.{refused-8-exactly-when}
 use Rattle.split.specs.Laws.Clean.{row-held}
@@ -40,7 +41,7 @@ use Rattle.split.specs.Laws.Places.{component-lt, component-has, rank-component
 use Rattle.split.specs.Laws.Records.{cells-cell}
 use Rattle.split.specs.Rated.{IsRated, rated-fit}
 use Rattle.split.specs.declared.Answer.the-variants.{Rated, Refused}
-use Rattle.rating.specs.Rate.{LIMIT, mixOf, systemsFor, countFor, ratingRefusal, splitAnswer, searchOutcome}
+use Rattle.rating.specs.Rate.{mixOf, systemsFor, countFor, ratingRefusal, splitAnswer, searchOutcome}
 use Rattle.rating.specs.RatedOn.{InRange, RatedOn}
 use Rattle.rating.specs.Laws.RatedOn.{enough-on, too-few}
 use Rattle.rating.specs.Laws.Ready.{chosen}
@@ -128,7 +129,7 @@ module _ (a : List ℕ) (long : length a ≡ CODES) (passed : InRange a) where
           absurd (omega (arith, simplified-absent a long passed c l (omega arith)))
 
   -- so hydrogen is, and with it systems 1, 5 and 6 are offered, exactly where code 15 is present
-  pub hydrogen-exactly-when : (0 < getD (mixOf a) HYDROGEN 0) ↔ (0 < amountOf a 15)
+  pub hydrogen-exactly-when : (0 < getD (mixOf a) HYDROGEN 0) ↔ (0 < amountOfCode a 15)
   unfolding tenthsOf
   hydrogen-exactly-when =
       let (only, when) = present-exactly-when HYDROGEN (omega arith) in
@@ -138,7 +139,7 @@ module _ (a : List ℕ) (long : length a ≡ CODES) (passed : InRange a) where
 
 -- ethane, propane, all that makes butane, and hydrogen are absent
 abbrev pub MethaneAlone : List ℕ → Type 0
-MethaneAlone a = (amountOf a 2 ≡ 0) × ((amountOf a 3 ≡ 0) × ((butaneOf a ≡ 0) × (amountOf a 15 ≡ 0)))
+MethaneAlone a = (amountOfCode a 2 ≡ 0) × ((amountOfCode a 3 ≡ 0) × ((butaneOf a ≡ 0) × (amountOfCode a 15 ≡ 0)))
 
 module _ (a : List ℕ) (long : length a ≡ CODES) (passed : InRange a) where
   alone-few : MethaneAlone a → ratingRefusal a ≡ TOO_FEW
@@ -189,11 +190,11 @@ module _ (a : List ℕ) (long : length a ≡ CODES) (passed : InRange a) where
 
 -- methane with ethane alone is rated on, and has systems 4 and 8
 two-passes : InRange methaneEthane
-unfolding refusalOf inRange totalFits statusOf
+unfolding analysisRefusal inRange totalFits statusOf
 two-passes = refl
 
 two-count : presentCount (mixOf methaneEthane) ≡ 2
-unfolding scaling.greatestTo distributed scaledOf tenthsOf presentOf maskFrom ones
+unfolding scaling.largestTo distributed scaledOf tenthsOf presentOf maskFrom ones
 two-count = refl
 
 pub two-on : ratingRefusal methaneEthane ≡ 0
@@ -211,8 +212,8 @@ sixAmounts = 331058 ∷ 5102 ∷ 0 ∷ 658738 ∷ 5102 ∷ 0 ∷ []
 six-rated : proposedOf LIMIT (paddedOf (4 ∷ 8 ∷ [])) 2 (989796 ∷ 10204 ∷ 0 ∷ 0 ∷ 0 ∷ [])
     (cellsOf (paddedOf (4 ∷ 8 ∷ [])) 2 sixAmounts) 980000 ≡ Rated (pos 974058216) 129517 0
 unfolding worked rowsOf horner coefs sumAbs placeIn keepsRule isSystem tableOf partialNumber memberOf hasOf paddedOf
-    sumTo sumToZ greatestTo leastTo allTo someTo table partsOf columnOf numberAt heldOf rankOf cellsOf spreadOf
-    weightedOf meanOf inertNumber ratingOf resums someEmpty proposedOf
+    sumTo sumToZ greatestTo leastTo allTo someTo table partsOf columnOf rowNumber heldOf rankOf cellsOf spreadOf
+    weightedOf meanOf inertNumber ratingOf resums someEmpty proposedOf isIn
 six-rated = refl
 
 pub two-rated : splitAnswer methaneEthane (proposal methaneEthane sixAmounts) 0 ≡ Rated (pos 974058216) 129517 0
@@ -230,11 +231,11 @@ abbrev alone : List ℕ
 alone = 0 ∷ 990000 ∷ 0 ∷ 0 ∷ 0 ∷ 0 ∷ 0 ∷ 0 ∷ 0 ∷ 0 ∷ 0 ∷ 10000 ∷ 0 ∷ 0 ∷ 0 ∷ 0 ∷ []
 
 alone-passes : InRange alone
-unfolding refusalOf inRange totalFits statusOf
+unfolding analysisRefusal inRange totalFits statusOf
 alone-passes = refl
 
 alone-count : presentCount (mixOf alone) ≡ 1
-unfolding scaling.greatestTo distributed scaledOf tenthsOf presentOf maskFrom ones
+unfolding scaling.largestTo distributed scaledOf tenthsOf presentOf maskFrom ones
 alone-count = refl
 
 pub alone-refused : ratingRefusal alone ≡ TOO_FEW

@@ -39,8 +39,8 @@ use Rattle.systems.specs.Choice.{presentAt, presentCount}
 use Rattle.systems.specs.Laws.Presence.{present-is, present-in-is}
 use Rattle.systems.specs.Chosen.{two-chosen, three-chosen, five-chosen}
 use Rattle.split.specs.Fold.{sumTo}
-use Rattle.split.specs.Split.{cellOf, systemOf, componentAt, cellsOf, partsOf, columnOf, numberAt}
-use Rattle.split.specs.Rating.{spreadOf, ratingOf}
+use Rattle.split.specs.Split.{cellOf, systemOf, componentAt, cellsOf, partsOf, columnOf, rowNumber}
+use Rattle.split.specs.Rating.{spreadOf, ratingOf, LIMIT}
 use Rattle.split.specs.Exact.{exactRating}
 use Rattle.split.specs.Laws.Places.{components-rise}
 use Rattle.split.specs.Laws.Spread.{near-spread}
@@ -51,7 +51,7 @@ use Rattle.split.specs.AnswerCases.{numberOf}
 use Rattle.split.specs.declared.Answer.{Answer}
 use Rattle.split.specs.declared.Answer.the-variants.{Rated, Refused}
 use Rattle.rating.specs.Records.{systemAt, codeAt, systemsOf, codesOf, fitsOf}
-use Rattle.rating.specs.Rate.{LIMIT, mixOf, systemsFor, countFor, outcome, splitAnswer, searchOutcome, sheetOutcome}
+use Rattle.rating.specs.Rate.{mixOf, systemsFor, countFor, outcome, splitAnswer, searchOutcome, sheetOutcome}
 use Rattle.rating.specs.RatedOn.{InRange, RatedOn}
 use Rattle.rating.specs.Laws.RatedOn.{on-exactly-when, too-few}
 use Rattle.rating.specs.Laws.Ready.{choosable, chosen, room, filled, million, inert-million}
@@ -174,12 +174,12 @@ exactAt a xs = exactRating (systemsFor a) (countFor a) (cellsIn a xs) (inertFirs
 -- the three are all that `split` proves a rating of
 is-fit : (a xs : List ℕ) → ReSums a xs × NoneEmpty a xs × AllNear a xs
     → Fit LIMIT (systemsFor a) (countFor a) (mixOf a) (cellsIn a xs)
-unfolding columnOf partsOf numberAt
+unfolding columnOf partsOf rowNumber
 is-fit a xs h = record { sums = h .0; some = h .1; near = h .2 }
 
 fit-is : (a xs : List ℕ) → Fit LIMIT (systemsFor a) (countFor a) (mixOf a) (cellsIn a xs)
     → ReSums a xs × NoneEmpty a xs × AllNear a xs
-unfolding columnOf partsOf numberAt
+unfolding columnOf partsOf rowNumber
 fit-is a xs f = (f .sums, f .some, f .near)
 
 -- ---- (1) any amounts at all, proposed for an analysis that is rated on, are rated exactly when: the three
@@ -196,7 +196,7 @@ rated-exactly-when a on xs code =
 pub rated-with : (a : List ℕ) → RatedOn a → (xs : List ℕ) (code : ℕ)
     → ReSums a xs × NoneEmpty a xs × AllNear a xs
     → (splitAnswer a (proposal a xs) code ≡ Rated (ratingAt a xs) (spreadAt a xs) 0) × (spreadAt a xs ≤ LIMIT)
-unfolding numberAt
+unfolding rowNumber
 rated-with a on xs code h =
     let e = split-fits a (proposal a xs) code on refl refl refl in
     let fitted = fit-rated LIMIT (systemsFor a) (countFor a) (mixOf a) (cellsIn a xs) (inertFirst a) (is-fit a xs h) in

@@ -6,17 +6,18 @@ use Prim.Native.Nat.{ℕ, _≤_, _<_, min}
 use native.Mathlib.Omega.{arith}
 use lib.IntN.{ℤ, natAbs}
 use lib.ListN.{length}
+use Rattle.split.specs.Rating.{LIMIT}
 use Rattle.analysis.specs.Register.{CODES}
 use Rattle.sheet.specs.declared.Split.{Split}
 use Rattle.mixture.specs.Inert.{inertFirst}
 use Rattle.split.specs.Split.{cellsOf}
-use Rattle.split.specs.Search.{LEVEL}
+use Rattle.split.specs.Search.{FIRST_LEVEL}
 use Rattle.split.specs.Laws.Finds.{input-fits, find-search, find-larger}
 use Rattle.split.specs.Accuracy.{rated-small, rated-spread-small}
 use Rattle.split.specs.declared.Answer.the-variants.{Rated}
 use Rattle.split.specs.declared.Search.the-variants.{Balanced}
 use Rattle.split.specs.declared.Found.{Found}
-use Rattle.rating.specs.Rate.{LIMIT, ROUNDS, mixOf, systemsFor, countFor, searched, splitAnswer, searchOutcome}
+use Rattle.rating.specs.Rate.{ROUNDS, mixOf, systemsFor, countFor, searched, splitAnswer, searchOutcome}
 use Rattle.rating.specs.RatedOn.{RatedOn}
 use Rattle.rating.specs.Laws.Ready.{chosen, million, input}
 use Rattle.demand.specs.Laws.Answers.{split-rated, search-rated, found-back}
@@ -25,11 +26,11 @@ use Rattle.demand.specs.Laws.Answers.{split-rated, search-rated, found-b
 same-found : (a : List ℕ) → length a ≡ CODES → RatedOn a → (few many : ℕ) → few ≤ many → (s r : ℕ)
     → searched a few .search ≡ Balanced s r → searched a many ≡ searched a few
 same-found a long passed few many le s r is =
-    let fits = input-fits (mixOf a) (systemsFor a) (countFor a) LEVEL (input a long passed) in
-    let u = find-search (mixOf a) (systemsFor a) (countFor a) LEVEL LIMIT (min few ROUNDS) fits in
-    let v = find-search (mixOf a) (systemsFor a) (countFor a) LEVEL LIMIT (min many ROUNDS) fits in
+    let fits = input-fits (mixOf a) (systemsFor a) (countFor a) FIRST_LEVEL (input a long passed) in
+    let u = find-search (mixOf a) (systemsFor a) (countFor a) FIRST_LEVEL LIMIT (min few ROUNDS) fits in
+    let v = find-search (mixOf a) (systemsFor a) (countFor a) FIRST_LEVEL LIMIT (min many ROUNDS) fits in
     v
-    ∙ find-larger (mixOf a) (systemsFor a) (countFor a) LIMIT LEVEL (min few ROUNDS) (min many ROUNDS) (omega arith)
+    ∙ find-larger (mixOf a) (systemsFor a) (countFor a) LIMIT FIRST_LEVEL (min few ROUNDS) (min many ROUNDS) (omega arith)
     s r (ap (λ (f : Found). f .search) (sym u) ∙ is) ∙ sym u
 
 pub larger-allowance : (a : List ℕ) → length a ≡ CODES → (few many code : ℕ) → few ≤ many → (w : ℤ) (s r : ℕ)

@@ -12,7 +12,7 @@ use Rattle.mixture.specs.Marked.{tableA1, total, marked}
 use Rattle.systems.specs.Systems.{hasOf, memberOf}
 use Rattle.systems.specs.Choice.{fitnessOf, chooseOf, paddedOf}
 use Rattle.systems.specs.Marked.{fitness, choice}
-use Rattle.split.specs.Start.{sharersOf, shareOf, givenOf, startOf}
+use Rattle.split.specs.Start.{sharersOf, shareOf, startAmount, startOf}
 use Rattle.split.specs.Fold.{sumTo, table}
 use Rattle.split.specs.Split.{cellOf, heldOf}
 use Rattle.rating.specs.Rate.{mixOf, systemsFor, countFor}
@@ -53,7 +53,7 @@ unfolding mix cells
 started s = ap (λ (m : List ℕ). cellOf (startOf m (paddedOf (chooseOf m)) (length (chooseOf m))) s 0) (marked .0) ∙ ap (λ (l : List ℕ). cellOf (startOf mix (paddedOf l) (length l)) s 0) choice
 
 start : (cellOf (cells mix (4 ∷ 7 ∷ 8 ∷ [])) 0 0 ≡ 326410) × (cellOf (cells mix (4 ∷ 7 ∷ 8 ∷ [])) 1 0 ≡ 326410) × (cellOf (cells mix (4 ∷ 7 ∷ 8 ∷ [])) 2 0 ≡ 326409)
-unfolding mix cells startOf table paddedOf givenOf heldOf hasOf memberOf shareOf sharersOf sumTo
+unfolding mix cells startOf table paddedOf startAmount heldOf hasOf memberOf shareOf sharersOf sumTo
 start = (refl, refl, refl)
 
 pub marked-figures : MarkedFigures

@@ -1,7 +1,7 @@
 -- A figure in decimal digits (document 01, "Writer, display, controller"): ASCII bytes, the most significant digit
 -- first, "a minus sign before a negative figure". Assumes nothing.
 use Prim.Native.Nat.{ℕ, zero, suc, _+_, _/_, _%_}
-use mathlib.Core.Bool.{cond}
+use mathlib.Core.Bool.{true, false}
 use mathlib.Core.List.{List, [], _∷_, _++_}
 use lib.Dec.{ltb}
 use lib.IntN.{ℤ, pos, negsuc}
@@ -14,7 +14,7 @@ digit d = 48 + d
 unfoldable pub digitsIn : ℕ → ℕ → List ℕ
 digitsIn zero n = digit n ∷ []
 digitsIn (suc times) n =
-    cond (ltb n 10) (digit n ∷ []) (digitsIn times (n / 10) ++ digit (n % 10) ∷ [])
+    elim (ltb n 10) [ true ↦ digit n ∷ [] | false ↦ digitsIn times (n / 10) ++ digit (n % 10) ∷ [] ]
 
 -- the digits of n; n times are more than enough
 unfoldable pub digitsOf : ℕ → List ℕ

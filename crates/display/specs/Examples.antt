@@ -1,7 +1,8 @@
 -- Worked lines (document 01, "Writer, display, controller"), computed. Assumes nothing.
 use mathlib.Core.Path.{_≡_, refl}
 use mathlib.Core.List.{[], _∷_}
-use lib.IntN.{pos, negsuc}
+use lib.IntN.{pos}
+use Rattle.integer.specs.Figures.{neg}
 use Rattle.split.specs.declared.Answer.the-variants.{Rated, Refused}
 use Rattle.display.specs.Decimal.{digitsIn, digitsOf}
 use Rattle.display.specs.Line.{lineOf}
@@ -16,7 +17,7 @@ pub record Lines : Type 0 where
       ∷ 51 ∷ 54 ∷ 57 ∷ 55 ∷ 57 ∷ 52 ∷ 32 ∷ 56 ∷ 10 ∷ []
   -- `RATED -5000001 -1 500000 4000`
   pub below-zero :
-      lineOf (Rated (negsuc 5000000) 500000 4000)
+      lineOf (Rated (neg 5000001) 500000 4000)
       ≡ 82 ∷ 65 ∷ 84 ∷ 69 ∷ 68 ∷ 32 ∷ 45 ∷ 53 ∷ 48 ∷ 48 ∷ 48 ∷ 48 ∷ 48 ∷ 49 ∷ 32 ∷ 45 ∷ 49 ∷ 32
       ∷ 53 ∷ 48 ∷ 48 ∷ 48 ∷ 48 ∷ 48 ∷ 32 ∷ 52 ∷ 48 ∷ 48 ∷ 48 ∷ 10 ∷ []
   -- `RATED 0 0 0 0`

@@ -2,12 +2,12 @@
 -- and a number of 32 bits (document 01, "Writer, display, controller"). Assumes nothing.
 use mathlib.Core.Path.{_≡_, refl}
 use Prim.Native.Nat.{ℕ, suc, _≤_, _<_}
-use mathlib.Core.List.{List, [], _∷_, _++_}
 use native.Mathlib.Omega.{arith}
 use lib.ListN.{length, length-append}
 use lib.IntN.{ℤ, pos, negsuc, natAbs, _+ℤ_}
 use mir.Syntax.{w32, w64}
 use mir.Val.{Fits, SFits}
+use Rattle.integer.specs.Figures.{neg}
 use Rattle.integer.specs.Floor.{floorOver}
 use Rattle.integer.specs.Laws.Ring.{natAbs-+}
 use Rattle.whole_number.specs.Whole.{wholeNumber}
@@ -67,6 +67,6 @@ no-longer (Rated rating spread rounds) h =
 no-longer (Refused number place) h = simp length-append (omega (arith, count-length number (h .0)))
 
 -- and there is one as long: the least rating with the greatest spread and rounds
-pub as-long : length (lineOf (Rated (negsuc 9223372036854775807) 18446744073709551615 4294967295)) ≡ LINE
+pub as-long : length (lineOf (Rated (neg 9223372036854775808) 18446744073709551615 4294967295)) ≡ LINE
 unfolding digitsOf digitsIn
 as-long = refl

@@ -6,13 +6,11 @@ use mathlib.Core.List.{List, [], _∷_}
 use mathlib.Core.Bool.{Bool, true, cond, _&&_}
 use Prim.Native.Nat.{ℕ, suc}
 use lib.Dec.{eqb, leb}
-use lib.IntN.{ℤ, pos, negℤ}
+use lib.IntN.{ℤ, pos}
 use lib.ListN.{length, getD, replicate}
+use Rattle.integer.specs.Figures.{neg}
 use Rattle.refusal.specs.Keys.{isIn, distinct, rising}
 use Rattle.formula.specs.WorkingRule.{sumAbs, LARGEST}
-
-abbrev neg : ℕ → ℤ
-neg n = negℤ (pos n)
 
 -- the systems that Table A.2 prints
 abbrev pub printed : List ℕ
@@ -123,6 +121,7 @@ tables =
 
 -- no number stands twice, they rise, and each has its list
 pub no-system-twice : distinct printed ≡ true
+unfolding isIn
 no-system-twice = refl
 
 pub systems-rise : rising 0 printed ≡ true
@@ -155,7 +154,7 @@ systems = kept printed
 
 -- by the one computation over the whole table, these
 pub systems-are : systems ≡ 1 ∷ 2 ∷ 3 ∷ 4 ∷ 5 ∷ 6 ∷ 7 ∷ 8 ∷ 12 ∷ 13 ∷ 14 ∷ 15 ∷ 16 ∷ 17 ∷ 18 ∷ 20 ∷ []
-unfolding kept isSystem keepsRule sumAbs placeIn
+unfolding kept isSystem keepsRule sumAbs placeIn isIn
 systems-are = refl
 
 -- the twenty coefficients of a system; all 0 where there is no such system

@@ -10,7 +10,7 @@ use lib.Dec.{T, leb, le→leb, leb→le}
 use lib.Ieee.Fits.{and-l, and-r}
 use lib.ListN.{getD}
 use Rattle.formula.specs.Coefficients.{placeIn}
-use Rattle.formula.specs.Ranges.{full, rangesOf, shareIn, sharesIn, inRange}
+use Rattle.formula.specs.Ranges.{full, rangesOf, shareIn, sharesIn, sharesInRange}
 use Rattle.formula.specs.Laws.Agree.{agree}
 
 -- ---- in words
@@ -76,12 +76,12 @@ module _ (r : List ℕ) (n1 n2 n3 : ℕ) where
 
 module _ (system n1 n2 n3 : ℕ) where
   -- in range exactly when each share is
-  pub in-range-only : inRange system n1 n2 n3 ≡ true → Shares (rangesOf system) n1 n2 n3
-  unfolding inRange
+  pub in-range-only : sharesInRange system n1 n2 n3 ≡ true → Shares (rangesOf system) n1 n2 n3
+  unfolding sharesInRange
   in-range-only h = shares-are (rangesOf system) n1 n2 n3 (subst⁻¹ T h tt)
 
-  pub in-range-when : Shares (rangesOf system) n1 n2 n3 → inRange system n1 n2 n3 ≡ true
-  unfolding inRange
+  pub in-range-when : Shares (rangesOf system) n1 n2 n3 → sharesInRange system n1 n2 n3 ≡ true
+  unfolding sharesInRange
   in-range-when s = are-shares (rangesOf system) n1 n2 n3 s
 
 -- ---- no share leaves 0 to 100
@@ -89,8 +89,8 @@ module _ (system n1 n2 n3 : ℕ) where
 full-between : (n m : ℕ) → n ≤ m → Between 0 100 n m
 full-between n m h = (omega arith, N.mul-le-mul-left 100 h)
 
-pub full-range : (system n1 n2 n3 : ℕ) → system < 9 → inRange system n1 n2 n3 ≡ true
-unfolding inRange rangesOf placeIn
+pub full-range : (system n1 n2 n3 : ℕ) → system < 9 → sharesInRange system n1 n2 n3 ≡ true
+unfolding sharesInRange rangesOf placeIn
 full-range system n1 n2 n3 h =
     sym (ap (λ (r : List ℕ). sharesIn r n1 n2 n3) (agree (λ _. full) rangesOf 0 9 refl system zero-le (omega arith)))
     ∙ are-shares full n1 n2 n3 (
@@ -102,19 +102,19 @@ full-range system n1 n2 n3 h =
 -- ---- computed: the ends of system 20's ranges and one part beyond each; blanks with no part and with one
 
 pub record Ends : Type 0 where
-  pub first-least : inRange 20 500000 300000 200000 ≡ true
-  pub first-below : inRange 20 499999 300000 200001 ≡ false
-  pub second-greatest : inRange 20 700000 300000 0 ≡ true
-  pub second-above : inRange 20 699999 300001 0 ≡ false
-  pub third-greatest : inRange 20 500000 0 500000 ≡ true
-  pub third-above : inRange 20 499999 0 500001 ≡ false
-  pub two-alone : inRange 12 400000 600000 0 ≡ true
-  pub no-third : inRange 12 400000 599999 1 ≡ false
-  pub one-alone : inRange 17 1000000 0 0 ≡ true
-  pub no-second : inRange 18 999999 1 0 ≡ false
+  pub first-least : sharesInRange 20 500000 300000 200000 ≡ true
+  pub first-below : sharesInRange 20 499999 300000 200001 ≡ false
+  pub second-greatest : sharesInRange 20 700000 300000 0 ≡ true
+  pub second-above : sharesInRange 20 699999 300001 0 ≡ false
+  pub third-greatest : sharesInRange 20 500000 0 500000 ≡ true
+  pub third-above : sharesInRange 20 499999 0 500001 ≡ false
+  pub two-alone : sharesInRange 12 400000 600000 0 ≡ true
+  pub no-third : sharesInRange 12 400000 599999 1 ≡ false
+  pub one-alone : sharesInRange 17 1000000 0 0 ≡ true
+  pub no-second : sharesInRange 18 999999 1 0 ≡ false
 
 pub ends : Ends
-unfolding inRange shareIn rangesOf placeIn
+unfolding sharesInRange shareIn rangesOf placeIn
 ends = record {
   first-least = refl;
   first-below = refl;

@@ -73,5 +73,5 @@ sharesIn r n1 n2 n3 =
     (shareIn (getD r 2 0) (getD r 3 0) n2 (n1 + n2 + n3) && shareIn (getD r 4 0) (getD r 5 0) n3 (n1 + n2 + n3))
 
 -- whether the shares of three amounts lie in the system's ranges
-unfoldable pub inRange : ℕ → ℕ → ℕ → ℕ → Bool
-inRange system n1 n2 n3 = sharesIn (rangesOf system) n1 n2 n3
+unfoldable pub sharesInRange : ℕ → ℕ → ℕ → ℕ → Bool
+sharesInRange system n1 n2 n3 = sharesIn (rangesOf system) n1 n2 n3

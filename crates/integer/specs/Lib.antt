@@ -1,3 +1,4 @@
+pub mod Figures
 pub mod Floor
 pub mod Fraction
 pub mod Laws

@@ -7,23 +7,24 @@ use Prim.Native.Nat.{ℕ, _*_, _/_, _%_, min}
 use lib.Count.{ones}
 use lib.Dec.{eqb, ltb}
 use lib.ListN.{getD}
-use Rattle.refusal.specs.Register.{OUT_OF_RANGE, MISFIT, UNBALANCED, TOO_FEW}
+use Rattle.split.specs.Rating.{LIMIT}
+use Rattle.refusal.specs.Register.{MISFIT, UNBALANCED, TOO_FEW, carried}
 use Rattle.analysis.specs.Required.{refusalIn}
 use Rattle.sheet.specs.Split.{noSplit}
 use Rattle.sheet.specs.declared.Split.{Split}
-use Rattle.systems.specs.Choice.{presentTo, answerOf}
+use Rattle.systems.specs.Choice.{presentTo, choiceFrom}
 use Rattle.systems.specs.Without.{HYDROCARBONS, chooseBefore}
 use Rattle.systems.specs.declared.Choice.{Choice}
 use Rattle.split.specs.Fold.{allTo, table}
 use Rattle.split.specs.Split.{RECORDS, systemOf}
-use Rattle.split.specs.Search.{LEVEL}
+use Rattle.split.specs.Search.{FIRST_LEVEL}
 use Rattle.split.specs.declared.Answer.{Answer}
 use Rattle.split.specs.declared.Answer.the-variants.{Rated, Refused}
 use Rattle.split.specs.declared.Search.{Search}
 use Rattle.split.specs.declared.Search.the-variants.{Balanced, Unbalanced, Unfit}
 use Rattle.split.specs.declared.Found.{Found}
-use Rattle.rating.specs.Records.{codeOf, systemAt, systemsOf}
-use Rattle.rating.specs.Rate.{LIMIT, ROUNDS, FEWEST, checkedBy, outcome}
+use Rattle.rating.specs.Records.{splitCode, systemAt, systemsOf}
+use Rattle.rating.specs.Rate.{ROUNDS, FEWEST, checkedBy, outcome}
 use Rattle.rating.specs.declared.Outcome.{Outcome}
 use Rattle.kept.specs.BeforeCheck.{registerBefore}
 use Rattle.kept.specs.BeforeMixture.{simplifiedBefore, inertBefore}
@@ -32,7 +33,7 @@ use Rattle.kept.specs.Widths.{BEFORE, componentIn, cellsIn, amountsIn, r
 -- ---- the records: as in `rating/specs/Records`
 
 unfoldable pub codeBefore : List ℕ → ℕ → ℕ → ℕ
-codeBefore ch k r = cond (ltb r (3 * k)) (codeOf (componentIn BEFORE (systemOf ch (r / 3)) (r % 3))) 0
+codeBefore ch k r = cond (ltb r (3 * k)) (splitCode (componentIn BEFORE (systemOf ch (r / 3)) (r % 3))) 0
 
 unfoldable pub codesBefore : List ℕ → ℕ → List ℕ
 codesBefore ch k = table (codeBefore ch k) RECORDS 0
@@ -71,19 +72,19 @@ foundOutcomeWith ch k n1 f = foundWith ch k n1 (f .cells) (f .search)
 
 abbrev pub searchedWith : Choice → List ℕ → ℕ → Found
 searchedWith choice mix allowance =
-    searchIn BEFORE (choice .systems) (choice .count) LIMIT LEVEL (min allowance ROUNDS)
+    searchIn BEFORE (choice .systems) (choice .count) LIMIT FIRST_LEVEL (min allowance ROUNDS)
     (startIn BEFORE mix (choice .systems) (choice .count))
 
 abbrev pub searchOutcomeWith : ℕ → Choice → List ℕ → ℕ → ℕ → ℕ → Outcome
 searchOutcomeWith number choice mix n1 allowance code =
     cond (eqb number 0)
     (foundOutcomeWith (choice .systems) (choice .count) n1 (searchedWith choice mix allowance))
-    (outcome (Refused number (cond (eqb number OUT_OF_RANGE) code 0)) noSplit)
+    (outcome (Refused number (carried number code 0)) noSplit)
 
 -- ---- an analysis before request Seven: the register without code 15, four components, systems 2, 4, 7 and 8
 
 abbrev pub choiceBefore : List ℕ → Choice
-choiceBefore mix = answerOf (chooseBefore mix)
+choiceBefore mix = choiceFrom (chooseBefore mix)
 
 -- 5 or 6, then 16 where fewer than two of the four are present
 abbrev pub refusalBefore : List ℕ → ℕ

@@ -34,7 +34,7 @@ use Rattle.mixture.specs.Simplification.{tenthsOf}
 use Rattle.mixture.specs.Marked.{tableA1, methaneEthane}
 use Rattle.mixture.specs.Laws.Bounds.{simplified-methane, simplified-least}
 use Rattle.systems.specs.Systems.{hydrocarbonSystems}
-use Rattle.systems.specs.Choice.{hydrocarbonOrder, fitnessOf, chooseBy, answerOf}
+use Rattle.systems.specs.Choice.{hydrocarbonOrder, fitnessOf, chooseBy, choiceFrom}
 use Rattle.systems.specs.Laws.Presence.{two-present}
 use Rattle.systems.specs.Without.{HYDROCARBONS, fitness-same}
 use Rattle.systems.specs.Laws.Full.{four-fittest}
@@ -89,7 +89,7 @@ before-exactly-when a long = (
 
 -- the choice by fitness alone, over all components
 abbrev pub choiceBeforeFive : List ℕ → Choice
-choiceBeforeFive mix = answerOf (chooseBy (fitnessOf mix) hydrocarbonSystems hydrocarbonOrder)
+choiceBeforeFive mix = choiceFrom (chooseBy (fitnessOf mix) hydrocarbonSystems hydrocarbonOrder)
 
 unfoldable pub splitBeforeFive : List ℕ → Split → ℕ → Answer
 splitBeforeFive a p code =
@@ -140,7 +140,7 @@ module _ (a : List ℕ) (long : length a ≡ CODES) (before : refusalBeforeFive 
   pub choice-kept : choiceBefore (simplifiedBefore a) ≡ choiceBeforeFive (simplifiedBefore a)
   choice-kept =
       sym (seven.choice-kept a none)
-      ∙ ap answerOf
+      ∙ ap choiceFrom
       (four-fittest (mixOf a) all-four (no-hydrogen a none)
       ∙ (λ j. chooseBy (λ s. fitness-same (mixOf a) (simplifiedBefore a)
       (seven.amount-same a none) s j) hydrocarbonSystems

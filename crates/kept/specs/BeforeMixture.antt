@@ -4,14 +4,14 @@ use Prim.Native.Nat.{ℕ, _*_}
 use mathlib.Core.List.{List, [], _∷_}
 use Rattle.analysis.specs.Check.{totalOf}
 use Rattle.mixture.specs.Scaling.{scaledOf}
-use Rattle.mixture.specs.Simplification.{amountOf, butaneOf}
+use Rattle.mixture.specs.Simplification.{amountOfCode, butaneOf}
 use Rattle.mixture.specs.Inert.{methaneShare}
 
 -- ---- as it was
 
 -- the four components in tenths of a part
 unfoldable pub tenthsBefore : List ℕ → List ℕ
-tenthsBefore a = 10 * amountOf a 1 ∷ 10 * amountOf a 2 ∷ 10 * amountOf a 3 ∷ butaneOf a ∷ []
+tenthsBefore a = 10 * amountOfCode a 1 ∷ 10 * amountOfCode a 2 ∷ 10 * amountOfCode a 3 ∷ butaneOf a ∷ []
 
 -- the simplified mixture in parts
 abbrev pub simplifiedBefore : List ℕ → List ℕ
@@ -19,4 +19,4 @@ simplifiedBefore a = scaledOf (tenthsBefore a)
 
 -- n1 of the inert mixture
 abbrev pub inertBefore : List ℕ → ℕ
-inertBefore a = methaneShare (totalOf (tenthsBefore a)) (amountOf a 11)
+inertBefore a = methaneShare (totalOf (tenthsBefore a)) (amountOfCode a 11)

@@ -6,17 +6,18 @@ use mathlib.Core.List.{List}
 use mathlib.Core.Bool.{Bool, cond, _&&_}
 use lib.Dec.{ltb, leb, eqb}
 use lib.ListN.{getD}
-use lib.IntN.{ℤ, pos, negsuc, _+ℤ_, _*ℤ_}
+use lib.IntN.{ℤ, pos, _+ℤ_, _*ℤ_}
 use lib.Signed.{quotZ}
+use Rattle.integer.specs.Figures.{neg, MILLION}
 use Rattle.formula.specs.Partial.{partialNumber}
 use Rattle.systems.specs.Without.{HYDROCARBONS}
 use Rattle.systems.specs.Systems.{COMPONENTS, memberOf, hasOf}
 use Rattle.split.specs.Fold.{sumTo, sumToZ, allTo, someTo, first, table}
 use Rattle.split.specs.Split.{SYSTEMS, RECORDS, systemOf, heldOf, rankOf}
-use Rattle.split.specs.Rating.{spreadOf, inertNumber, verdict}
-use Rattle.split.specs.Start.{givenOf}
+use Rattle.split.specs.Rating.{spreadOf, inertNumber, verdict, PURE_METHANE}
+use Rattle.split.specs.Start.{startAmount}
 use Rattle.split.specs.Move.{imbalanceOf, componentOf, giverOf, takerOf, shift, betweenOf}
-use Rattle.split.specs.Search.{found}
+use Rattle.split.specs.Search.{foundOf}
 use Rattle.split.specs.declared.Answer.{Answer}
 use Rattle.split.specs.declared.Answer.the-variants.{Rated}
 use Rattle.split.specs.declared.Turn.{Turn}
@@ -79,10 +80,10 @@ module _ (w : ℕ) where
   weightedIn ch k a = sumToZ (λ s. numberIn ch a s *ℤ pos (partsIn ch a s)) k
 
   unfoldable pub meanIn : List ℕ → ℕ → List ℕ → ℤ
-  meanIn ch k a = quotZ (weightedIn ch k a) (pos 1000000)
+  meanIn ch k a = quotZ (weightedIn ch k a) (pos MILLION)
 
   unfoldable pub ratingIn : List ℕ → ℕ → List ℕ → ℕ → ℤ
-  ratingIn ch k a n1 = meanIn ch k a +ℤ inertNumber n1 +ℤ negsuc 1000002999
+  ratingIn ch k a n1 = meanIn ch k a +ℤ inertNumber n1 +ℤ neg PURE_METHANE
 
   unfoldable pub resumsIn : List ℕ → ℕ → List ℕ → Bool
   resumsIn mix k a = allTo (λ c. eqb (columnIn k a c) (getD mix c 0)) w
@@ -98,7 +99,7 @@ module _ (w : ℕ) where
   -- ---- Start
 
   unfoldable pub startIn : List ℕ → List ℕ → ℕ → List ℕ
-  startIn mix ch k = table (λ i. givenOf mix ch k (i / w) (i % w)) cellCount 0
+  startIn mix ch k = table (λ i. startAmount mix ch k (i / w) (i % w)) cellCount 0
 
   -- ---- Move
 
@@ -133,11 +134,11 @@ module _ (w : ℕ) where
   stepIn a m level = movedIn a m (2 ^ level)
 
   unfoldable pub runIn : List ℕ → ℕ → ℕ → ℕ → ℕ → List ℕ → ℕ → ℕ → Found
-  runIn ch k limit allowance zero a level rounds = found a Unbalanced
+  runIn ch k limit allowance zero a level rounds = foundOf a Unbalanced
   runIn ch k limit allowance (suc n) a level rounds =
       elim (turnIn ch k limit allowance a level rounds) [
-        | Rate s ↦ found a (Balanced s rounds)
-        | Refuse ↦ found a Unbalanced
+        | Rate s ↦ foundOf a (Balanced s rounds)
+        | Refuse ↦ foundOf a Unbalanced
         | Move m ↦ runIn ch k limit allowance n (stepIn a m level) level (rounds + 1)
         | Halve ↦ runIn ch k limit allowance n a (level - 1) rounds
       ]

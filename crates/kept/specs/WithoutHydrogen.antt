@@ -13,6 +13,8 @@ use lib.Count.{ones}
 use lib.Dec.{eqb, ltb}
 use lib.ListN.{getD}
 use borrow.Author.Tests.{eqb-true, ltb-true}
+use Rattle.split.specs.Rating.{LIMIT}
+use Rattle.refusal.specs.Keys.{isIn}
 use Rattle.analysis.specs.Required.{refusalIn}
 use Rattle.sheet.specs.Split.{noSplit}
 use Rattle.sheet.specs.Components.{codesReading, zeroListed}
@@ -23,19 +25,19 @@ use Rattle.sheet.specs.declared.Sections.the-variants.{Both}
 use Rattle.sheet.specs.declared.Split.{Split}
 use Rattle.sheet.specs.declared.Reading.the-variants.{Read}
 use Rattle.mixture.specs.Inert.{inertFirst}
-use Rattle.systems.specs.Systems.{HYDROGEN, hasOf, elem}
+use Rattle.systems.specs.Systems.{HYDROGEN, hasOf}
 use Rattle.systems.specs.Laws.Members.{hydrocarbons-are}
-use Rattle.systems.specs.Choice.{presentTo, presentCount, answerOf, choiceOf}
+use Rattle.systems.specs.Choice.{presentTo, presentCount, choiceFrom, choiceOf}
 use Rattle.systems.specs.Without.{HYDROCARBONS, present-before, candidates-before, choose-before, present-same, before-same}
 use Rattle.split.specs.Split.{RECORDS, systemOf}
-use Rattle.split.specs.Search.{LEVEL}
+use Rattle.split.specs.Search.{FIRST_LEVEL}
 use Rattle.split.specs.declared.Answer.{Answer}
 use Rattle.split.specs.declared.Answer.the-variants.{Rated, Refused}
 use Rattle.split.specs.declared.Search.{Search}
 use Rattle.split.specs.declared.Search.the-variants.{Balanced, Unbalanced, Unfit}
 use Rattle.split.specs.declared.Found.{Found}
-use Rattle.rating.specs.Records.{codeOf, systemAt, codeAt, codesOf, systemsOf, matchesAt, fitsOf}
-use Rattle.rating.specs.Rate.{LIMIT, ROUNDS, mixOf, systemsFor, countFor, ratingRefusal, checkedBy, splitBy, splitAnswer, outcome, recordsOf, foundBy, foundOutcome, searchOutcomeBy, searchOutcome, sheetOutcome}
+use Rattle.rating.specs.Records.{splitCode, systemAt, codeAt, codesOf, systemsOf, matchesAt, fitsOf}
+use Rattle.rating.specs.Rate.{ROUNDS, mixOf, systemsFor, countFor, ratingRefusal, checkedBy, splitBy, splitAnswer, outcome, recordsOf, foundBy, foundOutcome, searchOutcomeBy, searchOutcome, sheetOutcome}
 use Rattle.rating.specs.LeftOut.{mixture-number}
 use Rattle.rating.specs.RatedOn.{RatedOn}
 use Rattle.rating.specs.Laws.Ready.{choosable, chosen}
@@ -64,7 +66,7 @@ module _ (ch : List ℕ) (k : ℕ) (without : Without ch k) where
       go : (b : Bool) → ltb r (3 * k) ≡ b → codeBefore ch k r ≡ codeAt ch k r
       go true e =
           let l = ltb-true r (3 * k) e in
-          rw e (ap codeOf (component-kept ch k without (r / 3) (r % 3) (omega arith) (omega arith)))
+          rw e (ap splitCode (component-kept ch k without (r / 3) (r % 3) (omega arith) (omega arith)))
       go false e = rw e
 
   codes-same : codesBefore ch k ≡ codesOf ch k
@@ -136,7 +138,7 @@ module _ (a : List ℕ) (none : getD a 15 0 ≡ 0) where
   -- and the same choice
   pub choice-kept : choiceOf (mixOf a) ≡ choiceBefore (simplifiedBefore a)
   choice-kept =
-      ap answerOf
+      ap choiceFrom
       (choose-before (mixOf a) (no-hydrogen a none) ∙ before-same (mixOf a) (simplifiedBefore a) amount-same)
 
   -- none of whose systems contains hydrogen
@@ -151,7 +153,7 @@ module _ (a : List ℕ) (none : getD a 15 0 ≡ 0) where
       lacks s h =
           let system = systemOf (systemsFor a) s in
           let offered = choosable a on .offered s h in
-          let four = ap (elem system) (candidates-before (mixOf a) (no-hydrogen a none)) in
+          let four = ap (isIn system) (candidates-before (mixOf a) (no-hydrogen a none)) in
           negation (hasOf system HYDROGEN)
           (sym (sym four ∙ offered) ∙ hydrocarbons-are system (chosen a on .known s h))
 
@@ -190,7 +192,7 @@ module _ (a : List ℕ) (none : getD a 15 0 ≡ 0) where
           ap (λ (x : Outcome). cond (eqb (ratingRefusal a) 0) x
           (outcome (Refused (ratingRefusal a) (cond (eqb (ratingRefusal a) 5) code 0)) noSplit))
           (sym (found-same (systemsFor a) (countFor a) (without on) (simplifiedBefore a) (mixOf a) no (inertFirst a) _ _
-          (search-kept (systemsFor a) (countFor a) (without on) (simplifiedBefore a) (mixOf a) no LIMIT LEVEL
+          (search-kept (systemsFor a) (countFor a) (without on) (simplifiedBefore a) (mixOf a) no LIMIT FIRST_LEVEL
           (min allowance ROUNDS))))
       go false e = rw e
 

@@ -10,17 +10,18 @@ use lib.Dec.{eqb, ltb}
 use lib.ListN.{getD, set, take, length, replicate, length-set, length-map}
 use lib.Seq.{take-all, ext-getD, getD-set-same, getD-set-other}
 use borrow.Author.Tests.{eqb-true, eqb-false, ne-eqb, lt-ltb, le-ltb}
+use Rattle.integer.specs.Figures.{MILLION}
 use Rattle.analysis.specs.Check.{totalOf}
-use Rattle.mixture.specs.Scaling.{WHOLE, quotientOf, remainderOf, quotientsOf, remaindersOf, missingOf, greatestTo, greatestPlace, distributed, scaledOf}
+use Rattle.mixture.specs.Scaling.{quotientOf, remainderOf, quotientsOf, remaindersOf, missingOf, largestTo, greatestPlace, distributed, scaledOf}
 use Rattle.mixture.specs.Laws.Share.{getD-map}
 use Rattle.mixture.specs.Laws.Total.{sum-set, quotients-whole}
 use Rattle.mixture.specs.Simplification.{COMPONENTS, butaneOf, tenthsOf}
 use Rattle.mixture.specs.Inner.Factor.{factorOf}
-use Rattle.mixture.specs.Inner.Limits.{LIMIT, Limited}
+use Rattle.mixture.specs.Inner.Limits.{MOST_PARTS, Limited}
 
 -- ---- amounts up to the limit
 
-limited-next : (x : ℕ) (xs : List ℕ) → x ≤ LIMIT → ((i : ℕ) → getD xs i 0 ≤ LIMIT) → (i : ℕ) → getD (x ∷ xs) i 0 ≤ LIMIT
+limited-next : (x : ℕ) (xs : List ℕ) → x ≤ MOST_PARTS → ((i : ℕ) → getD xs i 0 ≤ MOST_PARTS) → (i : ℕ) → getD (x ∷ xs) i 0 ≤ MOST_PARTS
 limited-next x xs h rest zero = h
 limited-next x xs h rest (suc i) = rest i
 
@@ -29,7 +30,7 @@ abbrev Tenfold : List ℕ → ℕ → ℕ → Type 0
 Tenfold a code x = (x ≡ 10 * getD a code 0) × (x ≤ 42949672950)
 
 -- the components, one by one
-pub tenths-each : (a : List ℕ) (w x y z u : ℕ) → Tenfold a 1 w → Tenfold a 2 x → Tenfold a 3 y → (z ≡ butaneOf a) × (z ≤ LIMIT)
+pub tenths-each : (a : List ℕ) (w x y z u : ℕ) → Tenfold a 1 w → Tenfold a 2 x → Tenfold a 3 y → (z ≡ butaneOf a) × (z ≤ MOST_PARTS)
     → Tenfold a 15 u → ((w ∷ x ∷ y ∷ z ∷ u ∷ []) ≡ tenthsOf a) × Limited (w ∷ x ∷ y ∷ z ∷ u ∷ [])
 unfolding tenthsOf
 tenths-each a w x y z u hw hx hy hz hu = (
@@ -92,7 +93,7 @@ butane-next a code t f w h g d b =
       few = rw (add-one code) (rw (le-ltb code 4 (b .first), ← g .0) (omega (arith, b .few, g .1)));
     }
 
-pub butane-all : (a : List ℕ) (code t : ℕ) → 11 ≤ code → Butane a t code → (t ≡ butaneOf a) × (t ≤ LIMIT)
+pub butane-all : (a : List ℕ) (code t : ℕ) → 11 ≤ code → Butane a t code → (t ≡ butaneOf a) × (t ≤ MOST_PARTS)
 butane-all a code t h b =
     let e : code ≡ 11 = omega (arith, b .last) in
     let g : t ≡ butaneTo a 11 = rw e at (b .same) in
@@ -160,19 +161,19 @@ fill-map n f xs l i e h w =
 
 -- ---- quotients and remainders
 
-pub quotient-small : (x t : ℕ) → x ≤ t → quotientOf t x ≤ WHOLE
+pub quotient-small : (x t : ℕ) → x ≤ t → quotientOf t x ≤ MILLION
 quotient-small x t h = div-le-of-le-mul t (omega arith)
 
-pub rest-left : (x t q : ℕ) → q ≡ quotientOf t x → q * t + remainderOf t x ≡ WHOLE * x
-rest-left x t q e = rw e (div-add-mod' (WHOLE * x) t)
+pub rest-left : (x t q : ℕ) → q ≡ quotientOf t x → q * t + remainderOf t x ≡ MILLION * x
+rest-left x t q e = rw e (div-add-mod' (MILLION * x) t)
 
 -- the first i quotients and remainders of amounts whose sum is t, and the parts of the whole that are left
 pub record Shared (t : ℕ) (xs q r : List ℕ) (m i : ℕ) : Type 0 where
   pub quotients : Filled COMPONENTS (λ k. quotientOf t (getD xs k 0)) q i
   pub remainders : Filled COMPONENTS (λ k. remainderOf t (getD xs k 0)) r i
-  pub left : m + totalOf (take i (quotientsOf xs t)) ≡ WHOLE
+  pub left : m + totalOf (take i (quotientsOf xs t)) ≡ MILLION
 
-pub shared-none : (t : ℕ) (xs : List ℕ) → Shared t xs (replicate COMPONENTS 0) (replicate COMPONENTS 0) WHOLE 0
+pub shared-none : (t : ℕ) (xs : List ℕ) → Shared t xs (replicate COMPONENTS 0) (replicate COMPONENTS 0) MILLION 0
 shared-none t xs =
     record {
       quotients = record { size = refl; most = omega arith; there = λ k h. absurd (omega arith) };
@@ -181,17 +182,17 @@ shared-none t xs =
     }
 
 module _ (t : ℕ) (xs q r : List ℕ) (m i : ℕ) (l : Limited xs) (e : t ≡ totalOf xs) (p : 0 < t) (w : Shared t xs q r m i) where
-  fits : totalOf (quotientsOf xs t) ≤ WHOLE
+  fits : totalOf (quotientsOf xs t) ≤ MILLION
   fits = rw e (quotients-whole xs (rw e at p))
 
   long : length (quotientsOf xs t) ≡ COMPONENTS
   long = length-map xs (quotientOf t) ∙ l .long
 
   module _ (h : i < COMPONENTS) (share : ℕ) (f : share ≡ quotientOf t (getD xs i 0)) where
-    part : (share ≤ m) × (m - share + totalOf (take (i + 1) (quotientsOf xs t)) ≡ WHOLE)
+    part : (share ≤ m) × (m - share + totalOf (take (i + 1) (quotientsOf xs t)) ≡ MILLION)
     part =
         let g : getD (quotientsOf xs t) i 0 ≡ share = getD-map (quotientOf t) xs i (omega (arith, l .long)) ∙ sym f in
-        rw g at (left-next (quotientsOf xs t) i m WHOLE (omega (arith, long)) fits (w .left))
+        rw g at (left-next (quotientsOf xs t) i m MILLION (omega (arith, long)) fits (w .left))
 
     pub share-left : share ≤ m
     share-left = part .0
@@ -212,9 +213,9 @@ module _ (t : ℕ) (xs q r : List ℕ) (m i : ℕ) (l : Limited xs) (e : t ≡ t
     all-remainders = fill-map COMPONENTS (remainderOf t) xs r i (l .long) h (w .remainders)
 
     all-left : m ≡ missingOf (quotientsOf xs t)
-    all-left = left-all (quotientsOf xs t) i m WHOLE (omega (arith, long)) (w .left)
+    all-left = left-all (quotientsOf xs t) i m MILLION (omega (arith, long)) (w .left)
 
-    pub shared-fits : (length q ≡ COMPONENTS) × (length r ≡ COMPONENTS) × (totalOf q + m ≤ WHOLE)
+    pub shared-fits : (length q ≡ COMPONENTS) × (length r ≡ COMPONENTS) × (totalOf q + m ≤ MILLION)
     shared-fits = (w .quotients .size, w .remainders .size, omega (arith, ap totalOf all-quotients, all-left, fits))
 
     -- the mixture, the missing parts given out
@@ -228,38 +229,38 @@ module _ (t : ℕ) (xs q r : List ℕ) (m i : ℕ) (l : Limited xs) (e : t ≡ t
 pub record Greatest (rs : List ℕ) (p v i : ℕ) : Type 0 where
   pub some : 0 < i
   pub most : i ≤ COMPONENTS
-  pub place : p ≡ greatestTo rs i
+  pub place : p ≡ largestTo rs i
   pub below : p < COMPONENTS
   pub value : v ≡ getD rs p 0
 
 pub greatest-one : (rs : List ℕ) → Greatest rs 0 (getD rs 0 0) 1
-unfolding greatestTo
+unfolding largestTo
 greatest-one rs = record { some = omega arith; most = omega arith; place = first; below = omega arith; value = refl }
   where
-    first : 0 ≡ greatestTo rs 1
-    first = rw (le-ltb (getD rs 0 0) (getD rs 0 0) (omega arith), greatestTo)
+    first : 0 ≡ largestTo rs 1
+    first = rw (le-ltb (getD rs 0 0) (getD rs 0 0) (omega arith), largestTo)
 
 pub greatest-same : (rs : List ℕ) (p q v u i : ℕ) → p ≡ q → v ≡ u → Greatest rs q u i → Greatest rs p v i
 greatest-same rs p q v u i e f g = rw (e, f) g
 
 module _ (rs : List ℕ) (p v i : ℕ) (h : i < COMPONENTS) (g : Greatest rs p v i) where
   pub greatest-here : v < getD rs i 0 → Greatest rs i (getD rs i 0) (i + 1)
-  unfolding greatestTo
+  unfolding largestTo
   greatest-here l = record { some = omega arith; most = omega arith; place = here; below = h; value = refl }
     where
-      here : i ≡ greatestTo rs (i + 1)
+      here : i ≡ largestTo rs (i + 1)
       here =
-          let t : ltb (getD rs (greatestTo rs i) 0) (getD rs i 0) ≡ true = lt-ltb (getD rs (greatestTo rs i) 0) (getD rs i 0) (rw (g .value, g .place) at l) in
-          rw (add-one i) (rw (t, greatestTo))
+          let t : ltb (getD rs (largestTo rs i) 0) (getD rs i 0) ≡ true = lt-ltb (getD rs (largestTo rs i) 0) (getD rs i 0) (rw (g .value, g .place) at l) in
+          rw (add-one i) (rw (t, largestTo))
 
   pub greatest-there : getD rs i 0 ≤ v → Greatest rs p v (i + 1)
-  unfolding greatestTo
+  unfolding largestTo
   greatest-there l = record { some = omega arith; most = omega arith; place = there; below = g .below; value = g .value }
     where
-      there : p ≡ greatestTo rs (i + 1)
+      there : p ≡ largestTo rs (i + 1)
       there =
-          let t : ltb (getD rs (greatestTo rs i) 0) (getD rs i 0) ≡ false = le-ltb (getD rs (greatestTo rs i) 0) (getD rs i 0) (rw (g .value, g .place) at l) in
-          rw (add-one i) (rw (t, greatestTo) (g .place))
+          let t : ltb (getD rs (largestTo rs i) 0) (getD rs i 0) ≡ false = le-ltb (getD rs (largestTo rs i) 0) (getD rs i 0) (rw (g .value, g .place) at l) in
+          rw (add-one i) (rw (t, largestTo) (g .place))
 
 -- ---- the missing parts
 

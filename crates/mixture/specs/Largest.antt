@@ -10,8 +10,9 @@ use lib.Dec.{eqb, ltb}
 use lib.ListN.{getD, set, length, length-set, length-map}
 use lib.Seq.{getD-set-same, getD-set-other}
 use borrow.Author.Tests.{eqb-true, eqb-false, ltb-true, ltb-false}
+use Rattle.integer.specs.Figures.{MILLION}
 use Rattle.analysis.specs.Check.{totalOf}
-use Rattle.mixture.specs.Scaling.{WHOLE, quotientOf, remainderOf, quotientsOf, remaindersOf, missingOf, greatestTo, greatestPlace, oneMore, distributed, scaledOf}
+use Rattle.mixture.specs.Scaling.{quotientOf, remainderOf, quotientsOf, remaindersOf, missingOf, largestTo, greatestPlace, oneMore, distributed, scaledOf}
 use Rattle.mixture.specs.Laws.Total.{sum-set, sum-filled, greatest-below, greatest-least, remainders-sum}
 use Rattle.mixture.specs.Laws.Share.{getD-map, greatest-positive, scaled-near}
 
@@ -21,17 +22,17 @@ pub record Before (rs : List ℕ) (i j : ℕ) : Type 0 where
   pub equal : getD rs j 0 ≡ getD rs i 0 → i < j
 
 -- none that stands before the greatest is as great
-greatest-first : (rs : List ℕ) (n j : ℕ) → j < greatestTo rs n → getD rs j 0 < getD rs (greatestTo rs n) 0
-unfolding greatestTo
+greatest-first : (rs : List ℕ) (n j : ℕ) → j < largestTo rs n → getD rs j 0 < getD rs (largestTo rs n) 0
+unfolding largestTo
 greatest-first rs zero j h = absurd (not-suc-le-zero h)
 greatest-first rs (suc n) j h =
-    go (ltb (getD rs (greatestTo rs n) 0) (getD rs n 0)) refl h (λ l. greatest-first rs n j l) (λ l. greatest-least rs n j l)
+    go (ltb (getD rs (largestTo rs n) 0) (getD rs n 0)) refl h (λ l. greatest-first rs n j l) (λ l. greatest-least rs n j l)
   where
-    go : (b : Bool) → ltb (getD rs (greatestTo rs n) 0) (getD rs n 0) ≡ b → j < cond b n (greatestTo rs n)
-        → (j < greatestTo rs n → getD rs j 0 < getD rs (greatestTo rs n) 0)
-        → (j < n → getD rs j 0 ≤ getD rs (greatestTo rs n) 0)
-        → getD rs j 0 < getD rs (cond b n (greatestTo rs n)) 0
-    go true e l rec least = omega (arith, ltb-true (getD rs (greatestTo rs n) 0) (getD rs n 0) e, least l)
+    go : (b : Bool) → ltb (getD rs (largestTo rs n) 0) (getD rs n 0) ≡ b → j < cond b n (largestTo rs n)
+        → (j < largestTo rs n → getD rs j 0 < getD rs (largestTo rs n) 0)
+        → (j < n → getD rs j 0 ≤ getD rs (largestTo rs n) 0)
+        → getD rs j 0 < getD rs (cond b n (largestTo rs n)) 0
+    go true e l rec least = omega (arith, ltb-true (getD rs (largestTo rs n) 0) (getD rs n 0) e, least l)
     go false e l rec least = rec l
 
 greatest-before : (rs : List ℕ) (j : ℕ) → j < length rs → (j ≡ greatestPlace rs → ⊥) → Before rs (greatestPlace rs) j
@@ -128,8 +129,8 @@ module _ (xs : List ℕ) (h : 0 < totalOf xs) where
   pub scaled-rounded : (i : ℕ) → i < length xs
       → (quotientOf (totalOf xs) (getD xs i 0) ≤ getD (scaledOf xs) i 0) × (getD (scaledOf xs) i 0 ≤ quotientOf (totalOf xs) (getD xs i 0) + 1)
   scaled-rounded i l =
-      go (getD (scaledOf xs) i 0) (quotientOf (totalOf xs) (getD xs i 0)) (remainderOf (totalOf xs) (getD xs i 0)) (WHOLE * getD xs i 0)
-      (div-add-mod' (WHOLE * getD xs i 0) (totalOf xs)) (mod-lt (WHOLE * getD xs i 0) h) (scaled-near xs h i l .above) (scaled-near xs h i l .below)
+      go (getD (scaledOf xs) i 0) (quotientOf (totalOf xs) (getD xs i 0)) (remainderOf (totalOf xs) (getD xs i 0)) (MILLION * getD xs i 0)
+      (div-add-mod' (MILLION * getD xs i 0) (totalOf xs)) (mod-lt (MILLION * getD xs i 0) h) (scaled-near xs h i l .above) (scaled-near xs h i l .below)
     where
       go : (s q r x : ℕ) → q * totalOf xs + r ≡ x → r < totalOf xs → s * totalOf xs < x + totalOf xs → x < s * totalOf xs + totalOf xs
           → (q ≤ s) × (s ≤ q + 1)
@@ -152,7 +153,7 @@ module _ (xs : List ℕ) (h : 0 < totalOf xs) where
       record {
         quotients = length-map xs (quotientOf t);
         remainders = length-map xs (remainderOf t);
-        small = λ k l. rw (getD-map (remainderOf t) xs k l) (mod-lt (WHOLE * getD xs k 0) h);
+        small = λ k l. rw (getD-map (remainderOf t) xs k l) (mod-lt (MILLION * getD xs k 0) h);
         enough = omega (arith, remainders-sum xs h);
       }
       i j lj (λ e. omega (arith, a, e, qi)) (b ∙ sym qj)

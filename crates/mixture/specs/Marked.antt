@@ -4,7 +4,7 @@ use Prim.Native.Nat.{ℕ}
 use mathlib.Core.Path.{_≡_, refl}
 use mathlib.Core.List.{List, [], _∷_}
 use Rattle.analysis.specs.Check.{totalOf}
-use Rattle.mixture.specs.Scaling.{greatestTo, distributed, scaledOf}
+use Rattle.mixture.specs.Scaling.{largestTo, distributed, scaledOf}
 use Rattle.mixture.specs.Simplification.{tenthsOf, simplifiedOf}
 use Rattle.mixture.specs.Inert.{methaneShare, inertOf}
 
@@ -17,14 +17,14 @@ total = refl
 
 pub marked : (simplifiedOf tableA1 ≡ 979229 ∷ 16803 ∷ 2438 ∷ 1530 ∷ 0 ∷ [])
     × (inertOf tableA1 ≡ 999468 ∷ 532 ∷ 0 ∷ [])
-unfolding greatestTo distributed scaledOf tenthsOf methaneShare
+unfolding largestTo distributed scaledOf tenthsOf methaneShare
 marked = (refl, refl)
 
 -- equal remainders of ethane and propane, of which one gets a part
 pub equal-remainders :
     simplifiedOf (0 ∷ 856641 ∷ 19981 ∷ 19981 ∷ 18632 ∷ 19263 ∷ 0 ∷ 0 ∷ 0 ∷ 0 ∷ 0 ∷ 65502 ∷ 0 ∷ 0 ∷ 0 ∷ 0 ∷ [])
     ≡ 916686 ∷ 21382 ∷ 21381 ∷ 40551 ∷ 0 ∷ []
-unfolding greatestTo distributed scaledOf tenthsOf
+unfolding largestTo distributed scaledOf tenthsOf
 equal-remainders = refl
 
 -- n1 at a half
@@ -39,5 +39,5 @@ abbrev pub methaneEthane : List ℕ
 methaneEthane = 0 ∷ 970000 ∷ 10000 ∷ 0 ∷ 0 ∷ 0 ∷ 0 ∷ 0 ∷ 0 ∷ 0 ∷ 0 ∷ 20000 ∷ 0 ∷ 0 ∷ 0 ∷ 0 ∷ []
 
 pub methane-ethane : simplifiedOf methaneEthane ≡ 989796 ∷ 10204 ∷ 0 ∷ 0 ∷ 0 ∷ []
-unfolding greatestTo distributed scaledOf tenthsOf
+unfolding largestTo distributed scaledOf tenthsOf
 methane-ethane = refl

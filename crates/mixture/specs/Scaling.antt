@@ -5,18 +5,15 @@ use mathlib.Core.List.{List, map}
 use mathlib.Core.Bool.{cond}
 use lib.Dec.{ltb}
 use lib.ListN.{getD, set, length}
+use Rattle.integer.specs.Figures.{MILLION}
 use Rattle.analysis.specs.Check.{totalOf}
-
--- the parts of a whole mixture; a part is 0.0001 % by volume
-abbrev pub WHOLE : ℕ
-WHOLE = 1000000
 
 -- each amount scaled to 1000000 / t of itself and rounded down, and the remainders of these divisions
 abbrev pub quotientOf : ℕ → ℕ → ℕ
-quotientOf t x = WHOLE * x / t
+quotientOf t x = MILLION * x / t
 
 abbrev pub remainderOf : ℕ → ℕ → ℕ
-remainderOf t x = WHOLE * x % t
+remainderOf t x = MILLION * x % t
 
 abbrev pub quotientsOf : List ℕ → ℕ → List ℕ
 quotientsOf xs t = map (quotientOf t) xs
@@ -26,16 +23,16 @@ remaindersOf xs t = map (remainderOf t) xs
 
 -- the parts then missing
 abbrev pub missingOf : List ℕ → ℕ
-missingOf qs = WHOLE - totalOf qs
+missingOf qs = MILLION - totalOf qs
 
 -- the place of the greatest of the first n, of equal ones the first
-unfoldable pub greatestTo : List ℕ → ℕ → ℕ
-greatestTo rs zero = 0
-greatestTo rs (suc n) =
-    cond (ltb (getD rs (greatestTo rs n) 0) (getD rs n 0)) n (greatestTo rs n)
+unfoldable pub largestTo : List ℕ → ℕ → ℕ
+largestTo rs zero = 0
+largestTo rs (suc n) =
+    cond (ltb (getD rs (largestTo rs n) 0) (getD rs n 0)) n (largestTo rs n)
 
 abbrev pub greatestPlace : List ℕ → ℕ
-greatestPlace rs = greatestTo rs (length rs)
+greatestPlace rs = largestTo rs (length rs)
 
 -- one more part at a place
 abbrev pub oneMore : List ℕ → ℕ → List ℕ

@@ -11,17 +11,17 @@ abbrev pub COMPONENTS : ℕ
 COMPONENTS = 5
 
 -- the amount of a code in parts
-abbrev pub amountOf : List ℕ → ℕ → ℕ
-amountOf a k = getD a k 0
+abbrev pub amountOfCode : List ℕ → ℕ → ℕ
+amountOfCode a k = getD a k 0
 
 -- butane in tenths of a part: butanes at 1, pentanes at 2.3 and hexanes+ at 5.3
 abbrev pub butaneOf : List ℕ → ℕ
 butaneOf a =
-    10 * (amountOf a 4 + amountOf a 5) + 23 * (amountOf a 6 + amountOf a 7 + amountOf a 8) + 53 * amountOf a 10
+    10 * (amountOfCode a 4 + amountOfCode a 5) + 23 * (amountOfCode a 6 + amountOfCode a 7 + amountOfCode a 8) + 53 * amountOfCode a 10
 
 -- the five components in tenths of a part
 unfoldable pub tenthsOf : List ℕ → List ℕ
-tenthsOf a = 10 * amountOf a 1 ∷ 10 * amountOf a 2 ∷ 10 * amountOf a 3 ∷ butaneOf a ∷ 10 * amountOf a 15 ∷ []
+tenthsOf a = 10 * amountOfCode a 1 ∷ 10 * amountOfCode a 2 ∷ 10 * amountOfCode a 3 ∷ butaneOf a ∷ 10 * amountOfCode a 15 ∷ []
 
 -- T
 abbrev pub tenthsTotal : List ℕ → ℕ

@@ -6,11 +6,12 @@ use analysis::Checked;
 ghost use mathlib.Core.Path.{_≡_};
 ghost use Prim.Native.Nat.{_+_, _*_, _<_, _≤_};
 ghost use lib.ListN.{length, replicate};
-ghost use Rattle.analysis.specs.Check.{totalOf, refusalOf, answerOf, AtFault};
-ghost use Rattle.mixture.specs.Scaling.{WHOLE, quotientOf, remainderOf, greatestPlace, distributed, scaledOf};
+ghost use Rattle.integer.specs.Figures.{MILLION};
+ghost use Rattle.analysis.specs.Check.{totalOf, analysisRefusal, checkedOf, AtFault};
+ghost use Rattle.mixture.specs.Scaling.{quotientOf, remainderOf, greatestPlace, distributed, scaledOf};
 ghost use Rattle.mixture.specs.Simplification.{COMPONENTS, butaneOf, tenthsOf, tenthsTotal, simplifiedOf};
-ghost use Rattle.mixture.specs.Inner.Limits.{LIMIT, Limited};
-ghost use Rattle.analysis.specs.CheckedCases.{numberOf, codeOf};
+ghost use Rattle.mixture.specs.Inner.Limits.{MOST_PARTS, Limited};
+ghost use Rattle.analysis.specs.CheckedCases.{numberOf, faultOf};
 ghost use Rattle.mixture.specs.Answers.{mixtureOf, inertN1};
 ghost use Rattle.mixture.specs.Inert.{halvesUp, methaneShare, inertFirst};
 ghost use Rattle.mixture.specs.Inner.Factor.{factorOf};
@@ -19,10 +20,10 @@ ghost use Rattle.mixture.specs.Inner.Factor.{factorOf};
 pub const COMPONENTS: usize = 5;
 
 // The parts of a whole mixture.
-const WHOLE: u32 = 1000000;
+const MILLION: u32 = 1000000;
 
 // The same, for products.
-const WIDE_WHOLE: u64 = WHOLE as u64;
+const WIDE_MILLION: u64 = MILLION as u64;
 
 // The amounts of the components in parts, in their order.
 pub struct Mixture {
@@ -40,8 +41,8 @@ pub struct Simplified {
 // The simplified mixture and the inert mixture of an analysis in range, else its refusal beside zeros. Nitrogen does not
 // enter.
 pub fn simplify(a: Analysis) -> Simplified
-    ensures { λ r. ⌜ r .answer ≡ answerOf (refusalOf (a .amounts)) (codeOf (r .answer)) ⌝ }
-    ensures { λ r. ⌜ (numberOf (r .answer) ≡ 5 → AtFault (a .amounts) (codeOf (r .answer))) ⌝ }
+    ensures { λ r. ⌜ r .answer ≡ checkedOf (analysisRefusal (a .amounts)) (faultOf (r .answer)) ⌝ }
+    ensures { λ r. ⌜ (numberOf (r .answer) ≡ 5 → AtFault (a .amounts) (faultOf (r .answer))) ⌝ }
     ensures { λ r. ⌜ r .mixture .amounts ≡ mixtureOf (a .amounts) ⌝ }
     ensures { λ r. ⌜ r .inert ≡ inertN1 (a .amounts) ⌝ }
 {
@@ -108,7 +109,7 @@ fn factor(code: usize) -> u64
 
 // Butane in tenths of a part, of the codes 4 to 10.
 fn butane(a: &[u32; CODES]) -> u64
-    ensures { λ r. ⌜ (r ≡ butaneOf (now (a .entry))) × (r ≤ LIMIT) ⌝ }
+    ensures { λ r. ⌜ (r ≡ butaneOf (now (a .entry))) × (r ≤ MOST_PARTS) ⌝ }
 {
     let mut t: u64 = 0;
     let mut code: usize = 4;
@@ -135,7 +136,7 @@ fn tenths(a: &[u32; CODES]) -> [u64; COMPONENTS]
 // The sum of the amounts.
 fn sum(x: &[u64; COMPONENTS]) -> u64
     requires { ⌜ Limited (now x) ⌝ }
-    ensures { λ r. ⌜ (r ≡ totalOf (now (x .entry))) × (r ≤ LIMIT * COMPONENTS) ⌝ }
+    ensures { λ r. ⌜ (r ≡ totalOf (now (x .entry))) × (r ≤ MOST_PARTS * COMPONENTS) ⌝ }
 {
     let mut t: u64 = 0;
     let mut i = 0;
@@ -148,21 +149,21 @@ fn sum(x: &[u64; COMPONENTS]) -> u64
 
 // An amount scaled to 1000000 / total of itself, rounded down; nothing where it is absent.
 fn quotient(x: u64, total: u64) -> u32
-    requires { ⌜ (x ≤ LIMIT) × (x ≤ total) × (0 < total) ⌝ }
+    requires { ⌜ (x ≤ MOST_PARTS) × (x ≤ total) × (0 < total) ⌝ }
     ensures { λ r. ⌜ r ≡ quotientOf total x ⌝ }
 {
     if x == 0 {
         return 0;
     }
-    (WIDE_WHOLE * x / total) as u32
+    (WIDE_MILLION * x / total) as u32
 }
 
 // The remainder of this division.
 fn remainder(x: u64, total: u64, quotient: u32) -> u64
-    requires { ⌜ (x ≤ LIMIT) × (0 < total) × (quotient ≡ quotientOf total x) ⌝ }
+    requires { ⌜ (x ≤ MOST_PARTS) × (0 < total) × (quotient ≡ quotientOf total x) ⌝ }
     ensures { λ r. ⌜ r ≡ remainderOf total x ⌝ }
 {
-    WIDE_WHOLE * x - quotient as u64 * total
+    WIDE_MILLION * x - quotient as u64 * total
 }
 
 // The place of the greatest remainder, of equal ones the first.
@@ -190,7 +191,7 @@ fn distribute(
     quotients: [u32; COMPONENTS],
     remainders: [u64; COMPONENTS],
 ) -> [u32; COMPONENTS]
-    requires { ⌜ (length quotients ≡ COMPONENTS) × (length remainders ≡ COMPONENTS) × (totalOf quotients + missing ≤ WHOLE) ⌝ }
+    requires { ⌜ (length quotients ≡ COMPONENTS) × (length remainders ≡ COMPONENTS) × (totalOf quotients + missing ≤ MILLION) ⌝ }
     ensures { λ r. ⌜ r ≡ distributed missing quotients remainders ⌝ }
 {
     let mut q = quotients;
@@ -213,7 +214,7 @@ fn scale(x: [u64; COMPONENTS], total: u64) -> [u32; COMPONENTS]
 {
     let mut q = [0u32; COMPONENTS];
     let mut r = [0u64; COMPONENTS];
-    let mut missing: u32 = WHOLE;
+    let mut missing: u32 = MILLION;
     let mut i = 0;
     while i < COMPONENTS {
         let amount = x[i];
@@ -228,7 +229,7 @@ fn scale(x: [u64; COMPONENTS], total: u64) -> [u32; COMPONENTS]
 
 // n / d rounded to the nearest whole number, halves up.
 fn halves_up(n: u64, d: u64) -> u64
-    requires { ⌜ (0 < d) × (d ≤ WHOLE * LIMIT) × (n ≤ WHOLE * LIMIT * COMPONENTS) ⌝ }
+    requires { ⌜ (0 < d) × (d ≤ MILLION * MOST_PARTS) × (n ≤ MILLION * MOST_PARTS * COMPONENTS) ⌝ }
     ensures { λ r. ⌜ r ≡ halvesUp n d ⌝ }
 {
     (2 * n + d) / (2 * d)
@@ -236,8 +237,8 @@ fn halves_up(n: u64, d: u64) -> u64
 
 // n1 of a total in tenths of a part beside so many parts of carbon dioxide.
 fn methane_share(total: u64, co2: u32) -> u32
-    requires { ⌜ (0 < total) × (total ≤ LIMIT * COMPONENTS) ⌝ }
-    ensures { λ r. ⌜ (r ≡ methaneShare total co2) × (r ≤ WHOLE) ⌝ }
+    requires { ⌜ (0 < total) × (total ≤ MOST_PARTS * COMPONENTS) ⌝ }
+    ensures { λ r. ⌜ (r ≡ methaneShare total co2) × (r ≤ MILLION) ⌝ }
 {
-    halves_up(WIDE_WHOLE * total, total + weighted(co2, 10)) as u32
+    halves_up(WIDE_MILLION * total, total + weighted(co2, 10)) as u32
 }

@@ -6,18 +6,19 @@ use Prim.Native.Nat.{ℕ, zero, suc, _+_, _*_, _≤_, _<_}
 use native.Mathlib.Nat as N
 use native.Mathlib.Omega.{arith}
 use lib.Dec.{ltb}
-use lib.IntN.{ℤ, pos, negsuc, natAbs, _+ℤ_, _-ℤ_, _*ℤ_}
+use lib.IntN.{ℤ, pos, natAbs, _+ℤ_, _-ℤ_, _*ℤ_}
 use lib.ListN.{length, getD}
 use lib.Signed.{quotZ}
 use borrow.Author.Tests.{not-true, not-false, lt-leb, le-leb}
+use Rattle.integer.specs.Figures.{neg, MILLION}
 use Rattle.split.specs.Fold.{sumTo, sumToZ}
 use Rattle.split.specs.Laws.Folds.{sum-same, greatest-same, least-same}
-use Rattle.split.specs.Split.{CELLS, partsOf, numberAt, Stock}
-use Rattle.split.specs.Rating.{resums, someEmpty, spreadOf, weightedOf, meanOf, inertNumber, ratingOf}
+use Rattle.split.specs.Split.{CELLS, partsOf, rowNumber, Stock}
+use Rattle.split.specs.Rating.{resums, someEmpty, spreadOf, weightedOf, meanOf, inertNumber, ratingOf, PURE_METHANE}
 use Rattle.split.specs.Find.{chosenFit, mixtureFit}
 use Rattle.split.specs.Laws.Sums.{resummed, parts-le}
 use Rattle.split.specs.Laws.Fits.{resums-yes, no-empty}
-use Rattle.split.specs.Proposed.{proposalFit, answerOf, ratedOf, Proposal}
+use Rattle.split.specs.Proposed.{proposalFit, proposedAnswer, ratedOf, Proposal}
 use Rattle.split.specs.Laws.Proposed.{proposal-of, answer-unfit, answer-unsummed, answer-empty, answer-rated}
 use Rattle.split.specs.declared.Answer.{Answer}
 use Rattle.split.specs.declared.Answer.the-variants.{Rated, Refused}
@@ -56,18 +57,18 @@ module _ (limit : ℕ) (ch : List ℕ) (k : ℕ) (a : List ℕ) (n1 : ℕ) (st :
 
     weighed-same : weighedTo (r .numbers) (r .parts) k ≡ weightedOf ch k a
     unfolding weighedTo weightedOf
-    weighed-same = sumZ-same (λ s. listed (r .numbers) s *ℤ pos (getD (r .parts) s 0)) (λ s. numberAt ch a s *ℤ pos (partsOf ch a s)) k (λ s l. ap₂ (λ x n. x *ℤ pos n) (held .carried .are s l) (parts-of ch k a r q st e s l))
+    weighed-same = sumZ-same (λ s. listed (r .numbers) s *ℤ pos (getD (r .parts) s 0)) (λ s. rowNumber ch a s *ℤ pos (partsOf ch a s)) k (λ s l. ap₂ (λ x n. x *ℤ pos n) (held .carried .are s l) (parts-of ch k a r q st e s l))
 
-    spread-same : spreadOf (listed (r .numbers)) k ≡ spreadOf (numberAt ch a) k
+    spread-same : spreadOf (listed (r .numbers)) k ≡ spreadOf (rowNumber ch a) k
     unfolding spreadOf
     spread-same =
         ap₂ (λ (x y : ℤ). natAbs (x -ℤ y))
-        (greatest-same (listed (r .numbers)) (numberAt ch a) k k (st .chosen .some) (N.le-refl k) (held .carried .are))
-        (least-same (listed (r .numbers)) (numberAt ch a) k k (st .chosen .some) (N.le-refl k) (held .carried .are))
+        (greatest-same (listed (r .numbers)) (rowNumber ch a) k k (st .chosen .some) (N.le-refl k) (held .carried .are))
+        (least-same (listed (r .numbers)) (rowNumber ch a) k k (st .chosen .some) (N.le-refl k) (held .carried .are))
 
     rated-same : ratedBy limit (r .numbers) (r .parts) k n1 ≡ ratedOf limit ch k a n1
     unfolding ratedBy ratedOf ratingOf meanOf
-    rated-same = ap₂ (λ (s : ℕ) (w : ℤ). cond (ltb limit s) (Refused 10 0) (Rated (quotZ w (pos 1000000) +ℤ inertNumber n1 +ℤ negsuc 1000002999) s 0)) spread-same weighed-same
+    rated-same = ap₂ (λ (s : ℕ) (w : ℤ). cond (ltb limit s) (Refused 10 0) (Rated (quotZ w (pos MILLION) +ℤ inertNumber n1 +ℤ neg PURE_METHANE) s 0)) spread-same weighed-same
 
     pub rated-weighed : (x : Answer) → x ≡ ratedBy limit (r .numbers) (r .parts) k n1 → x ≡ weighedOf limit ch k a n1
     unfolding weighedOf
@@ -76,18 +77,18 @@ module _ (limit : ℕ) (ch : List ℕ) (k : ℕ) (a : List ℕ) (n1 : ℕ) (st :
 -- ---- the tests of the input
 
 module _ (mix ch : List ℕ) (k n1 : ℕ) where
-  pub much-inert : 1000000 < n1 → false ≡ proposalFit mix ch k n1
+  pub much-inert : MILLION < n1 → false ≡ proposalFit mix ch k n1
   unfolding proposalFit
-  much-inert h = sym (rw (lt-leb n1 1000000 h))
+  much-inert h = sym (rw (lt-leb n1 MILLION h))
 
-  pub inert-fits : n1 ≤ 1000000 → (b : Bool) → b ≡ (mixtureFit mix && chosenFit ch k) → b ≡ proposalFit mix ch k n1
+  pub inert-fits : n1 ≤ MILLION → (b : Bool) → b ≡ (mixtureFit mix && chosenFit ch k) → b ≡ proposalFit mix ch k n1
   unfolding proposalFit
-  inert-fits h b e = e ∙ sym (rw (le-leb n1 1000000 h))
+  inert-fits h b e = e ∙ sym (rw (le-leb n1 MILLION h))
 
 -- ---- the answer
 
 module _ (mix ch : List ℕ) (k n1 : ℕ) (b : Bool) (p : b ≡ proposalFit mix ch k n1) where
-  pub unfit : (limit : ℕ) (a : List ℕ) → not b ≡ true → Unfit ≡ answerOf limit ch k mix a n1
+  pub unfit : (limit : ℕ) (a : List ℕ) → not b ≡ true → Unfit ≡ proposedAnswer limit ch k mix a n1
   unfit limit a h = sym (answer-unfit mix ch k n1 limit a (sym p ∙ not-true b h))
 
   module _ (l : not b ≡ false) where
@@ -95,7 +96,7 @@ module _ (mix ch : List ℕ) (k n1 : ℕ) (b : Bool) (p : b ≡ proposalFit mix 
     proposal = proposal-of mix ch k n1 (sym p ∙ not-false b l)
 
     module _ (a : List ℕ) (d : Bool) (q : d ≡ resums mix k a) where
-      pub unsummed : (limit : ℕ) → not d ≡ true → (x : Answer) → x ≡ Refused 8 0 → Answered x ≡ answerOf limit ch k mix a n1
+      pub unsummed : (limit : ℕ) → not d ≡ true → (x : Answer) → x ≡ Refused 8 0 → Answered x ≡ proposedAnswer limit ch k mix a n1
       unsummed limit h x u = ap Answered u ∙ sym (answer-unsummed mix ch k n1 limit a proposal (sym q ∙ not-true d h))
 
       module _ (y : not d ≡ false) where
@@ -105,10 +106,10 @@ module _ (mix ch : List ℕ) (k n1 : ℕ) (b : Bool) (p : b ≡ proposalFit mix 
         pub stock : length a ≡ CELLS → Stock ch k a
         stock long = record { chosen = proposal .chosen; long = long; few = rw (resummed mix k a (resums-yes mix k a yes)) (proposal .few) }
 
-        pub answered : (limit : ℕ) (x : Answer) → x ≡ weighedOf limit ch k a n1 → Answered x ≡ answerOf limit ch k mix a n1
+        pub answered : (limit : ℕ) (x : Answer) → x ≡ weighedOf limit ch k a n1 → Answered x ≡ proposedAnswer limit ch k mix a n1
         unfolding weighedOf
         answered limit x u = ap Answered u ∙ go (someEmpty ch k a) refl
           where
-            go : (e : Bool) → someEmpty ch k a ≡ e → Answered (weighedOf limit ch k a n1) ≡ answerOf limit ch k mix a n1
+            go : (e : Bool) → someEmpty ch k a ≡ e → Answered (weighedOf limit ch k a n1) ≡ proposedAnswer limit ch k mix a n1
             go true e = rw (e, weighedOf) (sym (answer-empty mix ch k n1 limit a proposal yes e))
             go false e = rw (e, weighedOf) (sym (answer-rated mix ch k n1 limit a proposal yes e))

@@ -7,14 +7,15 @@ use native.Mathlib.Nat as N
 use native.Mathlib.Numerals.{add-one}
 use native.Mathlib.Omega.{arith}
 use lib.Dec.{ltb}
-use lib.IntN.{ℤ, pos, negsuc, natAbs, _+ℤ_, _*ℤ_}
+use lib.IntN.{ℤ, pos, natAbs, _+ℤ_, _*ℤ_}
 use lib.ListN.{getD}
 use lib.Signed.{quotZ}
 use borrow.Author.Tests.{lt-ltb, le-ltb}
+use Rattle.integer.specs.Figures.{neg, MILLION}
 use Rattle.integer.specs.Laws.Ring.{natAbs-+, natAbs-*}
 use Rattle.formula.specs.WorkingRule.{LARGEST}
 use Rattle.split.specs.Fold.{sumTo, sumToZ}
-use Rattle.split.specs.Rating.{spreadOf, inertNumber}
+use Rattle.split.specs.Rating.{spreadOf, inertNumber, PURE_METHANE}
 use Rattle.split.specs.declared.Answer.the-variants.{Rated, Refused}
 use Rattle.split_rows.specs.Rows.{listed}
 use Rattle.proposal.specs.Inner.Weighing.{Weighable, weighedTo, ratedBy}
@@ -44,7 +45,7 @@ module _ (v : List ℤ) (p : List ℕ) (k : ℕ) (w : Weighable v p k) where
   abbrev partAt : ℕ → ℕ
   partAt s = getD p s 0
 
-  next-few : (s : ℕ) → s < k → sumTo partAt s + partAt s ≤ 1000000
+  next-few : (s : ℕ) → s < k → sumTo partAt s + partAt s ≤ MILLION
   next-few s l =
       let q : suc s + (k - suc s) ≡ k = omega arith in
       omega (arith, w .few, sum-suc partAt s, rw q at (prefix-le partAt (suc s) (k - suc s)))
@@ -61,7 +62,7 @@ module _ (v : List ℤ) (p : List ℕ) (k : ℕ) (w : Weighable v p k) where
       )
 
   module _ (s : ℕ) (sum x : ℤ) (n : ℕ) (so : WeighedTo v p k s sum) (l : s < k) (ex : x ≡ listed v s) (ep : n ≡ partAt s) where
-    pub weigh-asks : (natAbs x ≤ LARGEST) × (natAbs sum + LARGEST * n ≤ LARGEST * 1000000)
+    pub weigh-asks : (natAbs x ≤ LARGEST) × (natAbs sum + LARGEST * n ≤ LARGEST * MILLION)
     weigh-asks = (rw ex (w .small .each s l), rw (so .is, ep) (omega (arith, weighed-small s (so .within), next-few s l)))
 
     pub weighed-more : (r : ℤ) → r ≡ sum +ℤ x *ℤ pos n → WeighedTo v p k (s + 1) r
@@ -71,7 +72,7 @@ module _ (v : List ℤ) (p : List ℕ) (k : ℕ) (w : Weighable v p k) where
       is = e ∙ ap₂ _+ℤ_ (so .is) (ap₂ (λ (y : ℤ) (n : ℕ). y *ℤ pos n) ex ep) ∙ ap (weighedTo v p) (sym (add-one s));
     }
 
-  pub weighed-all : (s : ℕ) (sum : ℤ) → WeighedTo v p k s sum → k ≤ s → (sum ≡ weighedTo v p k) × (natAbs sum ≤ LARGEST * 1000000)
+  pub weighed-all : (s : ℕ) (sum : ℤ) → WeighedTo v p k s sum → k ≤ s → (sum ≡ weighedTo v p k) × (natAbs sum ≤ LARGEST * MILLION)
   weighed-all s sum so l =
       let q : s ≡ k = omega (arith, so .within) in
       let e : sum ≡ weighedTo v p k = so .is ∙ ap (weighedTo v p) q in
@@ -87,9 +88,9 @@ module _ (limit : ℕ) (v : List ℤ) (p : List ℕ) (k n1 s : ℕ) (e : s ≡ s
   unfolding ratedBy
   wide-answer h = sym (rw (width true (lt-ltb limit s h), ratedBy))
 
-  pub rated-answer : s ≤ limit → (sum inert r : ℤ) → sum ≡ weighedTo v p k → inert ≡ inertNumber n1 → r ≡ quotZ sum (pos 1000000) +ℤ inert +ℤ negsuc 1000002999
+  pub rated-answer : s ≤ limit → (sum inert r : ℤ) → sum ≡ weighedTo v p k → inert ≡ inertNumber n1 → r ≡ quotZ sum (pos MILLION) +ℤ inert +ℤ neg PURE_METHANE
       → Rated r s 0 ≡ ratedBy limit v p k n1
   unfolding ratedBy
   rated-answer h sum inert r es ei er =
-      ap₂ (λ (x : ℤ) (y : ℕ). Rated x y 0) (er ∙ ap₂ (λ (x y : ℤ). quotZ x (pos 1000000) +ℤ y +ℤ negsuc 1000002999) es ei) e
+      ap₂ (λ (x : ℤ) (y : ℕ). Rated x y 0) (er ∙ ap₂ (λ (x y : ℤ). quotZ x (pos MILLION) +ℤ y +ℤ neg PURE_METHANE) es ei) e
       ∙ sym (rw (width false (le-ltb limit s h), ratedBy))

@@ -3,11 +3,12 @@ ghost use mathlib.Core.Path.{_≡_};
 ghost use Prim.Native.Nat.{_+_, _*_, _<_, _≤_};
 ghost use lib.IntN.{ℤ, pos, negsuc, natAbs, _+ℤ_, _*ℤ_};
 ghost use lib.Signed.{quotZ};
+ghost use Rattle.integer.specs.Figures.{neg, MILLION};
 ghost use Rattle.formula.specs.WorkingRule.{LARGEST};
 ghost use Rattle.systems.specs.Systems.{COMPONENTS};
 ghost use Rattle.split.specs.Split.{SYSTEMS, columnOf, Stock};
-ghost use Rattle.split.specs.Rating.{resums, spreadOf, inertNumber};
-ghost use Rattle.split.specs.Proposed.{proposalFit, answerOf};
+ghost use Rattle.split.specs.Rating.{resums, spreadOf, inertNumber, PURE_METHANE};
+ghost use Rattle.split.specs.Proposed.{proposalFit, proposedAnswer};
 ghost use Rattle.split_rows.specs.Rows.{listed};
 ghost use Rattle.split_rows.specs.Inner.Small.{Small};
 ghost use Rattle.proposal.specs.Inner.Weighing.{Weighable, weighedTo, ratedBy, weighedOf};
@@ -71,7 +72,7 @@ fn resums(mix: &[u32; COMPONENTS], k: usize, a: &[u32; CELLS]) -> bool
 
 // One more partial number, times its system's parts.
 fn weigh(sum: i64, v: i64, p: u32) -> i64
-    requires { ⌜ (natAbs v ≤ LARGEST) × (natAbs sum + LARGEST * p ≤ LARGEST * 1000000) ⌝ }
+    requires { ⌜ (natAbs v ≤ LARGEST) × (natAbs sum + LARGEST * p ≤ LARGEST * MILLION) ⌝ }
     ensures { λ r. ⌜ r ≡ sum +ℤ v *ℤ pos p ⌝ }
 {
     sum + v * (p as i64)
@@ -80,7 +81,7 @@ fn weigh(sum: i64, v: i64, p: u32) -> i64
 // Each number times its system's parts, added.
 fn weighted(v: &[i64; SYSTEMS], p: &[u32; SYSTEMS], k: usize) -> i64
     requires { ⌜ Weighable (now v) (now p) k ⌝ }
-    ensures { λ r. ⌜ (r ≡ weighedTo (now (v .entry)) (now (p .entry)) k) × (natAbs r ≤ LARGEST * 1000000) ⌝ }
+    ensures { λ r. ⌜ (r ≡ weighedTo (now (v .entry)) (now (p .entry)) k) × (natAbs r ≤ LARGEST * MILLION) ⌝ }
 {
     let mut sum: i64 = 0;
     let mut s = 0;
@@ -114,7 +115,7 @@ fn spread(v: &[i64; SYSTEMS], k: usize) -> u64
 
 // The inert number: system 20 at n1 and the rest.
 fn inert_number(n1: u32) -> i64
-    requires { ⌜ n1 ≤ 1000000 ⌝ }
+    requires { ⌜ n1 ≤ MILLION ⌝ }
     ensures { λ r. ⌜ (r ≡ inertNumber n1) × (natAbs r ≤ LARGEST) ⌝ }
 {
     let p = ternary::formula_number(INERT, n1, MILLION - n1, 0);
@@ -126,8 +127,8 @@ fn inert_number(n1: u32) -> i64
 
 // The mean, divided once, and the inert number less 100.0003.
 fn rating_of(sum: i64, inert: i64) -> i64
-    requires { ⌜ (natAbs sum ≤ LARGEST * 1000000) × (natAbs inert ≤ LARGEST) ⌝ }
-    ensures { λ r. ⌜ r ≡ quotZ sum (pos 1000000) +ℤ inert +ℤ negsuc 1000002999 ⌝ }
+    requires { ⌜ (natAbs sum ≤ LARGEST * MILLION) × (natAbs inert ≤ LARGEST) ⌝ }
+    ensures { λ r. ⌜ r ≡ quotZ sum (pos MILLION) +ℤ inert +ℤ neg PURE_METHANE ⌝ }
 {
     sum / 1000000 + inert - 1000003000
 }
@@ -140,7 +141,7 @@ fn refused(number: u32) -> Answer
 
 // The answer to the numbers and parts of k rows: refused 10 where the spread is above the limit, else rated.
 fn rated(limit: u64, v: &[i64; SYSTEMS], p: &[u32; SYSTEMS], k: usize, n1: u32) -> Answer
-    requires { ⌜ Weighable (now v) (now p) k × (n1 ≤ 1000000) ⌝ }
+    requires { ⌜ Weighable (now v) (now p) k × (n1 ≤ MILLION) ⌝ }
     ensures { λ r. ⌜ r ≡ ratedBy limit (now (v .entry)) (now (p .entry)) k n1 ⌝ }
 {
     let spread = spread(v, k);
@@ -157,7 +158,7 @@ fn rated(limit: u64, v: &[i64; SYSTEMS], p: &[u32; SYSTEMS], k: usize, n1: u32) 
 
 // The answer to cells that re-sum: 9 where a system is empty, else as their rows are rated.
 fn weighed(limit: u64, choice: Choice, cells: &[u32; CELLS], n1: u32) -> Answer
-    requires { ⌜ Stock (choice .systems) (choice .count) (now cells) × (n1 ≤ 1000000) ⌝ }
+    requires { ⌜ Stock (choice .systems) (choice .count) (now cells) × (n1 ≤ MILLION) ⌝ }
     ensures { λ r. ⌜ r ≡ weighedOf limit (choice .systems) (choice .count) (now (cells .entry)) n1 ⌝ }
 {
     let rows = split_rows::evaluate(choice, cells);
@@ -190,7 +191,7 @@ pub fn proposed(
     cells: [u32; CELLS],
     n1: u32,
 ) -> split::Proposed
-    ensures { λ r. ⌜ r ≡ answerOf limit (choice .systems) (choice .count) mix cells n1 ⌝ }
+    ensures { λ r. ⌜ r ≡ proposedAnswer limit (choice .systems) (choice .count) mix cells n1 ⌝ }
 {
     if !fits(mix, choice, n1) {
         return split::Proposed::Unfit;

@@ -18,7 +18,7 @@ use Rattle.refusal.specs.Register.{TOO_FEW}
 use Rattle.analysis.specs.Register.{CODES}
 use Rattle.analysis.specs.CheckedCases as check
 use Rattle.analysis.specs.Laws.Ranges.{checked-number}
-use Rattle.analysis.specs.Check.{refusalOf, AtFault, Checking}
+use Rattle.analysis.specs.Check.{analysisRefusal, AtFault, Checking}
 use Rattle.analysis.specs.declared.Checked.{Checked}
 use Rattle.analysis.specs.declared.Checked.the-variants as checked
 use Rattle.sheet.specs.Split.{noSplit}
@@ -29,14 +29,14 @@ use Rattle.mixture.specs.Answers.{mixtureOf, inertN1}
 use Rattle.systems.specs.Choice.{presentCount, choiceOf}
 use Rattle.systems.specs.declared.Choice.{Choice}
 use Rattle.split.specs.Refused.{differ, wider}
-use Rattle.split.specs.Split.{RECORDS, cellsOf, numberAt}
-use Rattle.split.specs.Rating.{spreadOf, ratingOf, proposedOf}
+use Rattle.split.specs.Split.{RECORDS, cellsOf, rowNumber}
+use Rattle.split.specs.Rating.{spreadOf, ratingOf, proposedOf, LIMIT}
 use Rattle.split.specs.Fits.{Fit}
-use Rattle.split.specs.AnswerCases.{numberOf, codeOf}
+use Rattle.split.specs.AnswerCases.{numberOf, faultOf}
 use Rattle.split.specs.Rated.{IsRated, fit-rated}
-use Rattle.split.specs.Proposed.{Proposal, answerOf}
+use Rattle.split.specs.Proposed.{Proposal, proposedAnswer}
 use Rattle.split.specs.Laws.Proposed.{answer-proposed}
-use Rattle.split.specs.Search.{LEVEL}
+use Rattle.split.specs.Search.{FIRST_LEVEL}
 use Rattle.split.specs.Find.{findOf}
 use Rattle.split.specs.Laws.Finds.{input-fits, find-search, find-balanced}
 use Rattle.split.specs.declared.Answer.{Answer}
@@ -46,7 +46,7 @@ use Rattle.split.specs.declared.Proposed.{Proposed}
 use Rattle.split.specs.declared.Proposed.the-variants.{Answered, Unfit}
 use Rattle.split.specs.declared.Found.{Found}
 use Rattle.rating.specs.Records.{fitsOf}
-use Rattle.rating.specs.Rate.{LIMIT, ROUNDS, FEWEST, mixOf, systemsFor, countFor, ratingRefusal, splitBy, splitAnswer, outcome, recordsOf, foundBy, foundOutcome, searched, searchOutcome}
+use Rattle.rating.specs.Rate.{ROUNDS, FEWEST, mixOf, systemsFor, countFor, ratingRefusal, splitBy, splitAnswer, outcome, recordsOf, foundBy, foundOutcome, searched, searchOutcome}
 use Rattle.split.specs.Accuracy.{fit-few}
 use Rattle.split.specs.PutBack.{balance-fit}
 use Rattle.split.specs.Laws.Size.{rating-small}
@@ -67,36 +67,36 @@ isIn (checked.Refused number code) = false
 -- an analysis that is turned away: the refusal is its own, and 5 carries a code at fault
 pub record TurnedAway (a : List ℕ) (number code : ℕ) : Type 0 where
   pub some : eqb (ratingRefusal a) 0 ≡ false
-  pub same : Refused number code ≡ Refused (ratingRefusal a) (cond (eqb (ratingRefusal a) 5) (codeOf (Refused number code)) 0)
-  pub fault : number ≡ 5 → AtFault a (codeOf (Refused number code))
+  pub same : Refused number code ≡ Refused (ratingRefusal a) (cond (eqb (ratingRefusal a) 5) (faultOf (Refused number code)) 0)
+  pub fault : number ≡ 5 → AtFault a (faultOf (Refused number code))
 
 module _ (a : List ℕ) (x : Checked) (h : Checking a x) where
-  pub in-range : x ≡ checked.InRange → refusalOf a ≡ 0
+  pub in-range : x ≡ checked.InRange → analysisRefusal a ≡ 0
   in-range e = sym (checked-number a x h) ∙ ap check.numberOf e
 
   pub turned-away : (number code : ℕ) → x ≡ checked.Refused number code → TurnedAway a number code
-  turned-away number code e = go (eqb (refusalOf a) 0) refl (h .answer)
+  turned-away number code e = go (eqb (analysisRefusal a) 0) refl (h .answer)
     where
-      carried : check.codeOf x ≡ code
-      carried = ap check.codeOf e
+      carried : check.faultOf x ≡ code
+      carried = ap check.faultOf e
 
-      by : (f : Bool) → eqb (refusalOf a) 5 ≡ f → number ≡ refusalOf a → code ≡ cond f (check.codeOf x) 0
-          → Refused number code ≡ Refused (refusalOf a) (cond (eqb (refusalOf a) 5) (codeOf (Refused number code)) 0)
+      by : (f : Bool) → eqb (analysisRefusal a) 5 ≡ f → number ≡ analysisRefusal a → code ≡ cond f (check.faultOf x) 0
+          → Refused number code ≡ Refused (analysisRefusal a) (cond (eqb (analysisRefusal a) 5) (faultOf (Refused number code)) 0)
       by true q n c =
           let five : eqb number 5 ≡ true = ap (λ (k : ℕ). eqb k 5) n ∙ q in
           ap (λ (k : ℕ). Refused k code) n ∙ rw (q, five)
       by false q n c = ap₂ Refused n c ∙ rw q
 
-      go : (b : Bool) → eqb (refusalOf a) 0 ≡ b → x ≡ cond b checked.InRange (checked.Refused (refusalOf a) (cond (eqb (refusalOf a) 5) (check.codeOf x) 0)) → TurnedAway a number code
+      go : (b : Bool) → eqb (analysisRefusal a) 0 ≡ b → x ≡ cond b checked.InRange (checked.Refused (analysisRefusal a) (cond (eqb (analysisRefusal a) 5) (check.faultOf x) 0)) → TurnedAway a number code
       go true q r = absurd (differ (isIn x) (ap isIn r) (ap isIn e))
       go false q r =
-          let same : checked.Refused number code ≡ checked.Refused (refusalOf a) (cond (eqb (refusalOf a) 5) (check.codeOf x) 0) = sym e ∙ r in
-          let n : number ≡ refusalOf a = cc in
-          let c : code ≡ cond (eqb (refusalOf a) 5) (check.codeOf x) 0 = cc in
+          let same : checked.Refused number code ≡ checked.Refused (analysisRefusal a) (cond (eqb (analysisRefusal a) 5) (check.faultOf x) 0) = sym e ∙ r in
+          let n : number ≡ analysisRefusal a = cc in
+          let c : code ≡ cond (eqb (analysisRefusal a) 5) (check.faultOf x) 0 = cc in
           let f = range-first a q in
           record {
             some = rw f q;
-            same = rw f (by (eqb (refusalOf a) 5) refl n c);
+            same = rw f (by (eqb (analysisRefusal a) 5) refl n c);
             fault = λ z. rw (eq-eqb number 5 z) (subst (AtFault a) carried (h .code (ap check.numberOf e ∙ z)));
           }
 
@@ -106,21 +106,21 @@ few-away a h l =
     let f = too-few a h l in
     record { some = rw f; same = rw f; fault = λ z. absurd (omega arith) }
 
-pub split-away : (a : List ℕ) (p : Split) (number code : ℕ) → TurnedAway a number code → Refused number code ≡ splitAnswer a p (codeOf (Refused number code))
+pub split-away : (a : List ℕ) (p : Split) (number code : ℕ) → TurnedAway a number code → Refused number code ≡ splitAnswer a p (faultOf (Refused number code))
 unfolding splitAnswer
 split-away a p number code t =
     t .same
-    ∙ sym (ap (λ (b : Bool). cond b (splitBy (systemsFor a) (countFor a) (mixOf a) (inertFirst a) p) (Refused (ratingRefusal a) (cond (eqb (ratingRefusal a) 5) (codeOf (Refused number code)) 0))) (t .some))
+    ∙ sym (ap (λ (b : Bool). cond b (splitBy (systemsFor a) (countFor a) (mixOf a) (inertFirst a) p) (Refused (ratingRefusal a) (cond (eqb (ratingRefusal a) 5) (faultOf (Refused number code)) 0))) (t .some))
 
-pub search-away : (a : List ℕ) (allowance number code : ℕ) → TurnedAway a number code → outcome (Refused number code) noSplit ≡ searchOutcome a allowance (codeOf (Refused number code))
+pub search-away : (a : List ℕ) (allowance number code : ℕ) → TurnedAway a number code → outcome (Refused number code) noSplit ≡ searchOutcome a allowance (faultOf (Refused number code))
 unfolding searchOutcome
 search-away a allowance number code t =
     ap (λ (x : Answer). outcome x noSplit) (t .same)
-    ∙ sym (ap (λ (b : Bool). cond b (foundOutcome (systemsFor a) (countFor a) (inertFirst a) (searched a allowance)) (outcome (Refused (ratingRefusal a) (cond (eqb (ratingRefusal a) 5) (codeOf (Refused number code)) 0)) noSplit)) (t .some))
+    ∙ sym (ap (λ (b : Bool). cond b (foundOutcome (systemsFor a) (countFor a) (inertFirst a) (searched a allowance)) (outcome (Refused (ratingRefusal a) (cond (eqb (ratingRefusal a) 5) (faultOf (Refused number code)) 0)) noSplit)) (t .some))
 
 -- ---- an analysis in range
 
-module _ (a : List ℕ) (long : length a ≡ CODES) (passed : refusalOf a ≡ 0) where
+module _ (a : List ℕ) (long : length a ≡ CODES) (passed : analysisRefusal a ≡ 0) where
   mixture-in : mixtureOf a ≡ simplifiedOf a
   mixture-in = ap (λ (n : ℕ). cond (eqb n 0) (simplifiedOf a) (replicate COMPONENTS 0)) passed
 
@@ -153,7 +153,7 @@ module _ (a : List ℕ) (long : length a ≡ CODES) (passed : refusalOf a ≡ 0)
     pub given-room : 3 * choice .count ≤ RECORDS
     given-room = rw choice-is (room a on)
 
-    pub split-in : (p : Split) (r : Answer) → r ≡ splitBy (choice .systems) (choice .count) mix n1 p → r ≡ splitAnswer a p (codeOf r)
+    pub split-in : (p : Split) (r : Answer) → r ≡ splitBy (choice .systems) (choice .count) mix n1 p → r ≡ splitAnswer a p (faultOf r)
     unfolding splitAnswer
     split-in p r e = e ∙ rw (choice-is, mix-is, inert-is, on)
 
@@ -162,7 +162,7 @@ module _ (a : List ℕ) (long : length a ≡ CODES) (passed : refusalOf a ≡ 0)
       found-is : found ≡ searched a allowance
       found-is =
           f ∙ rw (choice-is, mix-is, l)
-          (sym (find-search (mixOf a) (systemsFor a) (countFor a) LEVEL LIMIT (min allowance ROUNDS) (input-fits (mixOf a) (systemsFor a) (countFor a) LEVEL (input a long on))))
+          (sym (find-search (mixOf a) (systemsFor a) (countFor a) FIRST_LEVEL LIMIT (min allowance ROUNDS) (input-fits (mixOf a) (systemsFor a) (countFor a) FIRST_LEVEL (input a long on))))
 
       found-cells : (s r : ℕ) → found .search ≡ Balanced s r → Fit LIMIT (choice .systems) (choice .count) mix (found .cells)
       found-cells s r e =
@@ -172,7 +172,7 @@ module _ (a : List ℕ) (long : length a ≡ CODES) (passed : refusalOf a ≡ 0)
       pub found-fit : FoundFit mix (choice .systems) (choice .count) found
       found-fit = record { made = λ e. never-unfit a allowance (ap (λ (x : Found). x .search) (sym found-is) ∙ e); fit = found-cells }
 
-      pub search-in : (r : Outcome) → r ≡ foundOutcome (choice .systems) (choice .count) n1 found → r ≡ searchOutcome a allowance (codeOf (r .answer))
+      pub search-in : (r : Outcome) → r ≡ foundOutcome (choice .systems) (choice .count) n1 found → r ≡ searchOutcome a allowance (faultOf (r .answer))
       unfolding searchOutcome
       search-in r e = e ∙ rw (choice-is, inert-is, found-is, on)
 
@@ -196,7 +196,7 @@ module _ (ch : List ℕ) (k : ℕ) (mix : List ℕ) (n1 : ℕ) where
   fitting p cells e q = ap (λ (l : List ℕ). proposedOf 500000 ch k mix l n1) q ∙ rw e
 
   -- fit input is answered, under any limit
-  module _ (limit : ℕ) (cells : List ℕ) (h : Proposal mix ch k n1) (y : Proposed) (z : y ≡ answerOf limit ch k mix cells n1) where
+  module _ (limit : ℕ) (cells : List ℕ) (h : Proposal mix ch k n1) (y : Proposed) (z : y ≡ proposedAnswer limit ch k mix cells n1) where
     pub answered-not-unfit : y ≡ Unfit → ⊥
     answered-not-unfit u =
         let same = sym u ∙ z ∙ answer-proposed mix ch k n1 limit cells h in
@@ -207,11 +207,11 @@ module _ (ch : List ℕ) (k : ℕ) (mix : List ℕ) (n1 : ℕ) where
 
   -- cells that are fit are rated, also under a wider limit
   module _ (limit : ℕ) (cells : List ℕ) (f : Fit 500000 ch k mix cells) (x : Answer) (e : x ≡ proposedOf limit ch k mix cells n1) (l : 500000 ≤ limit) where
-    rated : x ≡ Rated (ratingOf ch k cells n1) (spreadOf (numberAt ch cells) k) 0
+    rated : x ≡ Rated (ratingOf ch k cells n1) (spreadOf (rowNumber ch cells) k) 0
     rated = e ∙ wider 500000 limit ch k mix cells n1 _ _ _ l (fit-rated 500000 ch k mix cells n1 f)
 
     pub rating-is : (w : ℤ) (s r : ℕ) → x ≡ Rated w s r → w ≡ ratingOf ch k cells n1
-    rating-is w s r q = let same : Rated w s r ≡ Rated (ratingOf ch k cells n1) (spreadOf (numberAt ch cells) k) 0 = sym q ∙ rated in cc
+    rating-is w s r q = let same : Rated w s r ≡ Rated (ratingOf ch k cells n1) (spreadOf (rowNumber ch cells) k) 0 = sym q ∙ rated in cc
 
     pub not-refused : (number place : ℕ) → x ≡ Refused number place → ⊥
     not-refused number place q = subst IsRated (sym rated ∙ q) tt
@@ -245,9 +245,9 @@ search-any a n c d h = go (on-or-few a h)
 -- ---- the same of a call's result
 
 pub search-away-is : (a : List ℕ) (allowance number code : ℕ) (r : Outcome) → TurnedAway a number code → r ≡ outcome (Refused number code) noSplit
-    → (r ≡ searchOutcome a allowance (codeOf (r .answer))) × (numberOf (r .answer) ≡ 5 → AtFault a (codeOf (r .answer)))
+    → (r ≡ searchOutcome a allowance (faultOf (r .answer))) × (numberOf (r .answer) ≡ 5 → AtFault a (faultOf (r .answer)))
 search-away-is a allowance number code r t e =
-    subst (λ (o : Outcome). (o ≡ searchOutcome a allowance (codeOf (o .answer))) × (numberOf (o .answer) ≡ 5 → AtFault a (codeOf (o .answer)))) (sym e)
+    subst (λ (o : Outcome). (o ≡ searchOutcome a allowance (faultOf (o .answer))) × (numberOf (o .answer) ≡ 5 → AtFault a (faultOf (o .answer)))) (sym e)
     (search-away a allowance number code t, t .fault)
 
 pub found-is-some : (ch : List ℕ) (k n1 : ℕ) (f : Found) (s r : ℕ) (w w′ : ℤ) (p : Split) → f .search ≡ Balanced s r → w′ ≡ w → w ≡ ratingOf ch k (f .cells) n1 → p ≡ recordsOf ch k (f .cells)

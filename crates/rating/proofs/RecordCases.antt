@@ -16,8 +16,8 @@ use Rattle.split.specs.Laws.Tables.{length-table, getD-table}
 use Rattle.split.specs.Laws.Clean.{held-row, row-held}
 use Rattle.split.specs.Laws.Places.{rank-lt, component-rank, component-lt, component-has, rank-component}
 use Rattle.sheet.specs.declared.Split.{Split}
-use Rattle.rating.specs.Records.{codeOf, systemAt, codeAt, systemsOf, codesOf, amountAt, cellAt, matchesAt, fitsOf}
-use Rattle.split.specs.Proposed.{Proposal, answerOf}
+use Rattle.rating.specs.Records.{splitCode, systemAt, codeAt, systemsOf, codesOf, amountAt, cellAt, matchesAt, fitsOf}
+use Rattle.split.specs.Proposed.{Proposal, proposedAnswer}
 use Rattle.split.specs.declared.Answer.{Answer}
 use Rattle.split.specs.declared.Answer.the-variants.{Refused}
 use Rattle.split.specs.declared.Proposed.{Proposed}
@@ -43,10 +43,10 @@ component-is packed t system j k h =
     (e, rw e (component-lt system k j h))
 
 abbrev pub coded : ℕ → ℕ → Bool
-coded packed c = eqb (packed / 2 ^ (c * 4) % 16) (codeOf c)
+coded packed c = eqb (packed / 2 ^ (c * 4) % 16) (splitCode c)
 
-pub code-is : (packed : ℕ) → T (everyTo (coded packed) COMPONENTS) → (c : ℕ) → c < COMPONENTS → packed / 2 ^ (c * 4) % 16 ≡ codeOf c
-code-is packed t c h = eqb→eq (packed / 2 ^ (c * 4) % 16) (codeOf c) (eachTo (coded packed) COMPONENTS t c h)
+pub code-is : (packed : ℕ) → T (everyTo (coded packed) COMPONENTS) → (c : ℕ) → c < COMPONENTS → packed / 2 ^ (c * 4) % 16 ≡ splitCode c
+code-is packed t c h = eqb→eq (packed / 2 ^ (c * 4) % 16) (splitCode c) (eachTo (coded packed) COMPONENTS t c h)
 
 -- ---- one record
 
@@ -59,7 +59,7 @@ module _ (ch : List ℕ) (k r : ℕ) where
   unfolding systemAt
   system-past h = rw (le-ltb r (3 * k) h)
 
-  code-in : r < 3 * k → codeOf (componentAt (systemOf ch (r / 3)) (r % 3)) ≡ codeAt ch k r
+  code-in : r < 3 * k → splitCode (componentAt (systemOf ch (r / 3)) (r % 3)) ≡ codeAt ch k r
   unfolding codeAt
   code-in h = rw (lt-ltb r (3 * k) h)
 
@@ -121,7 +121,7 @@ module _ (ch : List ℕ) (k : ℕ) (a : List ℕ) where
   recorded-none = record { most = omega arith; systems = part-none (systemAt ch k); coded′ = part-none (codeAt ch k); amounted = part-none (amountAt ch k a) }
 
   module _ (found codes amounts : List ℕ) (r last : ℕ) (e : (last ≤ 3 * k) × (last ≤ RECORDS) × (last < RECORDS → last ≡ 3 * k)) where
-    pub recorded-next : (c code : ℕ) → Recorded ch k a found codes amounts r → r < last → c ≡ componentAt (systemOf ch (r / 3)) (r % 3) → code ≡ codeOf c
+    pub recorded-next : (c code : ℕ) → Recorded ch k a found codes amounts r → r < last → c ≡ componentAt (systemOf ch (r / 3)) (r % 3) → code ≡ splitCode c
         → Recorded ch k a (set found r (systemOf ch (r / 3))) (set codes r code) (set amounts r (cellOf a (r / 3) c)) (r + 1)
     recorded-next c code d h p q =
         let w : r < 3 * k = omega (arith, e .0) in
@@ -129,7 +129,7 @@ module _ (ch : List ℕ) (k : ℕ) (a : List ℕ) where
         record {
           most = omega arith;
           systems = part-next (systemAt ch k) found r (systemOf ch (r / 3)) l (d .systems) (system-in ch k r w);
-          coded′ = part-next (codeAt ch k) codes r code l (d .coded′) (q ∙ ap codeOf p ∙ code-in ch k r w);
+          coded′ = part-next (codeAt ch k) codes r code l (d .coded′) (q ∙ ap splitCode p ∙ code-in ch k r w);
           amounted = part-next (amountAt ch k a) amounts r (cellOf a (r / 3) c) l (d .amounted) (ap (cellOf a (r / 3)) p ∙ amount-in ch k r a w);
         }
 
@@ -315,7 +315,7 @@ module _ (ch : List ℕ) (k count : ℕ) (systems codes : List ℕ) where
   fits-all h = rw (eq-eqb count (3 * k) h)
 
   -- one record of the system and the component expected of it
-  match-in : (r : ℕ) → r < 3 * k → (eqb (getD systems r 0) (systemOf ch (r / 3)) && eqb (getD codes r 0) (codeOf (componentAt (systemOf ch (r / 3)) (r % 3)))) ≡ matchesAt ch k systems codes r
+  match-in : (r : ℕ) → r < 3 * k → (eqb (getD systems r 0) (systemOf ch (r / 3)) && eqb (getD codes r 0) (splitCode (componentAt (systemOf ch (r / 3)) (r % 3)))) ≡ matchesAt ch k systems codes r
   unfolding matchesAt
   match-in r h = ap₂ (λ (x y : ℕ). (eqb (getD systems r 0) x && eqb (getD codes r 0) y)) (system-in ch k r h) (code-in ch k r h)
 
@@ -330,7 +330,7 @@ module _ (ch : List ℕ) (k count : ℕ) (systems codes : List ℕ) where
   -- record r, as the jth of row s
   abbrev recordFits : ℕ → ℕ → ℕ → Bool
   recordFits r s j =
-      (eqb (getD systems r 0) (systemOf ch s) && eqb (getD codes r 0) (codeOf (componentAt (systemOf ch s) j)))
+      (eqb (getD systems r 0) (systemOf ch s) && eqb (getD codes r 0) (splitCode (componentAt (systemOf ch s) j)))
 
   record-fits : (s j : ℕ) → s < k → j < 3 → matchesAt ch k systems codes (3 * s + j) ≡ recordFits (3 * s + j) s j
   record-fits s j h l =
@@ -338,7 +338,7 @@ module _ (ch : List ℕ) (k count : ℕ) (systems codes : List ℕ) where
       let place : (3 * s + j) % 3 ≡ j = omega arith in
       sym (match-in (3 * s + j) (omega arith))
       ∙ ap₂ (λ (x y : ℕ). _&&_ (eqb (getD systems (3 * s + j) 0) (systemOf ch x))
-      (eqb (getD codes (3 * s + j) 0) (codeOf (componentAt (systemOf ch x) y)))) row place
+      (eqb (getD codes (3 * s + j) 0) (splitCode (componentAt (systemOf ch x) y)))) row place
 
   -- a row's three, of the rows below n the last
   module _ (n s : ℕ) (f : Fitting (3 * n)) (h : n ≡ s + 1) (x y z : Bool)
@@ -387,5 +387,5 @@ module _ (ch : List ℕ) (k : ℕ) (mix : List ℕ) (n1 : ℕ) (p : Split) (b : 
   split-misfit t = misfit ch k mix n1 p (sym e ∙ not-true b t)
 
   pub split-fitting : (cells : List ℕ) (r : Answer) (y : Proposed) → Proposal mix ch k n1 → not b ≡ false → cells ≡ cellsOf ch k (p .amounts)
-      → y ≡ answerOf 500000 ch k mix cells n1 → y ≡ Answered r → r ≡ splitBy ch k mix n1 p
+      → y ≡ proposedAnswer 500000 ch k mix cells n1 → y ≡ Answered r → r ≡ splitBy ch k mix n1 p
   split-fitting cells r y h t q z u = answered-is ch k mix n1 500000 cells h y z r u ∙ fitting ch k mix n1 p cells (sym e ∙ not-false b t) q

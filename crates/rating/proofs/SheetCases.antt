@@ -8,7 +8,7 @@ use native.Mathlib.Omega.{arith}
 use lib.Dec.{eqb}
 use lib.ListN.{getD}
 use borrow.Author.Tests.{ne-eqb}
-use Rattle.analysis.specs.Check.{refusalOf}
+use Rattle.analysis.specs.Check.{analysisRefusal}
 use Rattle.sheet.specs.Split.{noSplit}
 use Rattle.sheet.specs.ReadingCases as read
 use Rattle.sheet.specs.Read.{readOf, ReadAs, FaultIn}
@@ -16,7 +16,7 @@ use Rattle.sheet.specs.Laws.Coded.{refused-answer, carried-code, read-as-is, re
 use Rattle.sheet.specs.declared.Reading.{Reading}
 use Rattle.sheet.specs.declared.Reading.the-variants as reading
 use Rattle.sheet.specs.declared.Sheet.{Sheet}
-use Rattle.split.specs.AnswerCases.{numberOf, codeOf}
+use Rattle.split.specs.AnswerCases.{numberOf, faultOf}
 use Rattle.split.specs.declared.Answer.{Answer}
 use Rattle.split.specs.declared.Answer.the-variants.{Rated, Refused}
 use Rattle.rating.specs.Rate.{splitAnswer, outcome, searchOutcome, readBy, sheetOutcome}
@@ -29,18 +29,18 @@ module _ (s : List ℕ) (r : Sheet) (h : ReadAs s r) (number place code : ℕ) (
   abbrev carried : ℕ
   carried = read.placeOf (reading.Refused number place code)
 
-  same-code : codeOf (Refused number carried) ≡ code
+  same-code : faultOf (Refused number carried) ≡ code
   same-code = carried-code s r h number place code e
 
-  pub sheet-refused : outcome (Refused number carried) noSplit ≡ sheetOutcome s (codeOf (Refused number carried))
+  pub sheet-refused : outcome (Refused number carried) noSplit ≡ sheetOutcome s (faultOf (Refused number carried))
   unfolding sheetOutcome
   sheet-refused =
       sym (
       ap (λ (c : ℕ). readBy (readOf s c .answer) (readOf s c .analysis .amounts) (readOf s c .split) c) same-code
       ∙ ap (λ (x : Reading). readBy x (readOf s code .analysis .amounts) (readOf s code .split) code) (refused-answer s r h number place code e))
 
-  pub sheet-fault : number ≡ 5 → FaultIn (getD s 0 0) s (codeOf (Refused number carried))
-  sheet-fault z = rw same-code (subst (FaultIn (getD s 0 0) s) (ap read.codeOf e) (h .code (ap read.numberOf e ∙ z)))
+  pub sheet-fault : number ≡ 5 → FaultIn (getD s 0 0) s (faultOf (Refused number carried))
+  sheet-fault z = rw same-code (subst (FaultIn (getD s 0 0) s) (ap read.faultOf e) (h .code (ap read.numberOf e ∙ z)))
 
 -- ---- a sheet that was read
 
@@ -51,14 +51,14 @@ module _ (s : List ℕ) (r : Sheet) (h : ReadAs s r) (e : r .answer ≡ reading.
   good : readOf s 0 .answer ≡ reading.Read
   good = read-as-read s r h e
 
-  pub passed : refusalOf (r .analysis .amounts) ≡ 0
-  passed = ap (λ (x : Sheet). refusalOf (x .analysis .amounts)) whole ∙ read-passed s 0 good
+  pub passed : analysisRefusal (r .analysis .amounts) ≡ 0
+  passed = ap (λ (x : Sheet). analysisRefusal (x .analysis .amounts)) whole ∙ read-passed s 0 good
 
-  free : (x : Answer) → RatedOrFew x → codeOf x ≡ 0
+  free : (x : Answer) → RatedOrFew x → faultOf x ≡ 0
   free (Rated w s′ n) b = refl
   free (Refused n p) (inl (inl b)) = absurd b
   free (Refused n p) (inl (inr b)) = rw (ne-eqb n 5 (λ z. omega (arith, b .0)))
-  free (Refused n p) (inr q) = ap codeOf q
+  free (Refused n p) (inr q) = ap faultOf q
 
   ends : RatedOrFew (cond (eqb (r .split .count) 0) (searchOutcome (r .analysis .amounts) 4000 0) (outcome (splitAnswer (r .analysis .amounts) (r .split) 0) noSplit) .answer)
   ends = go (eqb (r .split .count) 0)
@@ -71,7 +71,7 @@ module _ (s : List ℕ) (r : Sheet) (h : ReadAs s r) (e : r .answer ≡ reading.
     answer-ends : RatedOrFew (o .answer)
     answer-ends = subst (λ (x : Outcome). RatedOrFew (x .answer)) (sym q) ends
 
-    pub sheet-read : o ≡ sheetOutcome s (codeOf (o .answer))
+    pub sheet-read : o ≡ sheetOutcome s (faultOf (o .answer))
     unfolding sheetOutcome
     sheet-read =
         q
@@ -86,8 +86,8 @@ module _ (s : List ℕ) (r : Sheet) (h : ReadAs s r) (e : r .answer ≡ reading.
 
 pub sheet-refused-is : (s : List ℕ) (r : Sheet) → ReadAs s r → (number place code : ℕ) → r .answer ≡ reading.Refused number place code
     → (at : ℕ) (o : Outcome) → at ≡ read.placeOf (reading.Refused number place code) → o ≡ outcome (Refused number at) noSplit
-    → (o ≡ sheetOutcome s (codeOf (o .answer))) × (numberOf (o .answer) ≡ 5 → FaultIn (getD s 0 0) s (codeOf (o .answer)))
+    → (o ≡ sheetOutcome s (faultOf (o .answer))) × (numberOf (o .answer) ≡ 5 → FaultIn (getD s 0 0) s (faultOf (o .answer)))
 sheet-refused-is s r h number place code e at o c q =
-    subst (λ (x : Outcome). (x ≡ sheetOutcome s (codeOf (x .answer))) × (numberOf (x .answer) ≡ 5 → FaultIn (getD s 0 0) s (codeOf (x .answer))))
+    subst (λ (x : Outcome). (x ≡ sheetOutcome s (faultOf (x .answer))) × (numberOf (x .answer) ≡ 5 → FaultIn (getD s 0 0) s (faultOf (x .answer))))
     (sym (q ∙ ap (λ (n : ℕ). outcome (Refused number n) noSplit) c))
     (sheet-refused s r h number place code e, sheet-fault s r h number place code e)

@@ -6,7 +6,7 @@ use mathlib.Core.List.{List, [], _∷_, _++_}
 use Prim.Native.Nat.{ℕ}
 use native.Mathlib.Omega.{arith}
 use lib.Dec.{ltb}
-use Rattle.refusal.specs.Keys.{each}
+use Rattle.refusal.specs.Keys.{each, isIn}
 use Rattle.refusal.specs.Register.{NO_SYSTEM, TOO_FEW}
 use Rattle.formula.specs.WorkingRule.{sumAbs}
 use Rattle.formula.specs.Coefficients.{placeIn, keepsRule, isSystem}
@@ -18,11 +18,11 @@ use Rattle.rating.specs.Rate.{FEWEST, mixtureRefusal}
 
 -- every candidate is a system of Table A.2 that keeps the rule
 pub candidates-kept : each isSystem candidates ≡ true
-unfolding placeIn keepsRule isSystem sumAbs
+unfolding placeIn keepsRule isSystem sumAbs isIn
 candidates-kept = refl
 
 offered-kept : (present : ℕ) → each isSystem (candidatesOf present) ≡ true
-unfolding placeIn keepsRule isSystem sumAbs candidatesOf
+unfolding placeIn keepsRule isSystem sumAbs candidatesOf isIn
 offered-kept present = go (inMask present HYDROGEN)
   where
     go : (b : Bool) → each isSystem (candidatesFor b) ≡ true

@@ -5,9 +5,9 @@ use mathlib.Core.List.{List}
 use Prim.Native.Nat.{ℕ, _*_, min}
 use lib.Dec.{eqb, ltb}
 use Rattle.refusal.specs.Keys.{each}
-use Rattle.refusal.specs.Register.{OUT_OF_RANGE, MISFIT, NO_SYSTEM, TOO_FEW}
+use Rattle.refusal.specs.Register.{MISFIT, NO_SYSTEM, TOO_FEW, carried}
 use Rattle.formula.specs.Coefficients.{isSystem}
-use Rattle.analysis.specs.Check.{refusalOf}
+use Rattle.analysis.specs.Check.{analysisRefusal}
 use Rattle.sheet.specs.Split.{noSplit}
 use Rattle.sheet.specs.Read.{readOf}
 use Rattle.sheet.specs.ReadingCases as read
@@ -19,9 +19,9 @@ use Rattle.mixture.specs.Inert.{inertFirst}
 use Rattle.systems.specs.Choice.{presentCount, chooseOf, choiceOf}
 use Rattle.systems.specs.declared.Choice.{Choice}
 use Rattle.split.specs.Split.{cellsOf, amountsOf}
-use Rattle.split.specs.Rating.{ratingOf, proposedOf}
+use Rattle.split.specs.Rating.{ratingOf, proposedOf, LIMIT}
 use Rattle.split.specs.Start.{startOf}
-use Rattle.split.specs.Search.{LEVEL, searchOf}
+use Rattle.split.specs.Search.{FIRST_LEVEL, searchOf}
 use Rattle.split.specs.SearchCases as search
 use Rattle.split.specs.declared.Answer.{Answer}
 use Rattle.split.specs.declared.Answer.the-variants.{Rated, Refused}
@@ -31,10 +31,7 @@ use Rattle.split.specs.declared.Found.{Found}
 use Rattle.rating.specs.Records.{systemsOf, codesOf, fitsOf}
 use Rattle.rating.specs.declared.Outcome.{Outcome}
 
--- the spread limit, 0.05 of a methane number, in units; the most rounds
-abbrev pub LIMIT : ℕ
-LIMIT = 500000
-
+-- the most rounds
 abbrev pub ROUNDS : ℕ
 ROUNDS = 4000
 
@@ -63,10 +60,10 @@ mixtureRefusal mix = cond (ltb (presentCount mix) FEWEST) TOO_FEW (cond (each is
 
 -- the number with which rating turns an analysis away: 5 or 6, then 16 or 13; 0 where it is rated on
 unfoldable pub ratingRefusal : List ℕ → ℕ
-ratingRefusal a = cond (eqb (refusalOf a) 0) (mixtureRefusal (mixOf a)) (refusalOf a)
+ratingRefusal a = cond (eqb (analysisRefusal a) 0) (mixtureRefusal (mixOf a)) (analysisRefusal a)
 
 abbrev pub checkedBy : ℕ → ℕ → Answer → Answer
-checkedBy number code rated = cond (eqb number 0) rated (Refused number (cond (eqb number OUT_OF_RANGE) code 0))
+checkedBy number code rated = cond (eqb number 0) rated (Refused number (carried number code 0))
 
 -- ---- a proposed split
 
@@ -109,7 +106,7 @@ foundOutcome ch k n1 f = foundBy ch k n1 (f .cells) (f .search)
 -- of a choice: from the written start, at first stride 65536; an allowance above the most rounds counts as those
 abbrev pub searchedBy : Choice → List ℕ → ℕ → Found
 searchedBy choice a allowance =
-    searchOf (choice .systems) (choice .count) LIMIT LEVEL (min allowance ROUNDS)
+    searchOf (choice .systems) (choice .count) LIMIT FIRST_LEVEL (min allowance ROUNDS)
     (startOf (mixOf a) (choice .systems) (choice .count))
 
 abbrev pub searched : List ℕ → ℕ → Found
@@ -120,7 +117,7 @@ abbrev pub searchOutcomeBy : ℕ → Choice → List ℕ → ℕ → ℕ → Out
 searchOutcomeBy number choice a allowance code =
     cond (eqb number 0)
     (foundOutcome (choice .systems) (choice .count) (inertFirst a) (searchedBy choice a allowance))
-    (outcome (Refused number (cond (eqb number OUT_OF_RANGE) code 0)) noSplit)
+    (outcome (Refused number (carried number code 0)) noSplit)
 
 -- of an analysis
 unfoldable pub searchOutcome : List ℕ → ℕ → ℕ → Outcome

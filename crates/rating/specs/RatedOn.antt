@@ -3,12 +3,12 @@
 use mathlib.Core.Path.{_≡_}
 use mathlib.Core.List.{List}
 use Prim.Native.Nat.{ℕ}
-use Rattle.analysis.specs.Check.{refusalOf}
+use Rattle.analysis.specs.Check.{analysisRefusal}
 use Rattle.rating.specs.Rate.{ratingRefusal}
 
 -- in range: neither 5 nor 6 turns the analysis away
 abbrev pub InRange : List ℕ → Type 0
-InRange a = refusalOf a ≡ 0
+InRange a = analysisRefusal a ≡ 0
 
 -- rated on: neither 5, 6, 16 nor 13 does
 abbrev pub RatedOn : List ℕ → Type 0

@@ -12,15 +12,15 @@ use Rattle.split.specs.Split.{RECORDS, cellOf, systemOf, heldOf, rankOf, compon
 abbrev pub codes : List ℕ
 codes = 1 ∷ 2 ∷ 3 ∷ 14 ∷ 15 ∷ []
 
-unfoldable pub codeOf : ℕ → ℕ
-codeOf c = getD codes c 0
+unfoldable pub splitCode : ℕ → ℕ
+splitCode c = getD codes c 0
 
 -- the system and the code of record r, of which there are three a system; 0 beyond the last
 unfoldable pub systemAt : List ℕ → ℕ → ℕ → ℕ
 systemAt ch k r = cond (ltb r (3 * k)) (systemOf ch (r / 3)) 0
 
 unfoldable pub codeAt : List ℕ → ℕ → ℕ → ℕ
-codeAt ch k r = cond (ltb r (3 * k)) (codeOf (componentAt (systemOf ch (r / 3)) (r % 3))) 0
+codeAt ch k r = cond (ltb r (3 * k)) (splitCode (componentAt (systemOf ch (r / 3)) (r % 3))) 0
 
 unfoldable pub systemsOf : List ℕ → ℕ → List ℕ
 systemsOf ch k = table (systemAt ch k) RECORDS 0

@@ -9,16 +9,16 @@ ghost use mathlib.Core.Path.{_≡_};
 ghost use Prim.Native.Nat.{_*_, _≤_, min};
 ghost use lib.Dec.{eqb};
 ghost use lib.ListN.{getD};
-ghost use Rattle.analysis.specs.Check.{refusalOf, AtFault};
+ghost use Rattle.analysis.specs.Check.{analysisRefusal, AtFault};
 ghost use Rattle.sheet.specs.Split.{noSplit};
 ghost use Rattle.sheet.specs.Read.{FaultIn};
 ghost use Rattle.sheet.specs.ReadingCases.{placeOf};
 ghost use Rattle.split.specs.Split.{RECORDS};
-ghost use Rattle.split.specs.AnswerCases.{numberOf, codeOf};
-ghost use Rattle.split.specs.Rating.{ratingOf};
+ghost use Rattle.split.specs.AnswerCases.{numberOf, faultOf};
+ghost use Rattle.split.specs.Rating.{ratingOf, LIMIT};
 ghost use Rattle.split.specs.Proposed.{Proposal};
 ghost use Rattle.split.specs.Fits.{Fit};
-ghost use Rattle.rating.specs.Rate.{LIMIT, ROUNDS, splitBy, splitAnswer, outcome, foundOutcome, searchOutcome};
+ghost use Rattle.rating.specs.Rate.{ROUNDS, splitBy, splitAnswer, outcome, foundOutcome, searchOutcome};
 ghost use Rattle.rating.specs.Rate.{sheetOutcome};
 ghost use Rattle.rating.specs.Inner.Given.{FoundFit};
 use analysis::Analysis;
@@ -58,8 +58,8 @@ pub struct Outcome {
 
 // The rating of a proposed split of an analysis: 5, 6, 16, then 7 to 10, else its rating and its spread.
 pub fn rate_split(a: Analysis, p: Split) -> Answer
-    ensures { λ r. ⌜ r ≡ splitAnswer (a .amounts) p (codeOf r) ⌝ }
-    ensures { λ r. ⌜ (numberOf r ≡ 5 → AtFault (a .amounts) (codeOf r)) ⌝ }
+    ensures { λ r. ⌜ r ≡ splitAnswer (a .amounts) p (faultOf r) ⌝ }
+    ensures { λ r. ⌜ (numberOf r ≡ 5 → AtFault (a .amounts) (faultOf r)) ⌝ }
 {
     let simplified = mixture::simplify(a);
     let answer = simplified.answer;
@@ -86,8 +86,8 @@ pub fn rate_split(a: Analysis, p: Split) -> Answer
 // The rating of an analysis by the search, with its split: 5, 6, 16 or 11, else rating, spread and rounds. An allowance
 // above the most rounds counts as those.
 pub fn rate_by_search(a: Analysis, allowance: u32) -> Outcome
-    ensures { λ r. ⌜ r ≡ searchOutcome (a .amounts) allowance (codeOf (r .answer)) ⌝ }
-    ensures { λ r. ⌜ (numberOf (r .answer) ≡ 5 → AtFault (a .amounts) (codeOf (r .answer))) ⌝ }
+    ensures { λ r. ⌜ r ≡ searchOutcome (a .amounts) allowance (faultOf (r .answer)) ⌝ }
+    ensures { λ r. ⌜ (numberOf (r .answer) ≡ 5 → AtFault (a .amounts) (faultOf (r .answer))) ⌝ }
 {
     let simplified = mixture::simplify(a);
     let answer = simplified.answer;
@@ -114,8 +114,8 @@ pub fn rate_by_search(a: Analysis, allowance: u32) -> Outcome
 // The rating of a sheet: 1 to 6, then 16, then that of its split, or by the search with the most rounds where it has
 // none.
 pub fn rate_sheet(s: &[u8]) -> Outcome
-    ensures { λ r. ⌜ r ≡ sheetOutcome (now (s .entry)) (codeOf (r .answer)) ⌝ }
-    ensures { λ r. ⌜ (numberOf (r .answer) ≡ 5 → FaultIn (getD (now (s .entry)) 0 0) (now (s .entry)) (codeOf (r .answer))) ⌝ }
+    ensures { λ r. ⌜ r ≡ sheetOutcome (now (s .entry)) (faultOf (r .answer)) ⌝ }
+    ensures { λ r. ⌜ (numberOf (r .answer) ≡ 5 → FaultIn (getD (now (s .entry)) 0 0) (now (s .entry)) (faultOf (r .answer))) ⌝ }
 {
     let sheet = reader::read(s);
     let answer = sheet.answer;
@@ -133,7 +133,7 @@ pub fn rate_sheet(s: &[u8]) -> Outcome
 
 // The rating of what was read, an analysis in range.
 fn rate_read(a: Analysis, p: Split) -> Outcome
-    requires { ⌜ refusalOf (a .amounts) ≡ 0 ⌝ }
+    requires { ⌜ analysisRefusal (a .amounts) ≡ 0 ⌝ }
     ensures { λ r. ⌜ r ≡ cond (eqb (p .count) 0) (searchOutcome (a .amounts) ROUNDS 0) (outcome (splitAnswer (a .amounts) p 0) noSplit) ⌝ }
 {
     let count = p.count;

@@ -6,7 +6,7 @@ ghost use Prim.Native.Nat.{_*_, _<_, _≤_};
 ghost use lib.Dec.{eqb};
 ghost use Rattle.systems.specs.Systems.{COMPONENTS, Candidate};
 ghost use Rattle.split.specs.Split.{SYSTEMS, RECORDS, componentAt, cellsOf, Chosen};
-ghost use Rattle.rating.specs.Records.{codeOf, fitsOf};
+ghost use Rattle.rating.specs.Records.{splitCode, fitsOf};
 ghost use Rattle.rating.specs.Rate.{recordsOf};
 use sheet::RECORDS;
 use sheet::Split;
@@ -32,7 +32,7 @@ fn component(system: u8, j: usize) -> usize
 // A component's code in a split.
 fn code_of(c: usize) -> u8
     requires { ⌜ c < COMPONENTS ⌝ }
-    ensures { λ r. ⌜ r ≡ codeOf c ⌝ }
+    ensures { λ r. ⌜ r ≡ splitCode c ⌝ }
 {
     ((CODES >> (c * 4)) % 16) as u8
 }
@@ -102,7 +102,7 @@ pub(crate) fn cells_of(
 // Whether a record is of the system and of the component of its jth record.
 fn matches(system: u8, j: usize, found: u8, code: u8) -> bool
     requires { ⌜ Candidate system × (j < 3) ⌝ }
-    ensures { λ x. ⌜ x ≡ (eqb found system && eqb code (codeOf (componentAt system j))) ⌝ }
+    ensures { λ x. ⌜ x ≡ (eqb found system && eqb code (splitCode (componentAt system j))) ⌝ }
 {
     (found == system) & (code == code_of(component(system, j)))
 }

@@ -11,8 +11,8 @@ use borrow.Author.Tests.{le-leb, lt-leb, eqb-true, eqb-false}
 use Rattle.analysis.specs.Register.{Status, live, retired, splitsOnly, unknown, statusOf}
 use Rattle.analysis.specs.declared.Checked.{Checked}
 use Rattle.analysis.specs.declared.Checked.the-variants as checked
-use Rattle.analysis.specs.CheckedCases.{codeOf}
-use Rattle.analysis.specs.Check.{refusalOf, answerOf, Checking, AtFault}
+use Rattle.analysis.specs.CheckedCases.{faultOf}
+use Rattle.analysis.specs.Check.{analysisRefusal, checkedOf, Checking, AtFault}
 use Rattle.section.specs.declared.Section.{Section}
 use Rattle.section.specs.declared.Section.the-variants as found
 use Rattle.section.specs.declared.Walked.{Walked}
@@ -74,10 +74,10 @@ module _ (n : ℕ) (s : List ℕ) where
 
   pub checked-found : (place : ℕ) → ZeroRecord n s place → n ≤ place → (a : List ℕ) → a ≡ amountsOf n s → (r : Checked) → Checking a r → AmountsRefused n s r
   checked-found place z h a e r k =
-      let q : amountsRefusal n s ≡ refusalOf a = amounts-checked n s (z .none h) ∙ ap refusalOf (sym e) in
+      let q : amountsRefusal n s ≡ analysisRefusal a = amounts-checked n s (z .none h) ∙ ap analysisRefusal (sym e) in
       record {
-        answer = k .answer ∙ ap (λ (x : ℕ). answerOf x (codeOf r)) (sym q);
-        code = λ f. inr (subst (λ (x : List ℕ). AtFault x (codeOf r)) e (k .code f));
+        answer = k .answer ∙ ap (λ (x : ℕ). checkedOf x (faultOf r)) (sym q);
+        code = λ f. inr (subst (λ (x : List ℕ). AtFault x (faultOf r)) e (k .code f));
       }
 
 -- ---- the whole
@@ -119,7 +119,7 @@ module _ (s : List ℕ) (r : Sheet) where
 
     module _ (d : codesReading n s 1 0 0 ≡ Read) where
       -- what an answer to the amounts says of the number
-      refused-number : (number code : ℕ) → checked.Refused number code ≡ answerOf (amountsRefusal n s) code
+      refused-number : (number code : ℕ) → checked.Refused number code ≡ checkedOf (amountsRefusal n s) code
           → (amountsRefusal n s ≡ 0 → ⊥) × (number ≡ amountsRefusal n s) × (code ≡ cond (eqb (amountsRefusal n s) 5) code 0)
       refused-number number code e = go (eqb (amountsRefusal n s) 0) refl e
         where
@@ -141,7 +141,7 @@ module _ (s : List ℕ) (r : Sheet) where
       pub answer-amounts : (number code : ℕ) (y : Checked) → AmountsRefused n s y → y ≡ checked.Refused number code → r ≡ refusedSheet (Refused number 0 code) → ReadAs s r
       answer-amounts number code y a f e = refused-answer number code (subst (λ (x : Checked). AmountsRefused n s x) f a) e
 
-      in-range-number : checked.InRange ≡ answerOf (amountsRefusal n s) 0 → amountsRefusal n s ≡ 0
+      in-range-number : checked.InRange ≡ checkedOf (amountsRefusal n s) 0 → amountsRefusal n s ≡ 0
       in-range-number e = go (eqb (amountsRefusal n s) 0) refl e
         where
           go : (t : Bool) → eqb (amountsRefusal n s) 0 ≡ t

@@ -13,7 +13,7 @@ use borrow.Author.Tests.{eq-eqb, ne-eqb, lt-ltb, ltb-true, ltb-false}
 use Rattle.analysis.specs.Register.{CODES, statusOf}
 use Rattle.analysis.specs.Laws.Table.{at}
 use Rattle.sheet.specs.declared.Reading.the-variants.{Read, Refused}
-use Rattle.sheet.specs.Bytes.{numberAt}
+use Rattle.sheet.specs.Bytes.{fourBytesAt}
 use Rattle.sheet.specs.Components.{refusalBy, codeRefusal, codesReading, amountsFrom, zeroListed}
 use Rattle.sheet.specs.declared.Split.{Split}
 use Rattle.sheet.specs.Split.{RECORDS, byteColumn, amountColumn, padded, splitAt}
@@ -87,7 +87,7 @@ module _ (n i : ℕ) (s : List ℕ) (at p : ℕ) where
       rw e
 
 module _ (n i : ℕ) (s : List ℕ) (at : ℕ) (a : List ℕ) where
-  pub amounts-go : i < n → amountsFrom (n - i) s at a ≡ amountsFrom (n - (i + 1)) s (at + 5) (set a (getD s at 0) (numberAt s (at + 1)))
+  pub amounts-go : i < n → amountsFrom (n - i) s at a ≡ amountsFrom (n - (i + 1)) s (at + 5) (set a (getD s at 0) (fourBytesAt s (at + 1)))
   amounts-go h =
       let e : n - i ≡ suc (n - (i + 1)) = omega arith in
       rw e
@@ -109,31 +109,31 @@ listed-none s n = record { most = omega arith; there = omega arith; long = refl;
 
 module _ (s : List ℕ) (n : ℕ) (a : List ℕ) (i at : ℕ) (w : Listed s n a i at) where
   module _ (h : i < n) (b : List ℕ) where
-    next : b ≡ set a (getD s at 0) (numberAt s (at + 1)) → Listed s n b (i + 1) (at + 5)
+    next : b ≡ set a (getD s at 0) (fourBytesAt s (at + 1)) → Listed s n b (i + 1) (at + 5)
     next e =
         record {
           most = omega arith;
           there = omega (arith, w .there);
-          long = ap length e ∙ length-set a (getD s at 0) (numberAt s (at + 1)) ∙ w .long;
+          long = ap length e ∙ length-set a (getD s at 0) (fourBytesAt s (at + 1)) ∙ w .long;
           same = ap (λ (x : List ℕ). amountsFrom (n - (i + 1)) s (at + 5) x) e ∙ sym (amounts-go n i s at a h) ∙ w .same;
         }
 
-    pub listed-in : (x : ℕ) → x ≡ numberAt s (at + 1) → b ≡ set a (getD s at 0) x → Listed s n b (i + 1) (at + 5)
+    pub listed-in : (x : ℕ) → x ≡ fourBytesAt s (at + 1) → b ≡ set a (getD s at 0) x → Listed s n b (i + 1) (at + 5)
     listed-in x f e = next (e ∙ ap (λ (y : ℕ). set a (getD s at 0) y) f)
 
     pub listed-out : CODES ≤ getD s at 0 → b ≡ a → Listed s n b (i + 1) (at + 5)
-    listed-out k e = next (e ∙ sym (set-out a (getD s at 0) (numberAt s (at + 1)) (omega (arith, w .long))))
+    listed-out k e = next (e ∙ sym (set-out a (getD s at 0) (fourBytesAt s (at + 1)) (omega (arith, w .long))))
 
   pub listed-all : n ≤ i → a ≡ amountsFrom n s 1 (replicate CODES 0)
   listed-all h = sym (amounts-end n i s at a h) ∙ w .same
 
 module _ (n i : ℕ) (s : List ℕ) (at : ℕ) where
-  pub zero-go : i < n → (numberAt s (at + 1) ≡ 0 → ⊥) → zeroListed (n - i) s at ≡ zeroListed (n - (i + 1)) s (at + 5)
+  pub zero-go : i < n → (fourBytesAt s (at + 1) ≡ 0 → ⊥) → zeroListed (n - i) s at ≡ zeroListed (n - (i + 1)) s (at + 5)
   zero-go h f =
       let e : n - i ≡ suc (n - (i + 1)) = omega arith in
       rw e (simp (ne-eqb _ _ f))
 
-  pub zero-stop : i < n → numberAt s (at + 1) ≡ 0 → zeroListed (n - i) s at ≡ true
+  pub zero-stop : i < n → fourBytesAt s (at + 1) ≡ 0 → zeroListed (n - i) s at ≡ true
   zero-stop h f =
       let e : n - i ≡ suc (n - (i + 1)) = omega arith in
       rw e (simp (eq-eqb _ _ f))
@@ -153,7 +153,7 @@ pub looked-none : (s : List ℕ) (n : ℕ) → Looked s n 0 1
 looked-none s n = record { most = omega arith; there = omega arith; same = rw sub-zero }
 
 module _ (s : List ℕ) (n i at : ℕ) (w : Looked s n i at) where
-  module _ (h : i < n) (x : ℕ) (f : x ≡ numberAt s (at + 1)) where
+  module _ (h : i < n) (x : ℕ) (f : x ≡ fourBytesAt s (at + 1)) where
     pub looked-next : (x ≡ 0 → ⊥) → Looked s n (i + 1) (at + 5)
     looked-next k =
         record { most = omega arith; there = omega (arith, w .there); same = sym (zero-go n i s at h (λ z. k (f ∙ z))) ∙ w .same }
@@ -164,7 +164,7 @@ module _ (s : List ℕ) (n i at : ℕ) (w : Looked s n i at) where
           within = omega arith;
           none = λ l. absurd (omega arith);
           some = λ _. sym (sym (zero-stop n i s at h (sym f ∙ k)) ∙ w .same);
-          zero-there = λ _. sym (ap (λ (j : ℕ). numberAt s (j + 1)) (w .there)) ∙ sym f ∙ k;
+          zero-there = λ _. sym (ap (λ (j : ℕ). fourBytesAt s (j + 1)) (w .there)) ∙ sym f ∙ k;
         }
 
   pub looked-all : n ≤ i → ZeroRecord n s i
@@ -183,7 +183,7 @@ module _ (m i : ℕ) (s : List ℕ) (v w : ℕ) (e : w ≡ v + 6) (xs : List ℕ
       let f : m - i ≡ suc (m - (i + 1)) = omega arith in
       rw (f, e, add-one i)
 
-  pub column-go : i < m → sets xs i (amountColumn (m - i) s v) ≡ sets (set xs i (numberAt s v)) (i + 1) (amountColumn (m - (i + 1)) s w)
+  pub column-go : i < m → sets xs i (amountColumn (m - i) s v) ≡ sets (set xs i (fourBytesAt s v)) (i + 1) (amountColumn (m - (i + 1)) s w)
   column-go h =
       let f : m - i ≡ suc (m - (i + 1)) = omega arith in
       rw (f, e, add-one i)
@@ -227,7 +227,7 @@ columns-none s at m =
     record { most = omega arith; there = omega arith; systems = rw sub-zero; codes = rw sub-zero; amounts = rw sub-zero }
 
 module _ (s : List ℕ) (at m : ℕ) (xs ys zs : List ℕ) (i w : ℕ) (l : Columns s at m xs ys zs i w) where
-  pub columns-next : i < m → (n : ℕ) → n ≡ numberAt s (w + 2) → Columns s at m (set xs i (getD s w 0)) (set ys i (getD s (w + 1) 0)) (set zs i n) (i + 1) (w + 6)
+  pub columns-next : i < m → (n : ℕ) → n ≡ fourBytesAt s (w + 2) → Columns s at m (set xs i (getD s w 0)) (set ys i (getD s (w + 1) 0)) (set zs i n) (i + 1) (w + 6)
   columns-next t n f =
       record {
         most = omega arith;

@@ -3,11 +3,11 @@ ghost use mathlib.Core.Path.{_≡_};
 ghost use Prim.Native.Nat.{_+_, _*_, _<_, _≤_};
 ghost use lib.ListN.{length, getD, replicate};
 ghost use Rattle.analysis.specs.Register.{CODES};
-ghost use Rattle.sheet.specs.Bytes.{number, numberAt};
+ghost use Rattle.sheet.specs.Bytes.{fourBytes, fourBytesAt};
 ghost use Rattle.sheet.specs.Components.{COMPONENT_BYTES, codeRefusal, codesReading, amountsFrom};
 ghost use Rattle.sheet.specs.Split.{RECORDS, RECORD_BYTES, splitAt};
 ghost use Rattle.sheet.specs.Sheet.{LISTED, sectionsOf};
-ghost use Rattle.sheet.specs.ReadingCases.{numberOf, codeOf};
+ghost use Rattle.sheet.specs.ReadingCases.{numberOf, faultOf};
 ghost use Rattle.sheet.specs.Read.{refusedSheet, readOf, FaultIn};
 ghost use Rattle.reader.specs.Inner.Find.{AmountsRefused};
 use analysis::Analysis;
@@ -30,7 +30,7 @@ use sheet::Split;
 
 // Four bytes as a number, high byte first.
 fn join(a: u8, b: u8, c: u8, d: u8) -> u32
-    ensures { λ r. ⌜ r ≡ number a b c d ⌝ }
+    ensures { λ r. ⌜ r ≡ fourBytes a b c d ⌝ }
 {
     a as u32 * 16777216 + b as u32 * 65536 + c as u32 * 256 + d as u32
 }
@@ -38,7 +38,7 @@ fn join(a: u8, b: u8, c: u8, d: u8) -> u32
 // The amount whose four bytes stand at `at`.
 fn amount_at(s: &[u8], at: usize) -> u32
     requires { ⌜ at + 4 ≤ length (now s) ⌝ }
-    ensures { λ r. ⌜ r ≡ numberAt (now (s .entry)) at ⌝ }
+    ensures { λ r. ⌜ r ≡ fourBytesAt (now (s .entry)) at ⌝ }
 {
     join(s[at], s[at + 1], s[at + 2], s[at + 3])
 }
@@ -114,7 +114,7 @@ fn codes(s: &[u8], n: usize) -> Reading
         let refusal = code_refusal(c, p);
         if refusal != 0 {
             return Reading::Refused {
-                number: refusal,
+                fourBytes: refusal,
                 place,
                 code: 0,
             };
@@ -191,11 +191,11 @@ fn refused(answer: Reading) -> Sheet
 }
 
 // The same of a refusal's number, place and code.
-fn refused_with(number: u32, place: u32, code: u32) -> Sheet
-    ensures { λ r. ⌜ r ≡ refusedSheet (Reading.Refused number place code) ⌝ }
+fn refused_with(fourBytes: u32, place: u32, code: u32) -> Sheet
+    ensures { λ r. ⌜ r ≡ refusedSheet (Reading.Refused fourBytes place code) ⌝ }
 {
     refused(Reading::Refused {
-        number,
+        fourBytes,
         place,
         code,
     })
@@ -212,7 +212,7 @@ fn amounts_refused(s: &[u8], n: usize, a: Analysis) -> Checked
         let x = amount_at(s, at + 1);
         if x == 0 {
             return Checked::Refused {
-                number: OUT_OF_RANGE,
+                fourBytes: OUT_OF_RANGE,
                 code: s[at] as u32,
             };
         }
@@ -224,8 +224,8 @@ fn amounts_refused(s: &[u8], n: usize, a: Analysis) -> Checked
 
 // The sheet that the bytes are, or the refusal.
 pub fn read(s: &[u8]) -> Sheet
-    ensures { λ r. ⌜ r ≡ readOf (now (s .entry)) (codeOf (r .answer)) ⌝ }
-    ensures { λ r. ⌜ (numberOf (r .answer) ≡ 5 → FaultIn (getD (now (s .entry)) 0 0) (now (s .entry)) (codeOf (r .answer))) ⌝ }
+    ensures { λ r. ⌜ r ≡ readOf (now (s .entry)) (faultOf (r .answer)) ⌝ }
+    ensures { λ r. ⌜ (numberOf (r .answer) ≡ 5 → FaultIn (getD (now (s .entry)) 0 0) (now (s .entry)) (faultOf (r .answer))) ⌝ }
 {
     let parts = sections(s);
     let Sections::Both {
@@ -245,7 +245,7 @@ pub fn read(s: &[u8]) -> Sheet
     };
     let checked = amounts_refused(s, n, a);
     match checked {
-        Checked::Refused { number, code } => refused_with(number, 0, code),
+        Checked::Refused { fourBytes, code } => refused_with(fourBytes, 0, code),
         Checked::InRange => {
             let split = split_at(s, first, m);
             Sheet {

@@ -6,7 +6,7 @@ use Prim.Native.Nat.{ℕ}
 use lib.Dec.{eqb, ltb}
 
 -- is the key in the list?
-abbrev pub isIn : ℕ → List ℕ → Bool
+unfoldable pub isIn : ℕ → List ℕ → Bool
 isIn x [] = false
 isIn x (y ∷ ys) = cond (eqb x y) true (isIn x ys)
 

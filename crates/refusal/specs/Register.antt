@@ -1,12 +1,13 @@
 -- The register of refusals (document 01, "What is turned away"): every number ever given, with its word and when it is
 -- tested. A number is never given again. Assumes nothing.
 use mathlib.Core.Path.{_≡_, refl}
-use mathlib.Core.Bool.{true}
+use mathlib.Core.Bool.{true, cond}
 use mathlib.Core.List.{List, [], _∷_}
+use lib.Dec.{eqb}
 use Prim.Native.Nat.{ℕ}
 use Prim.Native.String.{String}
 use lib.ListN.{take}
-use Rattle.refusal.specs.Keys.{allIn, distinct, rising}
+use Rattle.refusal.specs.Keys.{allIn, distinct, rising, isIn}
 
 abbrev pub TORN : ℕ
 TORN = 1
@@ -55,6 +56,10 @@ TOO_FEW = 16
 
 abbrev pub SHARE : ℕ
 SHARE = 17
+
+-- what a refusal carries: 5 the code at fault, 2 to 4 the record's place; 0 where there is neither
+abbrev pub carried : ℕ → ℕ → ℕ → ℕ
+carried number code place = cond (eqb number OUT_OF_RANGE) code place
 
 -- what a refusal is tested of: 1 of the whole sheet, first; 2 to 4 record by record; then 5 and 6 of an analysis, and
 -- with rating 16 of its simplified mixture, then 13 of its chosen systems; then 7 to 10 of a proposed split, or 11 of
@@ -105,6 +110,7 @@ numbersOf (e ∷ es) = e .number ∷ numbersOf es
 
 -- no number stands twice
 pub no-number-twice : distinct (numbersOf register) ≡ true
+unfolding isIn
 no-number-twice = refl
 
 -- and the numbers rise from 1
@@ -117,4 +123,5 @@ numbers-kept = refl
 
 -- and so are those that requests have added
 pub requests-kept : allIn (16 ∷ 17 ∷ []) (numbersOf register) ≡ true
+unfolding isIn
 requests-kept = refl

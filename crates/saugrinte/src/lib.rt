@@ -11,7 +11,7 @@ ghost use Rattle.sheet.specs.Write.{writtenOf, leftOf};
 ghost use Rattle.ternary.specs.Answer.{partialOf};
 ghost use Rattle.whole_number.specs.Whole.{wholeNumber};
 ghost use Rattle.controller.specs.Record.{recordOf};
-ghost use Rattle.split.specs.AnswerCases.{figuresOf, heldOf};
+ghost use Rattle.split.specs.AnswerCases.{figuresOf, bufferOf};
 ghost use Rattle.rating.specs.Rate.{splitAnswer, searchOutcome, sheetOutcome};
 ghost use Rattle.c_reply.specs.Interface.{VERSION, codeIn, replyOf, splitFrom, size};
 ghost use Rattle.c_reply.specs.Interface.{partialReply, partialIn, readReply, readOr};
@@ -45,10 +45,10 @@ pub extern "C" fn saugrinte_rate(
 ) -> Reply
     ensures { λ r. let x = sheetOutcome (now (sheet .entry)) (codeIn r) in ⌜ (r ≡ replyOf (x .answer))
         × (now (figures .exit) ≡ figuresOf (x .answer) (now (figures .entry)))
-        × (now (count .exit) ≡ heldOf (x .answer) (x .split .count) (now (count .entry)))
-        × (now (systems .exit) ≡ heldOf (x .answer) (x .split .systems) (now (systems .entry)))
-        × (now (codes .exit) ≡ heldOf (x .answer) (x .split .codes) (now (codes .entry)))
-        × (now (parts .exit) ≡ heldOf (x .answer) (x .split .amounts) (now (parts .entry))) ⌝ }
+        × (now (count .exit) ≡ bufferOf (x .answer) (x .split .count) (now (count .entry)))
+        × (now (systems .exit) ≡ bufferOf (x .answer) (x .split .systems) (now (systems .entry)))
+        × (now (codes .exit) ≡ bufferOf (x .answer) (x .split .codes) (now (codes .entry)))
+        × (now (parts .exit) ≡ bufferOf (x .answer) (x .split .amounts) (now (parts .entry))) ⌝ }
     ensures { λ r. ⌜ (r .number ≡ 5 → FaultIn (getD (now (sheet .entry)) 0 0) (now (sheet .entry)) (codeIn r)) ⌝ }
 {
     c_ratings::rate_sheet(sheet, figures, count, systems, codes, parts)
@@ -67,10 +67,10 @@ pub extern "C" fn saugrinte_search(
 ) -> Reply
     ensures { λ r. let x = searchOutcome (now (amounts .entry)) allowance (codeIn r) in ⌜ (r ≡ replyOf (x .answer))
         × (now (figures .exit) ≡ figuresOf (x .answer) (now (figures .entry)))
-        × (now (count .exit) ≡ heldOf (x .answer) (x .split .count) (now (count .entry)))
-        × (now (systems .exit) ≡ heldOf (x .answer) (x .split .systems) (now (systems .entry)))
-        × (now (codes .exit) ≡ heldOf (x .answer) (x .split .codes) (now (codes .entry)))
-        × (now (parts .exit) ≡ heldOf (x .answer) (x .split .amounts) (now (parts .entry))) ⌝ }
+        × (now (count .exit) ≡ bufferOf (x .answer) (x .split .count) (now (count .entry)))
+        × (now (systems .exit) ≡ bufferOf (x .answer) (x .split .systems) (now (systems .entry)))
+        × (now (codes .exit) ≡ bufferOf (x .answer) (x .split .codes) (now (codes .entry)))
+        × (now (parts .exit) ≡ bufferOf (x .answer) (x .split .amounts) (now (parts .entry))) ⌝ }
     ensures { λ r. ⌜ (r .number ≡ 5 → AtFault (now (amounts .entry)) (codeIn r)) ⌝ }
 {
     c_ratings::rate_by_search(amounts, allowance, figures, count, systems, codes, parts)

@@ -3,6 +3,7 @@ use Prim.Native.Nat.{ℕ, _+_, _≤_, _<_}
 use mathlib.Core.Path.{_≡_, ap₂}
 use mathlib.Core.List.{List}
 use native.Mathlib.Omega.{arith}
+use Rattle.integer.specs.Figures.{MILLION}
 use Rattle.systems.specs.Systems.{Candidate}
 use Rattle.split.specs.Split.{systemOf, amountOf, partsOf, Stock}
 use Rattle.split.specs.Laws.Rows.{parts-few}
@@ -16,9 +17,9 @@ module _ (ch : List ℕ) (k : ℕ) (a : List ℕ) (s : ℕ) (st : Stock ch k a) 
     unfolding partsOf
     parts-is = ap₂ _+_ (ap₂ _+_ p q) r
 
-    pub all-fit : x + y + z ≤ 1000000
+    pub all-fit : x + y + z ≤ MILLION
     all-fit = omega (arith, parts-is, parts-few ch k a s st h)
 
-  pub two-fit : (x y : ℕ) → x ≡ amountOf ch a s 0 → y ≡ amountOf ch a s 1 → x + y ≤ 1000000
+  pub two-fit : (x y : ℕ) → x ≡ amountOf ch a s 0 → y ≡ amountOf ch a s 1 → x + y ≤ MILLION
   unfolding partsOf
   two-fit x y p q = omega (arith, parts-few ch k a s st h, p, q)

@@ -11,7 +11,7 @@ use Rattle.split.specs.Split.{CELLS, Stock}
 use Rattle.split.specs.Laws.Members.{both-left, both-right}
 use Rattle.split.specs.Rating.{someEmpty}
 use Rattle.split.specs.Start.{startOf}
-use Rattle.split.specs.Search.{LEVEL, found, searchOf}
+use Rattle.split.specs.Search.{FIRST_LEVEL, foundOf, searchOf}
 use Rattle.split.specs.Find.{chosenFit, mixtureFit, searchFit, findOf}
 use Rattle.split.specs.Laws.Starts.{start-stock}
 use Rattle.split.specs.Laws.Fits.{no-empty}
@@ -24,12 +24,12 @@ use Rattle.split_rows.specs.Laws.Rows.{unfit-empty, fit-held}
 use Rattle.split_rows.specs.declared.Rows.{Rows}
 
 module _ (mix ch : List ℕ) (k limit level allowance : ℕ) where
-  find-high : LEVEL < level → found (replicate CELLS 0) Unfit ≡ findOf mix ch k limit level allowance
+  find-high : FIRST_LEVEL < level → foundOf (replicate CELLS 0) Unfit ≡ findOf mix ch k limit level allowance
   unfolding searchFit
-  find-high h = find-none mix ch k level limit allowance (rw (lt-leb level LEVEL h, searchFit))
+  find-high h = find-none mix ch k level limit allowance (rw (lt-leb level FIRST_LEVEL h, searchFit))
 
-  module _ (h : level ≤ LEVEL) (b : Bool) (p : b ≡ (mixtureFit mix && chosenFit ch k)) where
-    find-unfit : not b ≡ true → found (replicate CELLS 0) Unfit ≡ findOf mix ch k limit level allowance
+  module _ (h : level ≤ FIRST_LEVEL) (b : Bool) (p : b ≡ (mixtureFit mix && chosenFit ch k)) where
+    find-unfit : not b ≡ true → foundOf (replicate CELLS 0) Unfit ≡ findOf mix ch k limit level allowance
     unfolding searchFit
     find-unfit e = go (mixtureFit mix) (chosenFit ch k) refl refl
       where
@@ -39,9 +39,9 @@ module _ (mix ch : List ℕ) (k limit level allowance : ℕ) where
         clash : true ≡ false → _≡_ {A = ℕ} 1 0
         clash u = ap (λ x. cond x 1 0) u
 
-        go : (x y : Bool) → mixtureFit mix ≡ x → chosenFit ch k ≡ y → found (replicate CELLS 0) Unfit ≡ findOf mix ch k limit level allowance
-        go false y f g = find-none mix ch k level limit allowance (rw (le-leb level LEVEL h, f, searchFit))
-        go true false f g = find-none mix ch k level limit allowance (rw (le-leb level LEVEL h, f, g, searchFit))
+        go : (x y : Bool) → mixtureFit mix ≡ x → chosenFit ch k ≡ y → foundOf (replicate CELLS 0) Unfit ≡ findOf mix ch k limit level allowance
+        go false y f g = find-none mix ch k level limit allowance (rw (le-leb level FIRST_LEVEL h, f, searchFit))
+        go true false f g = find-none mix ch k level limit allowance (rw (le-leb level FIRST_LEVEL h, f, g, searchFit))
         go true true f g = absurd (let w : 1 ≡ 0 = clash (rw (f, g) at no) in omega arith)
 
     module _ (l : not b ≡ false) (a : List ℕ) (s : a ≡ startOf mix ch k) (r : Rows) (q : r ≡ rowsOf ch k a) where
@@ -57,9 +57,9 @@ module _ (mix ch : List ℕ) (k limit level allowance : ℕ) where
       stock : Stock ch k a
       stock = rw s (start-stock mix ch k (chosen-of ch k known .most) (mixture-of mix few) (chosen-of ch k known))
 
-      pub find-empty : r .fit ≡ false → found (replicate CELLS 0) Unfit ≡ findOf mix ch k limit level allowance
+      pub find-empty : r .fit ≡ false → foundOf (replicate CELLS 0) Unfit ≡ findOf mix ch k limit level allowance
       unfolding searchFit
-      find-empty u = find-none mix ch k level limit allowance (rw (le-leb level LEVEL h, few, known, ap (someEmpty ch k) (sym s) ∙ unfit-empty ch k a r q stock u, searchFit))
+      find-empty u = find-none mix ch k level limit allowance (rw (le-leb level FIRST_LEVEL h, few, known, ap (someEmpty ch k) (sym s) ∙ unfit-empty ch k a r q stock u, searchFit))
 
       pub start-held : r .fit ≡ true → Held ch k a (r .numbers)
       start-held u = fit-held ch k a r q stock u
@@ -68,23 +68,23 @@ module _ (mix ch : List ℕ) (k limit level allowance : ℕ) where
       unfolding searchFit
       find-is u x z =
           let e : someEmpty ch k (startOf mix ch k) ≡ false = ap (someEmpty ch k) (sym s) ∙ no-empty ch k a (start-held u .sound .some) in
-          z ∙ ap (searchOf ch k limit level allowance) s ∙ find-search mix ch k level limit allowance (rw (le-leb level LEVEL h, few, known, e, searchFit))
+          z ∙ ap (searchOf ch k limit level allowance) s ∙ find-search mix ch k level limit allowance (rw (le-leb level FIRST_LEVEL h, few, known, e, searchFit))
 
   -- both tests at once
   module _ (b : Bool) (p : b ≡ (mixtureFit mix && chosenFit ch k)) where
-    pub find-turned : (ltb LEVEL level || not b) ≡ true → found (replicate CELLS 0) Unfit ≡ findOf mix ch k limit level allowance
-    find-turned e = go (ltb LEVEL level) refl e
+    pub find-turned : (ltb FIRST_LEVEL level || not b) ≡ true → foundOf (replicate CELLS 0) Unfit ≡ findOf mix ch k limit level allowance
+    find-turned e = go (ltb FIRST_LEVEL level) refl e
       where
-        go : (x : Bool) → ltb LEVEL level ≡ x → (x || not b) ≡ true → found (replicate CELLS 0) Unfit ≡ findOf mix ch k limit level allowance
-        go true f g = find-high (ltb-true LEVEL level f)
-        go false f g = find-unfit (ltb-false LEVEL level f) b p g
+        go : (x : Bool) → ltb FIRST_LEVEL level ≡ x → (x || not b) ≡ true → foundOf (replicate CELLS 0) Unfit ≡ findOf mix ch k limit level allowance
+        go true f g = find-high (ltb-true FIRST_LEVEL level f)
+        go false f g = find-unfit (ltb-false FIRST_LEVEL level f) b p g
 
-    pub not-turned : (ltb LEVEL level || not b) ≡ false → (level ≤ LEVEL) × (not b ≡ false)
-    not-turned e = go (ltb LEVEL level) refl e
+    pub not-turned : (ltb FIRST_LEVEL level || not b) ≡ false → (level ≤ FIRST_LEVEL) × (not b ≡ false)
+    not-turned e = go (ltb FIRST_LEVEL level) refl e
       where
         clash : true ≡ false → _≡_ {A = ℕ} 1 0
         clash u = ap (λ x. cond x 1 0) u
 
-        go : (x : Bool) → ltb LEVEL level ≡ x → (x || not b) ≡ false → (level ≤ LEVEL) × (not b ≡ false)
+        go : (x : Bool) → ltb FIRST_LEVEL level ≡ x → (x || not b) ≡ false → (level ≤ FIRST_LEVEL) × (not b ≡ false)
         go true f g = absurd (let w : 1 ≡ 0 = clash g in omega arith)
-        go false f g = (ltb-false LEVEL level f, g)
+        go false f g = (ltb-false FIRST_LEVEL level f, g)

@@ -14,19 +14,19 @@ use Rattle.formula.specs.Laws.Partial.{partial-small}
 use Rattle.systems.specs.Systems.{COMPONENTS, memberOf, hasOf}
 use Rattle.systems.specs.Laws.Members.{has-cases}
 use Rattle.split.specs.Laws.Folds.{sum-same}
-use Rattle.split.specs.Split.{SYSTEMS, CELLS, cellOf, systemOf, partsOf, numberAt, Sound}
+use Rattle.split.specs.Split.{SYSTEMS, CELLS, cellOf, systemOf, partsOf, rowNumber, Sound}
 use Rattle.split.specs.Move.{MOVES, imbalanceOf, componentOf, giverOf, takerOf, movedOf, lowersOf, canOf}
 use Rattle.split.specs.Laws.Members.{Three, three}
 use Rattle.split.specs.Laws.Rows.{parts-few}
-use Rattle.split.specs.Laws.Tests.{Fit, Affords, affords-true}
+use Rattle.split.specs.Laws.Tests.{MayMove, Affords, affords-true}
 use Rattle.split.specs.Laws.Steps.{insteadOf, numberWith, bt, rest-same, giver-changed, taker-changed}
 use Rattle.split_rows.specs.Rows.{listed}
 use Rattle.split_rows.specs.Inner.Carried.{Held, Workable, partsWith}
 use Rattle.split_rows.specs.Laws.Machine.{at-back}
 use Rattle.integer.specs.Laws.Bits.{back}
-use Rattle.search.specs.Inner.Tried.{rowOf, columnIn, wantedOf, Triable}
+use Rattle.search.specs.Inner.Tried.{triedRow, columnIn, wantedOf, Triable}
 use Rattle.search.specs.Inner.Balance.{markOf, Totalled}
-use Rattle.search.specs.Inner.Scan.{givenOf, givesOf, takesOf}
+use Rattle.search.specs.Inner.Scan.{afterGiving, givesOf, takesOf}
 use Rattle.search.proofs.Squares.{mark-le, sum-few, squares-few, under, imbalance-is, has-mark, put-total}
 use Rattle.search.proofs.Givers.{Gives, gives-true, scan-taker, scan-component, scan-total, scan-fit, scan-can}
 use Rattle.search.proofs.Trials.{with-is}
@@ -51,8 +51,8 @@ module _ (v : ℕ → ℤ) (k sum squares : ℕ) (most : k ≤ 8) (small : (s : 
   exchanged-is w h f x y a b = rw (a, b, e, f) (put-total v k sum squares most (λ s _. small s) t w j l h)
 
 -- the numbers are small
-pub number-small : (ch a : List ℕ) (s : ℕ) → natAbs (numberAt ch a s) ≤ LARGEST
-unfolding numberAt
+pub number-small : (ch a : List ℕ) (s : ℕ) → natAbs (rowNumber ch a s) ≤ LARGEST
+unfolding rowNumber
 number-small ch a s = partial-small _ _ _ _
 
 with-small : (ch a : List ℕ) (s c n : ℕ) → natAbs (numberWith ch a s c n) ≤ LARGEST
@@ -60,18 +60,18 @@ unfolding numberWith
 with-small ch a s c n = partial-small _ _ _ _
 
 module _ (ch a : List ℕ) (d f c : ℕ) where
-  given-here : givenOf ch a d f c f ≡ numberWith ch a f c (cellOf a f c - d)
-  unfolding givenOf
-  given-here = rw (eq-eqb f f refl, givenOf)
+  given-here : afterGiving ch a d f c f ≡ numberWith ch a f c (cellOf a f c - d)
+  unfolding afterGiving
+  given-here = rw (eq-eqb f f refl, afterGiving)
 
-  given-there : (s : ℕ) → (s ≡ f → ⊥) → givenOf ch a d f c s ≡ numberAt ch a s
-  unfolding givenOf
-  given-there s n = rw (ne-eqb s f n, givenOf)
+  given-there : (s : ℕ) → (s ≡ f → ⊥) → afterGiving ch a d f c s ≡ rowNumber ch a s
+  unfolding afterGiving
+  given-there s n = rw (ne-eqb s f n, afterGiving)
 
-  pub given-small : (s : ℕ) → natAbs (givenOf ch a d f c s) ≤ LARGEST
+  pub given-small : (s : ℕ) → natAbs (afterGiving ch a d f c s) ≤ LARGEST
   given-small s = go (eqb s f) refl
     where
-      go : (b : Bool) → eqb s f ≡ b → natAbs (givenOf ch a d f c s) ≤ LARGEST
+      go : (b : Bool) → eqb s f ≡ b → natAbs (afterGiving ch a d f c s) ≤ LARGEST
       go true e =
           let q : s ≡ f = eqb-true s f e in
           rw (q, given-here) (with-small ch a f c (cellOf a f c - d))
@@ -107,7 +107,7 @@ module _ (ch : List ℕ) (k : ℕ) (a : List ℕ) (s c d : ℕ) (so : Sound ch k
   }
 
 -- the place of a row's cell
-row-at : (f c : ℕ) → f < SYSTEMS → c < COMPONENTS → rowOf (f * COMPONENTS + c) ≡ f
+row-at : (f c : ℕ) → f < SYSTEMS → c < COMPONENTS → triedRow (f * COMPONENTS + c) ≡ f
 row-at f c h l = omega arith
 
 column-at : (f c : ℕ) → c < COMPONENTS → columnIn (f * COMPONENTS + c) ≡ c
@@ -117,23 +117,23 @@ module _ (ch : List ℕ) (k : ℕ) (a : List ℕ) (v : List ℤ) (held : Held ch
   most : k ≤ 8
   most = held .sound .stock .chosen .most
 
-  pub row-is : (s : ℕ) → s < k → toZ w64 (ofZ w64 (listed v s)) ≡ numberAt ch a s
+  pub row-is : (s : ℕ) → s < k → toZ w64 (ofZ w64 (listed v s)) ≡ rowNumber ch a s
   row-is s l = at-back v k s (held .small) l ∙ held .carried .are s l
 
-  pub first-total : (sum squares : ℕ) → Totalled (listed v) k sum squares → Totalled (numberAt ch a) k sum squares
-  first-total sum squares t = total-same (listed v) (numberAt ch a) k sum squares (held .carried .are) t
+  pub first-total : (sum squares : ℕ) → Totalled (listed v) k sum squares → Totalled (rowNumber ch a) k sum squares
+  first-total sum squares t = total-same (listed v) (rowNumber ch a) k sum squares (held .carried .are) t
 
-  module _ (sum squares : ℕ) (t : Totalled (numberAt ch a) k sum squares) where
+  module _ (sum squares : ℕ) (t : Totalled (rowNumber ch a) k sum squares) where
     pub first-may : (k ≤ 8) × (sum ≤ 3200000000) × (squares ≤ 1280000000000000000) × (sum * sum ≤ k * squares)
     first-may = (
       most,
-      sum-few (numberAt ch a) k sum squares most (λ s _. number-small ch a s) t,
-      squares-few (numberAt ch a) k sum squares most (λ s _. number-small ch a s) t,
-      under (numberAt ch a) k sum squares most (λ s _. number-small ch a s) t,
+      sum-few (rowNumber ch a) k sum squares most (λ s _. number-small ch a s) t,
+      squares-few (rowNumber ch a) k sum squares most (λ s _. number-small ch a s) t,
+      under (rowNumber ch a) k sum squares most (λ s _. number-small ch a s) t,
     )
 
-    pub first-imbalance : (r : ℕ) → r ≡ k * squares - sum * sum → r ≡ imbalanceOf (numberAt ch a) k
-    first-imbalance r e = e ∙ imbalance-is (numberAt ch a) k sum squares most (λ s _. number-small ch a s) t
+    pub first-imbalance : (r : ℕ) → r ≡ k * squares - sum * sum → r ≡ imbalanceOf (rowNumber ch a) k
+    first-imbalance r e = e ∙ imbalance-is (rowNumber ch a) k sum squares most (λ s _. number-small ch a s) t
 
   module _ (d m : ℕ) where
     -- the giver
@@ -147,7 +147,7 @@ module _ (ch : List ℕ) (k : ℕ) (a : List ℕ) (v : List ℤ) (held : Held ch
       low : componentOf m < COMPONENTS
       low = omega (arith, h)
 
-      at-row : rowOf (giverOf m * COMPONENTS + componentOf m) ≡ giverOf m
+      at-row : triedRow (giverOf m * COMPONENTS + componentOf m) ≡ giverOf m
       at-row = row-at (giverOf m) (componentOf m) (omega arith) low
 
       at-column : columnIn (giverOf m * COMPONENTS + componentOf m) ≡ componentOf m
@@ -174,7 +174,7 @@ module _ (ch : List ℕ) (k : ℕ) (a : List ℕ) (v : List ℤ) (held : Held ch
           → (x ≡ numberWith ch a (giverOf m) (componentOf m) (cellOf a (giverOf m) (componentOf m) - d)) × (natAbs x ≤ LARGEST)
       give-worked x p = (p .0 ∙ give-wanted, p .1)
 
-      module _ (sum squares : ℕ) (t : Totalled (numberAt ch a) k sum squares) (z : ℤ) (w : (z ≡ wantedOf ch a d (giverOf m * COMPONENTS + componentOf m)) × (natAbs z ≤ LARGEST)) where
+      module _ (sum squares : ℕ) (t : Totalled (rowNumber ch a) k sum squares) (z : ℤ) (w : (z ≡ wantedOf ch a d (giverOf m * COMPONENTS + componentOf m)) × (natAbs z ≤ LARGEST)) where
         abbrev old : ℤ
         old = listed v (giverOf m)
 
@@ -185,32 +185,32 @@ module _ (ch : List ℕ) (k : ℕ) (a : List ℕ) (v : List ℤ) (held : Held ch
         new-is = back z (omega (arith, w .1))
 
         pub given-may : (giverOf m < SYSTEMS) × (natAbs old ≤ LARGEST) × (natAbs new ≤ LARGEST) × (markOf old ≤ sum) × (markOf old * markOf old ≤ squares) × (sum ≤ 3200000000) × (squares ≤ 1280000000000000000)
-        given-may = may-exchange (numberAt ch a) k sum squares most (number-small ch a) t (giverOf m) (gv .from) old new (held .carried .are (giverOf m) (gv .from)) (rw new-is (w .1))
+        given-may = may-exchange (rowNumber ch a) k sum squares most (number-small ch a) t (giverOf m) (gv .from) old new (held .carried .are (giverOf m) (gv .from)) (rw new-is (w .1))
 
-        pub given-is : (x y : ℕ) → x ≡ sum - markOf old + markOf new → y ≡ squares - markOf old * markOf old + markOf new * markOf new → Totalled (givenOf ch a d (giverOf m) (componentOf m)) k x y
+        pub given-is : (x y : ℕ) → x ≡ sum - markOf old + markOf new → y ≡ squares - markOf old * markOf old + markOf new * markOf new → Totalled (afterGiving ch a d (giverOf m) (componentOf m)) k x y
         given-is =
-            exchanged-is (numberAt ch a) k sum squares most (number-small ch a) t (giverOf m) (gv .from) old new (held .carried .are (giverOf m) (gv .from)) (givenOf ch a d (giverOf m) (componentOf m))
+            exchanged-is (rowNumber ch a) k sum squares most (number-small ch a) t (giverOf m) (gv .from) old new (held .carried .are (giverOf m) (gv .from)) (afterGiving ch a d (giverOf m) (componentOf m))
             (λ s l n. sym (given-there ch a d (giverOf m) (componentOf m) s n))
             (new-is ∙ w .0 ∙ give-wanted ∙ sym (given-here ch a d (giverOf m) (componentOf m)))
 
     -- and the taker
-    module _ (fit : Fit ch k a d m) (c t : ℕ) (ec : c ≡ componentOf m) (et : t ≡ takerOf m) where
+    module _ (fit : MayMove ch k a d m) (c t : ℕ) (ec : c ≡ componentOf m) (et : t ≡ takerOf m) where
       so : Sound ch k a
       so = held .sound
 
       pub take-triable : Triable ch k a d (CELLS + t * COMPONENTS + c)
       take-triable = rw (et, ec) (taker-triable ch k a d m so fit)
 
-      both-done : (s : ℕ) → s < k → (s ≡ takerOf m → ⊥) → givenOf ch a d (giverOf m) (componentOf m) s ≡ numberAt ch (movedOf a m d) s
+      both-done : (s : ℕ) → s < k → (s ≡ takerOf m → ⊥) → afterGiving ch a d (giverOf m) (componentOf m) s ≡ rowNumber ch (movedOf a m d) s
       both-done s l n = go (eqb s (giverOf m)) refl
         where
-          go : (b : Bool) → eqb s (giverOf m) ≡ b → givenOf ch a d (giverOf m) (componentOf m) s ≡ numberAt ch (movedOf a m d) s
+          go : (b : Bool) → eqb s (giverOf m) ≡ b → afterGiving ch a d (giverOf m) (componentOf m) s ≡ rowNumber ch (movedOf a m d) s
           go true e =
               let q : s ≡ giverOf m = eqb-true s (giverOf m) e in
               rw q (given-here ch a d (giverOf m) (componentOf m) ∙ with-is ch k a d m so fit (giverOf m) (cellOf a (giverOf m) (componentOf m) - d) (bt ch k a d m so fit .from) (giver-changed ch k a d m so fit))
           go false e = given-there ch a d (giverOf m) (componentOf m) s (eqb-false s (giverOf m) e) ∙ sym (rest-same ch k a d m so fit s l (eqb-false s (giverOf m) e) n)
 
-      module _ (sum squares : ℕ) (tot : Totalled (givenOf ch a d (giverOf m) (componentOf m)) k sum squares) (z : ℤ) (w : (z ≡ wantedOf ch a d (CELLS + t * COMPONENTS + c)) × (natAbs z ≤ LARGEST)) where
+      module _ (sum squares : ℕ) (tot : Totalled (afterGiving ch a d (giverOf m) (componentOf m)) k sum squares) (z : ℤ) (w : (z ≡ wantedOf ch a d (CELLS + t * COMPONENTS + c)) × (natAbs z ≤ LARGEST)) where
         abbrev held-by : ℤ
         held-by = listed v t
 
@@ -223,23 +223,23 @@ module _ (ch : List ℕ) (k : ℕ) (a : List ℕ) (v : List ℤ) (held : Held ch
         below : t < k
         below = rw et (bt ch k a d m so fit .to)
 
-        was-there : held-by ≡ givenOf ch a d (giverOf m) (componentOf m) t
+        was-there : held-by ≡ afterGiving ch a d (giverOf m) (componentOf m) t
         was-there = held .carried .are t below ∙ sym (given-there ch a d (giverOf m) (componentOf m) t (λ z. bt ch k a d m so fit .apart (sym z ∙ et)))
 
         pub taken-may : (t < SYSTEMS) × (natAbs held-by ≤ LARGEST) × (natAbs taken ≤ LARGEST) × (markOf held-by ≤ sum) × (markOf held-by * markOf held-by ≤ squares) × (sum ≤ 3200000000) × (squares ≤ 1280000000000000000)
-        taken-may = may-exchange (givenOf ch a d (giverOf m) (componentOf m)) k sum squares most (given-small ch a d (giverOf m) (componentOf m)) tot t below held-by taken was-there (rw taken-back (w .1))
+        taken-may = may-exchange (afterGiving ch a d (giverOf m) (componentOf m)) k sum squares most (given-small ch a d (giverOf m) (componentOf m)) tot t below held-by taken was-there (rw taken-back (w .1))
 
-        now-there : taken ≡ numberAt ch (movedOf a m d) t
+        now-there : taken ≡ rowNumber ch (movedOf a m d) t
         now-there =
             taken-back
             ∙ taker-wanted ch k a d m so fit z (w .0 ∙ ap₂ (λ x y. wantedOf ch a d (CELLS + x * COMPONENTS + y)) et ec, w .1) .0
             ∙ with-is ch k a d m so fit (takerOf m) (cellOf a (takerOf m) (componentOf m) + d) (bt ch k a d m so fit .to) (taker-changed ch k a d m so fit)
-            ∙ ap (numberAt ch (movedOf a m d)) (sym et)
+            ∙ ap (rowNumber ch (movedOf a m d)) (sym et)
 
         module _ (x y : ℕ) (i : x ≡ sum - markOf held-by + markOf taken) (j : y ≡ squares - markOf held-by * markOf held-by + markOf taken * markOf taken) where
-          taken-is : Totalled (numberAt ch (movedOf a m d)) k x y
+          taken-is : Totalled (rowNumber ch (movedOf a m d)) k x y
           taken-is =
-              exchanged-is (givenOf ch a d (giverOf m) (componentOf m)) k sum squares most (given-small ch a d (giverOf m) (componentOf m)) tot t below held-by taken was-there (numberAt ch (movedOf a m d))
+              exchanged-is (afterGiving ch a d (giverOf m) (componentOf m)) k sum squares most (given-small ch a d (giverOf m) (componentOf m)) tot t below held-by taken was-there (rowNumber ch (movedOf a m d))
               (λ s l n. both-done s l (λ e. n (e ∙ sym et)))
               now-there
               x
@@ -250,14 +250,14 @@ module _ (ch : List ℕ) (k : ℕ) (a : List ℕ) (v : List ℤ) (held : Held ch
           pub after-may : (k ≤ 8) × (x ≤ 3200000000) × (y ≤ 1280000000000000000) × (x * x ≤ k * y)
           after-may = (
             most,
-            sum-few (numberAt ch (movedOf a m d)) k x y most (λ s _. number-small ch (movedOf a m d) s) taken-is,
-            squares-few (numberAt ch (movedOf a m d)) k x y most (λ s _. number-small ch (movedOf a m d) s) taken-is,
-            under (numberAt ch (movedOf a m d)) k x y most (λ s _. number-small ch (movedOf a m d) s) taken-is,
+            sum-few (rowNumber ch (movedOf a m d)) k x y most (λ s _. number-small ch (movedOf a m d) s) taken-is,
+            squares-few (rowNumber ch (movedOf a m d)) k x y most (λ s _. number-small ch (movedOf a m d) s) taken-is,
+            under (rowNumber ch (movedOf a m d)) k x y most (λ s _. number-small ch (movedOf a m d) s) taken-is,
           )
 
-          pub lowers-is : (r was : ℕ) → r ≡ k * y - x * x → was ≡ imbalanceOf (numberAt ch a) k → ltb r was ≡ lowersOf ch k a d m
+          pub lowers-is : (r was : ℕ) → r ≡ k * y - x * x → was ≡ imbalanceOf (rowNumber ch a) k → ltb r was ≡ lowersOf ch k a d m
           unfolding lowersOf
-          lowers-is r was u o = ap₂ ltb (u ∙ imbalance-is (numberAt ch (movedOf a m d)) k x y most (λ s _. number-small ch (movedOf a m d) s) taken-is) o
+          lowers-is r was u o = ap₂ ltb (u ∙ imbalance-is (rowNumber ch (movedOf a m d)) k x y most (λ s _. number-small ch (movedOf a m d) s) taken-is) o
 
 -- the trial of the move from n's giver to row t, which takes
 module _ (ch : List ℕ) (k : ℕ) (a : List ℕ) (v : List ℤ) (held : Held ch k a v) (d n : ℕ) (z : n % SYSTEMS ≡ 0) (below : n < MOVES) (g : givesOf ch k a d n ≡ true) (c f t : ℕ) (h : t < k)
@@ -265,7 +265,7 @@ module _ (ch : List ℕ) (k : ℕ) (a : List ℕ) (v : List ℤ) (held : Held ch
   few : k ≤ SYSTEMS
   few = held .sound .stock .chosen .most
 
-  fit : Fit ch k a d (n + t)
+  fit : MayMove ch k a d (n + t)
   fit = scan-fit ch k a d n z t h few below g c f ec ef b e p
 
   same-component : c ≡ componentOf (n + t)
@@ -277,8 +277,8 @@ module _ (ch : List ℕ) (k : ℕ) (a : List ℕ) (v : List ℤ) (held : Held ch
   pub trial-triable : (t < SYSTEMS) × (c < COMPONENTS) × Triable ch k a d (CELLS + t * COMPONENTS + c)
   trial-triable = (omega (arith, few), omega (arith, ec, below), take-triable ch k a v held d (n + t) fit c t same-component same-taker)
 
-  module _ (sum squares : ℕ) (tot : Totalled (givenOf ch a d (giverOf n) (componentOf n)) k sum squares) (x : ℤ) (w : (x ≡ wantedOf ch a d (CELLS + t * COMPONENTS + c)) × (natAbs x ≤ LARGEST)) where
-    same-total : Totalled (givenOf ch a d (giverOf (n + t)) (componentOf (n + t))) k sum squares
+  module _ (sum squares : ℕ) (tot : Totalled (afterGiving ch a d (giverOf n) (componentOf n)) k sum squares) (x : ℤ) (w : (x ≡ wantedOf ch a d (CELLS + t * COMPONENTS + c)) × (natAbs x ≤ LARGEST)) where
+    same-total : Totalled (afterGiving ch a d (giverOf (n + t)) (componentOf (n + t))) k sum squares
     same-total = scan-total ch k a d n z t h few below sum squares tot
 
     pub trial-may : (t < SYSTEMS) × (natAbs (listed v t) ≤ LARGEST) × (natAbs (toZ w64 (ofZ w64 x)) ≤ LARGEST) × (markOf (listed v t) ≤ sum) × (markOf (listed v t) * markOf (listed v t) ≤ squares) × (sum ≤ 3200000000) × (squares ≤ 1280000000000000000)
@@ -288,7 +288,7 @@ module _ (ch : List ℕ) (k : ℕ) (a : List ℕ) (v : List ℤ) (held : Held ch
       pub trial-after : (k ≤ 8) × (i ≤ 3200000000) × (j ≤ 1280000000000000000) × (i * i ≤ k * j)
       trial-after = after-may ch k a v held d (n + t) fit c t same-component same-taker sum squares same-total x w i j p1 p2
 
-      module _ (r was : ℕ) (q : r ≡ k * j - i * i) (o : was ≡ imbalanceOf (numberAt ch a) k) where
+      module _ (r was : ℕ) (q : r ≡ k * j - i * i) (o : was ≡ imbalanceOf (rowNumber ch a) k) where
         is-can : (u : Bool) → ltb r was ≡ u → canOf ch k a d (n + t) ≡ u
         is-can = scan-can ch k a d n z t h few below g c f ec ef b e p (ltb r was) (lowers-is ch k a v held d (n + t) fit c t same-component same-taker sum squares same-total x w i j p1 p2 r was q o)
 

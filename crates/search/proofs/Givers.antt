@@ -12,9 +12,9 @@ use Rattle.split.specs.Laws.Members.{both-left, both-right}
 use Rattle.split.specs.Move.{MOVES, componentOf, giverOf, takerOf, betweenOf, affordsOf, lowersOf, canOf, firstOf}
 use Rattle.split.specs.Laws.Folds.{first-here, first-none}
 use Rattle.split.specs.Laws.Scan.{first-skip}
-use Rattle.split.specs.Laws.Tests.{Fit, Can, can-true, can-is, between-true}
+use Rattle.split.specs.Laws.Tests.{MayMove, Can, can-true, can-is, between-true}
 use Rattle.search.specs.Inner.Balance.{Totalled}
-use Rattle.search.specs.Inner.Scan.{givenOf, givesOf, takesOf, Past, Scanned}
+use Rattle.search.specs.Inner.Scan.{afterGiving, givesOf, takesOf, Past, Scanned}
 
 -- the pairs of a giver and a taker
 abbrev PAIRS : ℕ
@@ -57,7 +57,7 @@ module _ (ch : List ℕ) (k : ℕ) (a : List ℕ) (d m : ℕ) where
   unfolding givesOf
   true-gives g = rw (lt-ltb (giverOf m) k (g .from), g .gives, g .affords, givesOf)
 
-  pub fit-gives : Fit ch k a d m → givesOf ch k a d m ≡ true
+  pub fit-gives : MayMove ch k a d m → givesOf ch k a d m ≡ true
   fit-gives f =
       let b = between-true ch k m (f .between) in
       true-gives (record { from = b .from; gives = b .gives; affords = f .affords })
@@ -104,7 +104,7 @@ module _ (ch : List ℕ) (k : ℕ) (a : List ℕ) (d m : ℕ) where
   no-giver-row h = unless (λ c. absurd (omega (arith, c .between .from)))
 
   -- and which may be
-  may : m < MOVES → givesOf ch k a d m ≡ true → takerOf m < k → takesOf ch (componentOf m) (giverOf m) (takerOf m) ≡ true → Fit ch k a d m
+  may : m < MOVES → givesOf ch k a d m ≡ true → takerOf m < k → takesOf ch (componentOf m) (giverOf m) (takerOf m) ≡ true → MayMove ch k a d m
   unfolding betweenOf takesOf
   may h g l t =
       let w = gives-true ch k a d m g in
@@ -190,7 +190,7 @@ module _ (ch : List ℕ) (k : ℕ) (a : List ℕ) (d : ℕ) where
       pub scan-gives : givesOf ch k a d n ≡ true → givesOf ch k a d (n + t) ≡ true
       scan-gives g = gives-same ch k a d n (n + t) (scan-giver k n t z h most below) (scan-component k n t z h most below) ∙ g
 
-      pub scan-total : (x y : ℕ) → Totalled (givenOf ch a d (giverOf n) (componentOf n)) k x y → Totalled (givenOf ch a d (giverOf (n + t)) (componentOf (n + t))) k x y
+      pub scan-total : (x y : ℕ) → Totalled (afterGiving ch a d (giverOf n) (componentOf n)) k x y → Totalled (afterGiving ch a d (giverOf (n + t)) (componentOf (n + t))) k x y
       scan-total x y w = rw (scan-giver k n t z h most below, scan-component k n t z h most below) w
 
       -- what its taker's test comes to
@@ -201,7 +201,7 @@ module _ (ch : List ℕ) (k : ℕ) (a : List ℕ) (d : ℕ) where
         pub scan-lacks : b ≡ false → canOf ch k a d (n + t) ≡ false
         scan-lacks p = no-take ch k a d (n + t) (at-taker false p)
 
-        pub scan-fit : b ≡ true → Fit ch k a d (n + t)
+        pub scan-fit : b ≡ true → MayMove ch k a d (n + t)
         scan-fit p = may ch k a d (n + t) (scan-below k n t z h most below) (scan-gives g) (scan-takes k n t z h most below) (at-taker true p)
 
         pub scan-can : b ≡ true → (r : Bool) → r ≡ lowersOf ch k a d (n + t) → (u : Bool) → r ≡ u → canOf ch k a d (n + t) ≡ u

@@ -10,16 +10,17 @@ use lib.IntN.{ℤ}
 use lib.ListN.{replicate}
 use mir.Syntax.{w32}
 use mir.Val.{Fits}
+use Rattle.integer.specs.Figures.{MILLION}
 use Rattle.systems.specs.Laws.Table.{eachTo}
-use Rattle.split.specs.Split.{cellOf, numberAt}
+use Rattle.split.specs.Split.{cellOf, rowNumber}
 use Rattle.split.specs.Rating.{spreadOf}
 use Rattle.split.specs.Move.{MOVES, componentOf, giverOf, takerOf, movedOf, firstOf}
-use Rattle.split.specs.Search.{found, goOn, turnOf, runOf}
+use Rattle.split.specs.Search.{foundOf, goOn, turnOf, runOf}
 use Rattle.split.specs.declared.Turn.{Turn}
 use Rattle.split.specs.declared.Turn.the-variants.{Rate, Refuse, Move, Halve}
 use Rattle.split.specs.declared.Found.{Found}
 use Rattle.split.specs.declared.Search.the-variants.{Balanced, Unbalanced}
-use Rattle.split.specs.Laws.Tests.{Fit}
+use Rattle.split.specs.Laws.Tests.{MayMove}
 use Rattle.split.specs.Laws.Steps.{may-move}
 use Rattle.split.specs.Laws.Turns.{moves, again-move, again-halve, run-rate, run-refuse}
 use Rattle.split.proofs.Turn.{the-type}
@@ -45,12 +46,12 @@ stride-is level h = eqb→eq (1 * 2 ^ level % 4294967296) (2 ^ level) (eachTo ri
 
 -- s is the spread of the numbers v, d the stride, m the first move, r what is answered then
 module _ (ch : List ℕ) (k limit allowance : ℕ) (a : List ℕ) (level rounds s : ℕ) (v : List ℤ) (e : s ≡ spreadOf (listed v) k) (held : Held ch k a v) where
-  is-spread : s ≡ spreadOf (numberAt ch a) k
-  is-spread = e ∙ spread-same (listed v) (numberAt ch a) k (held .sound .stock .chosen .some) (held .carried .are)
+  is-spread : s ≡ spreadOf (rowNumber ch a) k
+  is-spread = e ∙ spread-same (listed v) (rowNumber ch a) k (held .sound .stock .chosen .some) (held .carried .are)
 
   -- and of what is done before the round
   module _ (b : Before) (f : b ≡ beforeOf s limit rounds allowance) where
-    done : doneBy (spreadOf (numberAt ch a) k) (goOn level (firstOf ch k a (2 ^ level))) b ≡ turnOf ch k limit allowance a level rounds
+    done : doneBy (spreadOf (rowNumber ch a) k) (goOn level (firstOf ch k a (2 ^ level))) b ≡ turnOf ch k limit allowance a level rounds
     done = ap (doneBy _ _) (f ∙ ap (λ (x : ℕ). beforeOf x limit rounds allowance) is-spread) ∙ turn-before ch k limit allowance a level rounds
 
     pub code-rate : b ≡ Within → Rate s ≡ turnOf ch k limit allowance a level rounds
@@ -87,13 +88,13 @@ module _ (ch : List ℕ) (k limit allowance : ℕ) (S : Found) (level : ℕ) (a 
     round-less = omega (arith, rounds-left)
 
     module _ (d : ℕ) (p : d ≡ 2 ^ level) where
-      fit-is : Fit ch k a d m
+      fit-is : MayMove ch k a d m
       fit-is = rw p (moves ch k limit allowance a level rounds m turn-is .fit)
 
-      pub may-renumber : (y : List ℤ) → Tried ch k a (2 ^ level) y → Held ch k a v × Fit ch k a d m × Tried ch k a d y
+      pub may-renumber : (y : List ℤ) → Tried ch k a (2 ^ level) y → Held ch k a v × MayMove ch k a d m × Tried ch k a d y
       may-renumber y h = (g .0, fit-is, rw p h)
 
-      pub may-go : (m < MOVES) × (d ≤ cellOf a (giverOf m) (componentOf m)) × (cellOf a (takerOf m) (componentOf m) + d ≤ 1000000)
+      pub may-go : (m < MOVES) × (d ≤ cellOf a (giverOf m) (componentOf m)) × (cellOf a (takerOf m) (componentOf m) + d ≤ MILLION)
       may-go = may-move ch k a d m (g .0 .sound) fit-is
 
       pub move-on : (b : List ℕ) (z y : List ℤ) → b ≡ movedOf a m d → Held ch k (movedOf a m d) z × Tried ch k (movedOf a m d) d y → AtTurn ch k limit allowance S level b z y (rounds + 1)
@@ -127,7 +128,7 @@ no-rate (inr (inl e)) = omega (arith, e)
 no-rate (inr (inr e)) = omega (arith, e)
 
 pub run-ends : (ch : List ℕ) (k limit allowance : ℕ) (a : List ℕ) (level rounds n : ℕ) (x : Turn) → OneOf (0 ∷ 1 ∷ []) (tagOf the-type x) → x ≡ turnOf ch k limit allowance a level rounds
-    → found a (endOf x rounds) ≡ runOf ch k limit allowance (suc n) a level rounds
+    → foundOf a (endOf x rounds) ≡ runOf ch k limit allowance (suc n) a level rounds
 unfolding endOf
 run-ends ch k limit allowance a level rounds n (Rate s) o e = sym (run-rate ch k limit allowance a level rounds n s (sym e))
 run-ends ch k limit allowance a level rounds n Refuse o e = sym (run-refuse ch k limit allowance a level rounds n (sym e))
@@ -135,11 +136,11 @@ run-ends ch k limit allowance a level rounds n (Move m) o e = absurd (no-end o)
 run-ends ch k limit allowance a level rounds n Halve o e = absurd (no-halt o)
 
 -- and what it comes to
-pub end-rated : (x : Turn) (s rounds : ℕ) (a : List ℕ) → x ≡ Rate s → found a (Balanced s rounds) ≡ found a (endOf x rounds)
+pub end-rated : (x : Turn) (s rounds : ℕ) (a : List ℕ) → x ≡ Rate s → foundOf a (Balanced s rounds) ≡ foundOf a (endOf x rounds)
 unfolding endOf
 end-rated x s rounds a e = rw (e, endOf)
 
-pub end-refused : (x : Turn) (rounds : ℕ) (a : List ℕ) → OneOf (1 ∷ 2 ∷ 3 ∷ []) (tagOf the-type x) → found a Unbalanced ≡ found a (endOf x rounds)
+pub end-refused : (x : Turn) (rounds : ℕ) (a : List ℕ) → OneOf (1 ∷ 2 ∷ 3 ∷ []) (tagOf the-type x) → foundOf a Unbalanced ≡ foundOf a (endOf x rounds)
 unfolding endOf
 end-refused (Rate s) rounds a o = absurd (no-rate o)
 end-refused Refuse rounds a o = refl

@@ -7,6 +7,7 @@ use lib.Dec.{ltb}
 use mir.Syntax.{w32, w64}
 use mir.Val.{Fits, toZ, ofZ}
 use borrow.Author.Tests.{ltb-true}
+use Rattle.integer.specs.Figures.{MILLION}
 use Rattle.formula.specs.WorkingRule.{LARGEST}
 use Rattle.formula.specs.Partial.{partialNumber}
 use Rattle.formula.specs.Laws.Partial.{partial-small}
@@ -22,7 +23,7 @@ use Rattle.integer.specs.Laws.Bits.{back}
 pub system-fits : (system : ℕ) → Candidate system → Fits w32 system
 system-fits system h = record { fits = omega (arith, ltb-true system 256 (to-true (ltb system 256) (each-candidate (λ s. ltb s 256) tt system h))) }
 
-module _ (system w n1 n2 n3 : ℕ) (p : Partial) (e : w ≡ system) (q : p ≡ formulaOf w n1 n2 n3) (h : Candidate system) (some : 1 ≤ n1 + n2 + n3) (few : n1 + n2 + n3 ≤ 1000000) where
+module _ (system w n1 n2 n3 : ℕ) (p : Partial) (e : w ≡ system) (q : p ≡ formulaOf w n1 n2 n3) (h : Candidate system) (some : 1 ≤ n1 + n2 + n3) (few : n1 + n2 + n3 ≤ MILLION) where
   answer-is : p ≡ Number (partialNumber system n1 n2 n3)
   answer-is = q ∙ ap (λ u. formulaOf u n1 n2 n3) e ∙ formula-is system n1 n2 n3 (known-system system h) some few
 

@@ -14,15 +14,15 @@ use mir.Val.{toZ, ofZ}
 use borrow.Author.Tests.{eqb-true, eqb-false}
 use Rattle.formula.specs.WorkingRule.{LARGEST}
 use Rattle.systems.specs.Systems.{COMPONENTS}
-use Rattle.split.specs.Split.{CELLS, numberAt, Sound}
+use Rattle.split.specs.Split.{CELLS, rowNumber, Sound}
 use Rattle.split.specs.Move.{componentOf, giverOf, takerOf, movedOf}
-use Rattle.split.specs.Laws.Tests.{Fit, Between}
+use Rattle.split.specs.Laws.Tests.{MayMove, Between}
 use Rattle.split.specs.Laws.Steps.{bt, component-low, sound-moved}
 use Rattle.split_rows.specs.Rows.{listed}
 use Rattle.split_rows.specs.Inner.Small.{Small}
 use Rattle.split_rows.specs.Inner.Carried.{Carried, Held}
 use Rattle.integer.specs.Laws.Bits.{back}
-use Rattle.search.specs.Inner.Tried.{TRIES, UNKNOWN, rowOf, wantedOf, Tried, Forgot}
+use Rattle.search.specs.Inner.Tried.{TRIES, UNKNOWN, triedRow, wantedOf, Tried, Forgot}
 use Rattle.search.specs.Inner.Rounds.{Back}
 use Rattle.search.proofs.Trials.{renumber-ok}
 use Rattle.search.proofs.Tries.{taker-wanted, same-wanted, giver-back, taker-back}
@@ -33,7 +33,7 @@ passed : (x : ℤ) → natAbs x ≤ LARGEST → toZ w64 (ofZ w64 x) ≡ x
 passed x h = back x (N.le-trans h (lit≤ tt))
 
 -- one row's number put
-pub put-is : (v t u : List ℤ) (s i : ℕ) (x : ℤ) → i < TRIES → s ≡ rowOf i → natAbs x ≤ LARGEST → natAbs (listed v s) ≤ LARGEST → Forgot t s u
+pub put-is : (v t u : List ℤ) (s i : ℕ) (x : ℤ) → i < TRIES → s ≡ triedRow i → natAbs x ≤ LARGEST → natAbs (listed v s) ≤ LARGEST → Forgot t s u
     → (set v s (toZ w64 (ofZ w64 x)) ≡ set v s x) × Back t s i (listed v s) (set u i (toZ w64 (ofZ w64 (listed v s))))
 put-is v t u s i x h r p q f = (
   ap (set v s) (passed x p),
@@ -42,12 +42,12 @@ put-is v t u s i x h r p q f = (
         long = simp length-set (f .long);
         here = getD-set-same u i (listed v s) (pos 0) (omega (arith, f .long));
         gone = λ j l e n. getD-set-other u i j (listed v s) (pos 0) n ∙ f .gone j l e;
-        kept = λ j l n. getD-set-other u i j (listed v s) (pos 0) (λ e. n (ap rowOf e ∙ sym r)) ∙ f .kept j l n;
+        kept = λ j l n. getD-set-other u i j (listed v s) (pos 0) (λ e. n (ap triedRow e ∙ sym r)) ∙ f .kept j l n;
       }
       ),
 )
 
-module _ (ch : List ℕ) (k : ℕ) (a : List ℕ) (d m : ℕ) (n : List ℤ) (held : Held ch k a n) (fit : Fit ch k a d m) where
+module _ (ch : List ℕ) (k : ℕ) (a : List ℕ) (d m : ℕ) (n : List ℤ) (held : Held ch k a n) (fit : MayMove ch k a d m) where
   abbrev so : Sound ch k a
   so = held .sound
 
@@ -62,7 +62,7 @@ module _ (ch : List ℕ) (k : ℕ) (a : List ℕ) (d m : ℕ) (n : List ℤ) (he
 
   -- the giver's number may be put, then the taker's
   pub giver-may : (t : List ℤ) (x : ℤ) → length t ≡ TRIES → natAbs x ≤ LARGEST
-      → (CELLS + giverOf m * COMPONENTS + componentOf m < TRIES) × (giverOf m ≡ rowOf (CELLS + giverOf m * COMPONENTS + componentOf m)) × (length t ≡ TRIES)
+      → (CELLS + giverOf m * COMPONENTS + componentOf m < TRIES) × (giverOf m ≡ triedRow (CELLS + giverOf m * COMPONENTS + componentOf m)) × (length t ≡ TRIES)
       × (natAbs (toZ w64 (ofZ w64 x)) ≤ LARGEST) × (natAbs (listed n (giverOf m)) ≤ LARGEST)
   giver-may t x l h = (omega (arith, low), omega (arith, low), l, small x h, held .small .each (giverOf m) (between .from))
 
@@ -71,7 +71,7 @@ module _ (ch : List ℕ) (k : ℕ) (a : List ℕ) (d m : ℕ) (n : List ℤ) (he
     taker-still = rw e (getD-set-other n (giverOf m) (takerOf m) x (pos 0) (λ z. between .apart (sym z)))
 
     pub taker-may : (t : List ℤ) (y : ℤ) → length t ≡ TRIES → natAbs y ≤ LARGEST
-        → (takerOf m * COMPONENTS + componentOf m < TRIES) × (takerOf m ≡ rowOf (takerOf m * COMPONENTS + componentOf m)) × (length t ≡ TRIES)
+        → (takerOf m * COMPONENTS + componentOf m < TRIES) × (takerOf m ≡ triedRow (takerOf m * COMPONENTS + componentOf m)) × (length t ≡ TRIES)
         × (natAbs (toZ w64 (ofZ w64 y)) ≤ LARGEST) × (natAbs (listed v (takerOf m)) ≤ LARGEST)
     taker-may t y l h = (omega (arith, low), omega (arith, low), l, small y h, rw taker-still (held .small .each (takerOf m) (between .to)))
 
@@ -86,10 +86,10 @@ module _ (ch : List ℕ) (k : ℕ) (a : List ℕ) (d m : ℕ) (n : List ℤ) (he
         let o = bw .here ∙ ey in
         (taker-back ch k a d m so fit (listed w (takerOf m * COMPONENTS + componentOf m)) (o ∙ held .carried .are (takerOf m) (between .to)), rw o (held .small .each (takerOf m) (between .to)))
 
-    giver-row : giverOf m ≡ rowOf (CELLS + giverOf m * COMPONENTS + componentOf m)
+    giver-row : giverOf m ≡ triedRow (CELLS + giverOf m * COMPONENTS + componentOf m)
     giver-row = omega (arith, low)
 
-    other-row : rowOf (CELLS + giverOf m * COMPONENTS + componentOf m) ≡ takerOf m → ⊥
+    other-row : triedRow (CELLS + giverOf m * COMPONENTS + componentOf m) ≡ takerOf m → ⊥
     other-row e = between .apart (giver-row ∙ e)
 
     giver-right : Right (CELLS + giverOf m * COMPONENTS + componentOf m)
@@ -97,11 +97,11 @@ module _ (ch : List ℕ) (k : ℕ) (a : List ℕ) (d m : ℕ) (n : List ℤ) (he
         let o = bw .kept (CELLS + giverOf m * COMPONENTS + componentOf m) (omega (arith, low)) other-row ∙ bu .here ∙ ex in
         (giver-back ch k a d m so fit (listed w (CELLS + giverOf m * COMPONENTS + componentOf m)) (o ∙ held .carried .are (giverOf m) (between .from)), rw o (held .small .each (giverOf m) (between .from)))
 
-    module _ (i : ℕ) (h : i < TRIES) (l : rowOf i < k) (z : listed w i ≡ UNKNOWN → ⊥) where
-      right-giver : (i ≡ CELLS + giverOf m * COMPONENTS + componentOf m → ⊥) → (rowOf i ≡ takerOf m → ⊥) → Right i
-      right-giver p q = go (eqb (rowOf i) (giverOf m)) refl
+    module _ (i : ℕ) (h : i < TRIES) (l : triedRow i < k) (z : listed w i ≡ UNKNOWN → ⊥) where
+      right-giver : (i ≡ CELLS + giverOf m * COMPONENTS + componentOf m → ⊥) → (triedRow i ≡ takerOf m → ⊥) → Right i
+      right-giver p q = go (eqb (triedRow i) (giverOf m)) refl
         where
-          go : (b : Bool) → eqb (rowOf i) (giverOf m) ≡ b → Right i
+          go : (b : Bool) → eqb (triedRow i) (giverOf m) ≡ b → Right i
           go true e = absurd (z (bw .kept i h q ∙ bu .gone i h (eqb-true _ _ e) p))
           go false e =
               let o = bw .kept i h q ∙ bu .kept i h (eqb-false _ _ e) in
@@ -109,9 +109,9 @@ module _ (ch : List ℕ) (k : ℕ) (a : List ℕ) (d m : ℕ) (n : List ℤ) (he
               (o ∙ r .0 ∙ sym (same-wanted ch k a d m so fit i h l (eqb-false _ _ e) q), rw o (r .1))
 
       right-taker : (i ≡ takerOf m * COMPONENTS + componentOf m → ⊥) → (i ≡ CELLS + giverOf m * COMPONENTS + componentOf m → ⊥) → Right i
-      right-taker p q = go (eqb (rowOf i) (takerOf m)) refl
+      right-taker p q = go (eqb (triedRow i) (takerOf m)) refl
         where
-          go : (b : Bool) → eqb (rowOf i) (takerOf m) ≡ b → Right i
+          go : (b : Bool) → eqb (triedRow i) (takerOf m) ≡ b → Right i
           go true e = absurd (z (bw .gone i h (eqb-true _ _ e) p))
           go false e = right-giver q (eqb-false _ _ e)
 

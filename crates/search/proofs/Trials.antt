@@ -11,19 +11,20 @@ use lib.Seq.{getD-set-same, getD-set-other}
 use mir.Syntax.{w64}
 use mir.Val.{toZ, ofZ}
 use borrow.Author.Tests.{eqb-true, eqb-false, eq-eqb, ne-eqb}
+use Rattle.integer.specs.Figures.{MILLION}
 use Rattle.formula.specs.WorkingRule.{LARGEST}
 use Rattle.systems.specs.Systems.{memberOf}
 use Rattle.formula.specs.Partial.{partialNumber}
 use Rattle.ternary.specs.Answer.{formulaOf}
 use Rattle.ternary.specs.declared.Partial.{Partial}
 use Rattle.ternary.specs.declared.Partial.the-variants.{Number, Refused}
-use Rattle.split.specs.Split.{SYSTEMS, cellOf, systemOf, partsOf, numberAt, Sound}
+use Rattle.split.specs.Split.{SYSTEMS, cellOf, systemOf, partsOf, rowNumber, Sound}
 use Rattle.split.specs.Rating.{spreadOf}
 use Rattle.split.specs.Move.{componentOf, giverOf, takerOf, movedOf}
 use Rattle.split.specs.Laws.Folds.{greatest-same, least-same}
 use Rattle.split.specs.Laws.Members.{three}
 use Rattle.split.specs.Laws.Rows.{parts-few}
-use Rattle.split.specs.Laws.Tests.{Fit}
+use Rattle.split.specs.Laws.Tests.{MayMove}
 use Rattle.split.specs.Laws.Steps.{insteadOf, numberWith, Changed, instead-is, number-with, bt, sound-moved, rest-same, giver-changed, taker-changed}
 use Rattle.split_rows.specs.Rows.{listed}
 use Rattle.split_rows.specs.Inner.Small.{Small}
@@ -54,7 +55,7 @@ module _ (ch a : List ℕ) (s c n x y z : ℕ) (p : x ≡ insteadOf a s c n (mem
   some : 1 ≤ x + y + z
   some = omega (arith, w .some, p, q, r)
 
-  few : x + y + z ≤ 1000000
+  few : x + y + z ≤ MILLION
   few = omega (arith, w .few, p, q, r)
 
   pub with-ok : (v : ℤ) → u ≡ Number v → (toZ w64 (ofZ w64 v) ≡ numberWith ch a s c n) × (natAbs (toZ w64 (ofZ w64 v)) ≤ LARGEST)
@@ -83,7 +84,7 @@ module _ (v : List ℤ) (k f t : ℕ) (x y : ℤ) (long : length v ≡ SYSTEMS) 
       go false false e g =
           rw (getD-set-other (set v f x) t s y (pos 0) (eqb-false s t e), getD-set-other v f s x (pos 0) (eqb-false s f g)) (rest s h (eqb-false s f g) (eqb-false s t e))
 
-module _ (ch : List ℕ) (k : ℕ) (a : List ℕ) (d m : ℕ) (so : Sound ch k a) (fit : Fit ch k a d m) where
+module _ (ch : List ℕ) (k : ℕ) (a : List ℕ) (d m : ℕ) (so : Sound ch k a) (fit : MayMove ch k a d m) where
   -- a row that a move changes can be worked out
   workable : (s n : ℕ) → s < k → Changed a (movedOf a m d) s (componentOf m) n → Workable ch a s (componentOf m) n
   unfolding partsOf
@@ -103,7 +104,7 @@ module _ (ch : List ℕ) (k : ℕ) (a : List ℕ) (d m : ℕ) (so : Sound ch k a
   pub taker-workable : Workable ch a (takerOf m) (componentOf m) (cellOf a (takerOf m) (componentOf m) + d)
   taker-workable = workable (takerOf m) (cellOf a (takerOf m) (componentOf m) + d) (bt ch k a d m so fit .to) (taker-changed ch k a d m so fit)
 
-  pub with-is : (s n : ℕ) → s < k → Changed a (movedOf a m d) s (componentOf m) n → numberWith ch a s (componentOf m) n ≡ numberAt ch (movedOf a m d) s
+  pub with-is : (s n : ℕ) → s < k → Changed a (movedOf a m d) s (componentOf m) n → numberWith ch a s (componentOf m) n ≡ rowNumber ch (movedOf a m d) s
   with-is s n h w = number-with a (movedOf a m d) s (componentOf m) n w ch (three (systemOf ch s) (so .stock .chosen .known s h))
 
   pub renumber-ok : (v : List ℤ) (x y : ℤ) → Carried ch k a v → Small v k
@@ -118,7 +119,7 @@ module _ (ch : List ℕ) (k : ℕ) (a : List ℕ) (d m : ℕ) (so : Sound ch k a
       rw (e, f) (
         record {
           long = simp length-set (cv .long);
-          are = two-put v k (giverOf m) (takerOf m) x y (cv .long) (sm .most) (b .from) (b .to) (λ s z. z ≡ numberAt ch (movedOf a m d) s)
+          are = two-put v k (giverOf m) (takerOf m) x y (cv .long) (sm .most) (b .from) (b .to) (λ s z. z ≡ rowNumber ch (movedOf a m d) s)
               (λ s h u w. cv .are s h ∙ sym (rest-same ch k a d m so fit s h u w))
               (p .0 ∙ with-is (giverOf m) (cellOf a (giverOf m) (componentOf m) - d) (b .from) (giver-changed ch k a d m so fit))
               (q .0 ∙ with-is (takerOf m) (cellOf a (takerOf m) (componentOf m) + d) (b .to) (taker-changed ch k a d m so fit));

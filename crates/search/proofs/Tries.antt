@@ -12,17 +12,18 @@ use lib.Seq.{getD-set-same, getD-set-other}
 use mir.Syntax.{w64}
 use mir.Val.{toZ, ofZ}
 use borrow.Author.Tests.{eqb-true, eqb-false, lt-ltb, le-ltb, ltb-true, ltb-false}
+use Rattle.integer.specs.Figures.{MILLION}
 use Rattle.formula.specs.WorkingRule.{LARGEST}
 use Rattle.systems.specs.Systems.{COMPONENTS, memberOf}
-use Rattle.split.specs.Split.{SYSTEMS, CELLS, cellOf, systemOf, numberAt, Sound}
+use Rattle.split.specs.Split.{SYSTEMS, CELLS, cellOf, systemOf, rowNumber, Sound}
 use Rattle.split.specs.Move.{componentOf, giverOf, takerOf, movedOf}
 use Rattle.split.specs.Laws.Members.{three}
 use Rattle.split.specs.Laws.Moves.{cell-row}
-use Rattle.split.specs.Laws.Tests.{Fit}
+use Rattle.split.specs.Laws.Tests.{MayMove}
 use Rattle.split.specs.Laws.Steps.{numberWith, Changed, number-with, bt, component-low, may-move, giver-changed, taker-changed}
 use Rattle.split_rows.specs.Rows.{listed}
 use Rattle.split_rows.specs.Inner.Carried.{Workable}
-use Rattle.search.specs.Inner.Tried.{TRIES, UNKNOWN, rowOf, columnIn, triedOf, wantedOf, Tried, Triable, Forgot}
+use Rattle.search.specs.Inner.Tried.{TRIES, UNKNOWN, triedRow, columnIn, triedOf, wantedOf, Tried, Triable, Forgot}
 use Rattle.integer.specs.Laws.Bits.{back}
 use Rattle.split_rows.specs.Laws.Machine.{pass}
 use Rattle.search.proofs.Trials.{taker-workable}
@@ -38,7 +39,7 @@ more-is a d i h = rw (le-ltb i CELLS h)
 
 -- the two tries of row s's component c
 module _ (ch : List ℕ) (k : ℕ) (a : List ℕ) (d s c : ℕ) (h : s < SYSTEMS) (l : c < COMPONENTS) where
-  less-row : rowOf (s * COMPONENTS + c) ≡ s
+  less-row : triedRow (s * COMPONENTS + c) ≡ s
   less-row = omega arith
 
   less-column : columnIn (s * COMPONENTS + c) ≡ c
@@ -57,7 +58,7 @@ module _ (ch : List ℕ) (k : ℕ) (a : List ℕ) (d s c : ℕ) (h : s < SYSTEMS
   unfolding wantedOf
   less-wanted = rw (less-row, less-column, sym (less-is a d (s * COMPONENTS + c) less-low))
 
-  more-row : rowOf (CELLS + s * COMPONENTS + c) ≡ s
+  more-row : triedRow (CELLS + s * COMPONENTS + c) ≡ s
   more-row = omega arith
 
   more-column : columnIn (CELLS + s * COMPONENTS + c) ≡ c
@@ -66,7 +67,7 @@ module _ (ch : List ℕ) (k : ℕ) (a : List ℕ) (d s c : ℕ) (h : s < SYSTEMS
   more-high : CELLS ≤ CELLS + s * COMPONENTS + c
   more-high = omega arith
 
-  pub more-room : Triable ch k a d (CELLS + s * COMPONENTS + c) → getD a (CELLS + s * COMPONENTS + c - CELLS) 0 + d ≤ 1000000
+  pub more-room : Triable ch k a d (CELLS + s * COMPONENTS + c) → getD a (CELLS + s * COMPONENTS + c - CELLS) 0 + d ≤ MILLION
   more-room t = t .room more-high
 
   pub more-work : Triable ch k a d (CELLS + s * COMPONENTS + c) → Workable ch a s c (getD a (CELLS + s * COMPONENTS + c - CELLS) 0 + d)
@@ -78,7 +79,7 @@ module _ (ch : List ℕ) (k : ℕ) (a : List ℕ) (d s c : ℕ) (h : s < SYSTEMS
 
 -- a number that is put
 module _ (ch : List ℕ) (k : ℕ) (a : List ℕ) (d : ℕ) (t : List ℤ) (kt : Tried ch k a d t) (i : ℕ) (h : i < TRIES) (y : ℤ) (p : (y ≡ wantedOf ch a d i) × (natAbs y ≤ LARGEST)) where
-  put-known : (j : ℕ) → j < TRIES → rowOf j < k → (listed (set t i y) j ≡ UNKNOWN → ⊥) → (listed (set t i y) j ≡ wantedOf ch a d j) × (natAbs (listed (set t i y) j) ≤ LARGEST)
+  put-known : (j : ℕ) → j < TRIES → triedRow j < k → (listed (set t i y) j ≡ UNKNOWN → ⊥) → (listed (set t i y) j ≡ wantedOf ch a d j) × (natAbs (listed (set t i y) j) ≤ LARGEST)
   put-known j l r u = go (eqb j i) refl
     where
       go : (b : Bool) → eqb j i ≡ b → (listed (set t i y) j ≡ wantedOf ch a d j) × (natAbs (listed (set t i y) j) ≤ LARGEST)
@@ -119,11 +120,11 @@ pub none-is : (ch : List ℕ) (k : ℕ) (a : List ℕ) (d : ℕ) (t : List ℤ) 
 none-is ch k a d t e = rw e (none-tried ch k a d)
 
 -- the taker's try of a move that may be made
-module _ (ch : List ℕ) (k : ℕ) (a : List ℕ) (d m : ℕ) (so : Sound ch k a) (fit : Fit ch k a d m) where
+module _ (ch : List ℕ) (k : ℕ) (a : List ℕ) (d m : ℕ) (so : Sound ch k a) (fit : MayMove ch k a d m) where
   low : componentOf m < COMPONENTS
   low = component-low ch k a d m so fit
 
-  taker-row : rowOf (CELLS + takerOf m * COMPONENTS + componentOf m) ≡ takerOf m
+  taker-row : triedRow (CELLS + takerOf m * COMPONENTS + componentOf m) ≡ takerOf m
   taker-row = omega (arith, low)
 
   taker-column : columnIn (CELLS + takerOf m * COMPONENTS + componentOf m) ≡ componentOf m
@@ -161,9 +162,9 @@ module _ (ch : List ℕ) (k : ℕ) (a : List ℕ) (d m : ℕ) (so : Sound ch k a
         let w = three (systemOf ch s) (so .stock .chosen .known s l) in
         rw (other (memberOf (systemOf ch s) 0) (w .low0), other (memberOf (systemOf ch s) 1) (w .low1), other (memberOf (systemOf ch s) 2) (w .low2))
 
-  module _ (i : ℕ) (h : i < TRIES) (l : rowOf i < k) (p : rowOf i ≡ giverOf m → ⊥) (q : rowOf i ≡ takerOf m → ⊥) where
-    same-cell : cellOf (movedOf a m d) (rowOf i) (columnIn i) ≡ cellOf a (rowOf i) (columnIn i)
-    same-cell = other (rowOf i) l p q (columnIn i) (omega arith)
+  module _ (i : ℕ) (h : i < TRIES) (l : triedRow i < k) (p : triedRow i ≡ giverOf m → ⊥) (q : triedRow i ≡ takerOf m → ⊥) where
+    same-cell : cellOf (movedOf a m d) (triedRow i) (columnIn i) ≡ cellOf a (triedRow i) (columnIn i)
+    same-cell = other (triedRow i) l p q (columnIn i) (omega arith)
 
     same-amount : triedOf (movedOf a m d) d i ≡ triedOf a d i
     unfolding triedOf
@@ -171,22 +172,22 @@ module _ (ch : List ℕ) (k : ℕ) (a : List ℕ) (d m : ℕ) (so : Sound ch k a
       where
         go : (b : Bool) → ltb i CELLS ≡ b → triedOf (movedOf a m d) d i ≡ triedOf a d i
         go true e =
-            let z : rowOf i * COMPONENTS + columnIn i ≡ i = omega (arith, ltb-true i CELLS e) in
+            let z : triedRow i * COMPONENTS + columnIn i ≡ i = omega (arith, ltb-true i CELLS e) in
             rw e (ap (λ x. x - d) (rw z at same-cell))
         go false e =
-            let z : rowOf i * COMPONENTS + columnIn i ≡ i - CELLS = omega (arith, h, ltb-false i CELLS e) in
+            let z : triedRow i * COMPONENTS + columnIn i ≡ i - CELLS = omega (arith, h, ltb-false i CELLS e) in
             rw e (ap (λ x. x + d) (rw z at same-cell))
 
     pub same-wanted : wantedOf ch (movedOf a m d) d i ≡ wantedOf ch a d i
     unfolding wantedOf
-    same-wanted = with-other (rowOf i) l p q (columnIn i) (triedOf (movedOf a m d) d i) ∙ ap (numberWith ch a (rowOf i) (columnIn i)) same-amount
+    same-wanted = with-other (triedRow i) l p q (columnIn i) (triedOf (movedOf a m d) d i) ∙ ap (numberWith ch a (triedRow i) (columnIn i)) same-amount
 
   -- the two tries that would take the move back lead to the numbers before it
-  pub giver-back : (x : ℤ) → x ≡ numberAt ch a (giverOf m) → x ≡ wantedOf ch (movedOf a m d) d (CELLS + giverOf m * COMPONENTS + componentOf m)
+  pub giver-back : (x : ℤ) → x ≡ rowNumber ch a (giverOf m) → x ≡ wantedOf ch (movedOf a m d) d (CELLS + giverOf m * COMPONENTS + componentOf m)
   unfolding wantedOf
   giver-back x e = e ∙ sym (rw (row, column, amount) (number-with (movedOf a m d) a (giverOf m) (componentOf m) (cellOf a (giverOf m) (componentOf m)) was ch (three (systemOf ch (giverOf m)) (so .stock .chosen .known (giverOf m) (bt ch k a d m so fit .from)))))
     where
-      row : rowOf (CELLS + giverOf m * COMPONENTS + componentOf m) ≡ giverOf m
+      row : triedRow (CELLS + giverOf m * COMPONENTS + componentOf m) ≡ giverOf m
       row = omega (arith, low)
 
       column : columnIn (CELLS + giverOf m * COMPONENTS + componentOf m) ≡ componentOf m
@@ -204,11 +205,11 @@ module _ (ch : List ℕ) (k : ℕ) (a : List ℕ) (d m : ℕ) (so : Sound ch k a
       was : Changed (movedOf a m d) a (giverOf m) (componentOf m) (cellOf a (giverOf m) (componentOf m))
       was = record { here = refl; rest = λ e l n. sym (giver-changed ch k a d m so fit .rest e l n) }
 
-  pub taker-back : (x : ℤ) → x ≡ numberAt ch a (takerOf m) → x ≡ wantedOf ch (movedOf a m d) d (takerOf m * COMPONENTS + componentOf m)
+  pub taker-back : (x : ℤ) → x ≡ rowNumber ch a (takerOf m) → x ≡ wantedOf ch (movedOf a m d) d (takerOf m * COMPONENTS + componentOf m)
   unfolding wantedOf
   taker-back x e = e ∙ sym (rw (row, column, amount) (number-with (movedOf a m d) a (takerOf m) (componentOf m) (cellOf a (takerOf m) (componentOf m)) was ch (three (systemOf ch (takerOf m)) (so .stock .chosen .known (takerOf m) (bt ch k a d m so fit .to)))))
     where
-      row : rowOf (takerOf m * COMPONENTS + componentOf m) ≡ takerOf m
+      row : triedRow (takerOf m * COMPONENTS + componentOf m) ≡ takerOf m
       row = omega (arith, low)
 
       column : columnIn (takerOf m * COMPONENTS + componentOf m) ≡ componentOf m
@@ -225,7 +226,7 @@ module _ (ch : List ℕ) (k : ℕ) (a : List ℕ) (d m : ℕ) (so : Sound ch k a
 -- forgetting a row, component by component
 abbrev pub Going : List ℤ → ℕ → List ℤ → ℕ → Type 0
 Going t s u c =
-    (length u ≡ TRIES) × (c ≤ COMPONENTS) × ((i : ℕ) → i < TRIES → rowOf i ≡ s → columnIn i < c → listed u i ≡ UNKNOWN) × ((i : ℕ) → i < TRIES → (rowOf i ≡ s → ⊥) → listed u i ≡ listed t i)
+    (length u ≡ TRIES) × (c ≤ COMPONENTS) × ((i : ℕ) → i < TRIES → triedRow i ≡ s → columnIn i < c → listed u i ≡ UNKNOWN) × ((i : ℕ) → i < TRIES → (triedRow i ≡ s → ⊥) → listed u i ≡ listed t i)
 
 module _ (t : List ℤ) (s : ℕ) (low : s < SYSTEMS) where
   pub going-starts : length t ≡ TRIES → Going t s t 0
@@ -259,7 +260,7 @@ module _ (t : List ℤ) (s : ℕ) (low : s < SYSTEMS) where
     pub going-on : Going t s next (c + 1)
     going-on = (simp length-set (g .0), omega arith, gone, λ i l r. at-other i (λ e. r (omega (arith, low, h, e))) (λ e. r (omega (arith, low, h, e))) ∙ g .3 i l r)
       where
-        gone : (i : ℕ) → i < TRIES → rowOf i ≡ s → columnIn i < c + 1 → listed next i ≡ UNKNOWN
+        gone : (i : ℕ) → i < TRIES → triedRow i ≡ s → columnIn i < c + 1 → listed next i ≡ UNKNOWN
         gone i l r x = go (eqb i second) (eqb i first) refl refl
           where
             go : (y z : Bool) → eqb i second ≡ y → eqb i first ≡ z → listed next i ≡ UNKNOWN

@@ -8,7 +8,7 @@ mod tried;
 ghost use mathlib.Core.Path.{_≡_};
 ghost use lib.ListN.{replicate};
 ghost use Rattle.split.specs.Split.{CELLS};
-ghost use Rattle.split.specs.Search.{found};
+ghost use Rattle.split.specs.Search.{foundOf};
 ghost use Rattle.split.specs.Find.{findOf};
 use split::CELLS;
 use split::Found;
@@ -20,7 +20,7 @@ use systems::Choice;
 const LEVEL: usize = 16;
 
 fn nothing() -> Found
-    ensures { λ r. ⌜ r ≡ found (replicate CELLS 0) Search.Unfit ⌝ }
+    ensures { λ r. ⌜ r ≡ foundOf (replicate CELLS 0) Search.Unfit ⌝ }
 {
     Found {
         cells: [0; CELLS],

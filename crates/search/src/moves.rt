@@ -4,16 +4,17 @@ ghost use mathlib.Core.Bool.{true};
 ghost use Prim.Native.Nat.{ℕ, _+_, _*_, _-_, _%_, _<_, _≤_};
 ghost use lib.IntN.{natAbs};
 ghost use lib.ListN.{length, set};
+ghost use Rattle.integer.specs.Figures.{MILLION};
 ghost use Rattle.formula.specs.WorkingRule.{LARGEST};
-ghost use Rattle.split.specs.Split.{SYSTEMS, cellOf, numberAt, Sound};
+ghost use Rattle.split.specs.Split.{SYSTEMS, cellOf, rowNumber, Sound};
 ghost use Rattle.split.specs.Move.{MOVES, componentOf, giverOf, takerOf, movedOf, imbalanceOf, firstOf};
-ghost use Rattle.split.specs.Laws.Tests.{Fit};
+ghost use Rattle.split.specs.Laws.Tests.{MayMove};
 ghost use Rattle.split_rows.specs.Rows.{listed};
 ghost use Rattle.split_rows.specs.Inner.Carried.{Held};
-ghost use Rattle.search.specs.Inner.Tried.{TRIES, rowOf, Tried};
+ghost use Rattle.search.specs.Inner.Tried.{TRIES, triedRow, Tried};
 ghost use Rattle.search.specs.Inner.Rounds.{Back};
 ghost use Rattle.search.specs.Inner.Balance.{Totalled};
-ghost use Rattle.search.specs.Inner.Scan.{givenOf, givesOf, Past, Scanned};
+ghost use Rattle.search.specs.Inner.Scan.{afterGiving, givesOf, Past, Scanned};
 use super::balance::Totals;
 use super::balance::exchanged;
 use super::balance::imbalance;
@@ -52,7 +53,7 @@ fn gives(ch: &[u8; SYSTEMS], k: usize, a: &[u32; CELLS], d: u32, m: usize) -> bo
 // Move m of the stride d, made.
 pub(crate) fn moved(a: &mut [u32; CELLS], m: usize, d: u32)
     requires { ⌜ (m < MOVES) × (d ≤ cellOf (now a) (giverOf m) (componentOf m))
-        × (cellOf (now a) (takerOf m) (componentOf m) + d ≤ 1000000) ⌝ }
+        × (cellOf (now a) (takerOf m) (componentOf m) + d ≤ MILLION) ⌝ }
     ensures { λ _. ⌜ now (a .exit) ≡ movedOf (now (a .entry)) m d ⌝ }
 {
     let c = m / PAIRS;
@@ -65,7 +66,7 @@ pub(crate) fn moved(a: &mut [u32; CELLS], m: usize, d: u32)
 
 // Row s has the number x now. Of its tries one alone is known, i, which leads back to the number before.
 fn put(v: &mut [i64; SYSTEMS], tried: &mut [i64; TRIES], s: usize, i: usize, x: i64)
-    requires { ⌜ (i < TRIES) × (s ≡ rowOf i) × (length (now tried) ≡ TRIES) × (natAbs x ≤ LARGEST)
+    requires { ⌜ (i < TRIES) × (s ≡ triedRow i) × (length (now tried) ≡ TRIES) × (natAbs x ≤ LARGEST)
         × (natAbs (listed (now v) s) ≤ LARGEST) ⌝ }
     ensures { λ _. ⌜ (now (v .exit) ≡ set (now (v .entry)) s x)
         × Back (now (tried .entry)) s i (listed (now (v .entry)) s) (now (tried .exit)) ⌝ }
@@ -86,7 +87,7 @@ pub(crate) fn renumber(
     d: u32,
     m: usize,
 )
-    requires { ⌜ Held (now ch) k (now a) (now v) × Fit (now ch) k (now a) d m
+    requires { ⌜ Held (now ch) k (now a) (now v) × MayMove (now ch) k (now a) d m
         × Tried (now ch) k (now a) d (now tried) ⌝ }
     ensures { λ _. ⌜ Held (now (ch .entry)) k (movedOf (now (a .entry)) m d) (now (v .exit))
         × Tried (now (ch .entry)) k (movedOf (now (a .entry)) m d) d (now (tried .exit)) ⌝ }
@@ -118,8 +119,8 @@ fn first_taker(
     requires { ⌜ Held (now ch) k (now a) (now v) × (n < MOVES) × (n % SYSTEMS ≡ 0)
         × (givesOf (now ch) k (now a) d n ≡ true) × Past (now ch) k (now a) d n
         × Tried (now ch) k (now a) d (now tried)
-        × Totalled (givenOf (now ch) (now a) d (giverOf n) (componentOf n)) k (w .sum) (w .squares)
-        × (was ≡ imbalanceOf (numberAt (now ch) (now a)) k) × (c ≡ componentOf n) × (f ≡ giverOf n) ⌝ }
+        × Totalled (afterGiving (now ch) (now a) d (giverOf n) (componentOf n)) k (w .sum) (w .squares)
+        × (was ≡ imbalanceOf (rowNumber (now ch) (now a)) k) × (c ≡ componentOf n) × (f ≡ giverOf n) ⌝ }
     ensures { λ r. ⌜ Scanned (now (ch .entry)) k (now (a .entry)) d n r
         × Tried (now (ch .entry)) k (now (a .entry)) d (now (tried .exit)) ⌝ }
 {
@@ -152,8 +153,8 @@ fn first_from(
 ) -> usize
     requires { ⌜ Held (now ch) k (now a) (now v) × (n < MOVES) × (n % SYSTEMS ≡ 0) × (giverOf n < k)
         × Past (now ch) k (now a) d n × Tried (now ch) k (now a) d (now tried)
-        × Totalled (numberAt (now ch) (now a)) k (all .sum) (all .squares)
-        × (was ≡ imbalanceOf (numberAt (now ch) (now a)) k) ⌝ }
+        × Totalled (rowNumber (now ch) (now a)) k (all .sum) (all .squares)
+        × (was ≡ imbalanceOf (rowNumber (now ch) (now a)) k) ⌝ }
     ensures { λ r. ⌜ Scanned (now (ch .entry)) k (now (a .entry)) d n r
         × Tried (now (ch .entry)) k (now (a .entry)) d (now (tried .exit)) ⌝ }
 {

@@ -1,7 +1,7 @@
 // The rounds of the search.
 ghost use mathlib.Core.Path.{_≡_};
 ghost use Prim.Native.Nat.{_≤_, _^_};
-ghost use Rattle.split.specs.Search.{LEVEL, turnOf, found, searchOf};
+ghost use Rattle.split.specs.Search.{FIRST_LEVEL, turnOf, foundOf, searchOf};
 ghost use Rattle.split_rows.specs.Inner.Carried.{Held};
 ghost use Rattle.search.specs.Inner.Tried.{Tried};
 ghost use Rattle.search.specs.Inner.Rounds.{endOf};
@@ -20,7 +20,7 @@ use turn::Before;
 
 // The stride of a level.
 fn stride(level: usize) -> u32
-    requires { ⌜ level ≤ LEVEL ⌝ }
+    requires { ⌜ level ≤ FIRST_LEVEL ⌝ }
     ensures { λ r. ⌜ r ≡ 2 ^ level ⌝ }
 {
     1 << level
@@ -38,7 +38,7 @@ fn next_turn(
     level: usize,
     rounds: u32,
 ) -> Turn
-    requires { ⌜ Held (now ch) k (now a) (now v) × (level ≤ LEVEL) × Tried (now ch) k (now a) (2 ^ level) (now tried) ⌝ }
+    requires { ⌜ Held (now ch) k (now a) (now v) × (level ≤ FIRST_LEVEL) × Tried (now ch) k (now a) (2 ^ level) (now tried) ⌝ }
     ensures { λ r. ⌜ (r ≡ turnOf (now (ch .entry)) k limit allowance (now (a .entry)) level rounds) × Tried (now (ch .entry)) k (now (a .entry)) (2 ^ level) (now (tried .exit)) ⌝ }
 {
     let s = spread(v, k);
@@ -55,7 +55,7 @@ fn next_turn(
 
 // The cells at the end of a search, and what its last turn came to.
 fn ended(cells: [u32; CELLS], last: Turn, rounds: u32) -> Found
-    ensures { λ r. ⌜ r ≡ found cells (endOf last rounds) ⌝ }
+    ensures { λ r. ⌜ r ≡ foundOf cells (endOf last rounds) ⌝ }
 {
     let Turn::Rate(s) = last else {
         return Found {
@@ -79,7 +79,7 @@ pub(crate) fn search(
     start: [u32; CELLS],
     numbers: [i64; SYSTEMS],
 ) -> Found
-    requires { ⌜ Held (now ch) k start numbers × (level ≤ LEVEL) ⌝ }
+    requires { ⌜ Held (now ch) k start numbers × (level ≤ FIRST_LEVEL) ⌝ }
     ensures { λ r. ⌜ r ≡ searchOf (now (ch .entry)) k limit level allowance start ⌝ }
 {
     let mut a = start;

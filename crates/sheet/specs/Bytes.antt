@@ -4,11 +4,11 @@ use mathlib.Core.List.{List, [], _∷_}
 use lib.ListN.{getD}
 
 -- the number of four bytes, and that of the four bytes of `s` at `at`
-abbrev pub number : ℕ → ℕ → ℕ → ℕ → ℕ
-number a b c d = a * 16777216 + b * 65536 + c * 256 + d
+abbrev pub fourBytes : ℕ → ℕ → ℕ → ℕ → ℕ
+fourBytes a b c d = a * 16777216 + b * 65536 + c * 256 + d
 
-abbrev pub numberAt : List ℕ → ℕ → ℕ
-numberAt s at = number (getD s at 0) (getD s (at + 1) 0) (getD s (at + 2) 0) (getD s (at + 3) 0)
+abbrev pub fourBytesAt : List ℕ → ℕ → ℕ
+fourBytesAt s at = fourBytes (getD s at 0) (getD s (at + 1) 0) (getD s (at + 2) 0) (getD s (at + 3) 0)
 
 -- the four bytes of a number
 abbrev pub bytesOf : ℕ → List ℕ

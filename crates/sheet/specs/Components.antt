@@ -9,7 +9,7 @@ use Rattle.refusal.specs.Register.{UNKNOWN, RETIRED, OUT_OF_ORDER}
 use Rattle.analysis.specs.Register.{Status, live, retired, splitsOnly, unknown, statusOf}
 use Rattle.sheet.specs.declared.Reading.{Reading}
 use Rattle.sheet.specs.declared.Reading.the-variants.{Read, Refused}
-use Rattle.sheet.specs.Bytes.{numberAt, bytesOf}
+use Rattle.sheet.specs.Bytes.{fourBytesAt, bytesOf}
 
 -- the bytes of a record (document 01, "The register and the sheet"): code and amount
 abbrev pub COMPONENT_BYTES : ℕ
@@ -38,12 +38,12 @@ codesReading (suc n) s at i p =
 -- the amounts `a`, with those of `n` records at `at` put in
 abbrev pub amountsFrom : ℕ → List ℕ → ℕ → List ℕ → List ℕ
 amountsFrom zero s at a = a
-amountsFrom (suc n) s at a = amountsFrom n s (at + COMPONENT_BYTES) (set a (getD s at 0) (numberAt s (at + 1)))
+amountsFrom (suc n) s at a = amountsFrom n s (at + COMPONENT_BYTES) (set a (getD s at 0) (fourBytesAt s (at + 1)))
 
 -- is a component listed at 0 in `n` records at `at`?
 abbrev pub zeroListed : ℕ → List ℕ → ℕ → Bool
 zeroListed zero s at = false
-zeroListed (suc n) s at = cond (eqb (numberAt s (at + 1)) 0) true (zeroListed n s (at + COMPONENT_BYTES))
+zeroListed (suc n) s at = cond (eqb (fourBytesAt s (at + 1)) 0) true (zeroListed n s (at + COMPONENT_BYTES))
 
 -- how many amounts are listed: only codes with an amount are
 abbrev pub countOf : List ℕ → ℕ

@@ -6,16 +6,16 @@ use mathlib.Core.Logic.{_⊎_}
 use mathlib.Core.List.{List}
 use lib.ListN.{getD, replicate}
 use lib.Dec.{eqb}
-use Rattle.refusal.specs.Register.{TORN, OUT_OF_RANGE}
+use Rattle.refusal.specs.Register.{TORN, OUT_OF_RANGE, carried}
 use Rattle.analysis.specs.Register.{CODES}
-use Rattle.analysis.specs.Check.{refusalOf, AtFault}
+use Rattle.analysis.specs.Check.{analysisRefusal, AtFault}
 use Rattle.sheet.specs.declared.Reading.{Reading}
 use Rattle.sheet.specs.declared.Reading.the-variants.{Read, Refused}
 use Rattle.sheet.specs.declared.Sections.{Sections}
 use Rattle.sheet.specs.declared.Sections.the-variants.{Torn, Both}
 use Rattle.sheet.specs.declared.Sheet.{Sheet}
-use Rattle.sheet.specs.ReadingCases.{numberOf, codeOf}
-use Rattle.sheet.specs.Bytes.{numberAt}
+use Rattle.sheet.specs.ReadingCases.{numberOf, faultOf}
+use Rattle.sheet.specs.Bytes.{fourBytesAt}
 use Rattle.sheet.specs.Components.{COMPONENT_BYTES, codesReading, amountsFrom, zeroListed}
 use Rattle.sheet.specs.Split.{splitAt, noSplit}
 use Rattle.sheet.specs.Sheet.{sectionsOf}
@@ -26,11 +26,11 @@ amountsOf n s = amountsFrom n s 1 (replicate CODES 0)
 
 -- the number by the amounts: 5 for a component listed at 0, then that of the analysis
 unfoldable pub amountsRefusal : ℕ → List ℕ → ℕ
-amountsRefusal n s = cond (zeroListed n s 1) OUT_OF_RANGE (refusalOf (amountsOf n s))
+amountsRefusal n s = cond (zeroListed n s 1) OUT_OF_RANGE (analysisRefusal (amountsOf n s))
 
 -- a refusal by the amounts; 5 carries `code`
 abbrev pub byAmounts : ℕ → ℕ → Reading
-byAmounts number code = cond (eqb number 0) Read (Refused number 0 (cond (eqb number OUT_OF_RANGE) code 0))
+byAmounts number code = cond (eqb number 0) Read (Refused number 0 (carried number code 0))
 
 abbrev pub refusedSheet : Reading → Sheet
 refusedSheet x = record { answer = x; analysis = record { amounts = replicate CODES 0 }; split = noSplit }
@@ -63,7 +63,7 @@ pub record ListedAtZero (n : ℕ) (s : List ℕ) (code : ℕ) : Type 0 where
   pub place : ℕ
   pub listed : place < n
   pub code-there : getD s (1 + COMPONENT_BYTES * place) 0 ≡ code
-  pub amount-there : numberAt s (1 + COMPONENT_BYTES * place + 1) ≡ 0
+  pub amount-there : fourBytesAt s (1 + COMPONENT_BYTES * place + 1) ≡ 0
 
 -- a code at fault in a sheet of `n` components: listed at 0, out of its range, or absent where it may not be
 abbrev pub FaultIn : ℕ → List ℕ → ℕ → Type 0
@@ -71,5 +71,5 @@ FaultIn n s code = ListedAtZero n s code ⊎ AtFault (amountsOf n s) code
 
 -- the promise of the reader: the sheet is fixed but for the code of 5, and that is a code at fault
 pub record ReadAs (s : List ℕ) (r : Sheet) : Type 0 where
-  pub sheet : r ≡ readOf s (codeOf (r .answer))
-  pub code : numberOf (r .answer) ≡ 5 → FaultIn (getD s 0 0) s (codeOf (r .answer))
+  pub sheet : r ≡ readOf s (faultOf (r .answer))
+  pub code : numberOf (r .answer) ≡ 5 → FaultIn (getD s 0 0) s (faultOf (r .answer))

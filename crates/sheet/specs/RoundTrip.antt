@@ -10,7 +10,7 @@ use lib.Seq.{length-take-le, drop-length, getD-at, drop-at, take-at}
 use lib.Dec.{eqb}
 use borrow.Author.Tests.{eqb-true, eqb-false}
 use Rattle.analysis.specs.Register.{CODES, statusOf}
-use Rattle.analysis.specs.Check.{greatestOf, inRange, allInRange, refusalOf}
+use Rattle.analysis.specs.Check.{greatestOf, inRange, allInRange, analysisRefusal}
 use Rattle.analysis.specs.Laws.Ranges.{passed-ranges}
 use Rattle.refusal.specs.Register.{TORN}
 use Rattle.sheet.specs.declared.Reading.the-variants.{Read, Refused}
@@ -51,7 +51,7 @@ count-room k (x ∷ xs) h =
     go g r false false e f = omega (arith, r)
 
 -- at most twelve codes are listed
-pub count-most : (a : List ℕ) → length a ≡ CODES → refusalOf a ≡ 0 → countOf a ≤ LISTED
+pub count-most : (a : List ℕ) → length a ≡ CODES → analysisRefusal a ≡ 0 → countOf a ≤ LISTED
 unfolding room statusOf
 count-most a l h =
     let r : countOf a ≤ room 0 CODES = subst (λ (n : ℕ). countOf a ≤ room 0 n) l (count-room 0 a (passed-ranges a h)) in r
@@ -146,7 +146,7 @@ trimmed-read m s at =
 abbrev pub asRead : List ℕ → Split → Sheet
 asRead a p = record { answer = Read; analysis = record { amounts = a }; split = p }
 
-module _ (xs : List ℕ) (p : Split) (k : Sized (0 ∷ xs) p) (allowed : allowedCount (p .count) ≡ true) (passed : refusalOf (0 ∷ xs) ≡ 0) (code : ℕ) where
+module _ (xs : List ℕ) (p : Split) (k : Sized (0 ∷ xs) p) (allowed : allowedCount (p .count) ≡ true) (passed : analysisRefusal (0 ∷ xs) ≡ 0) (code : ℕ) where
   s : List ℕ
   s = sheetOf (0 ∷ xs) p
 
@@ -210,7 +210,7 @@ module _ (xs : List ℕ) (p : Split) (k : Sized (0 ∷ xs) p) (allowed : allowed
   read-sheet : readOf (sheetOf (0 ∷ xs) p) code ≡ asRead (0 ∷ xs) (trimmed p)
   unfolding s n
   read-sheet =
-      let j : amountsRefusal n s ≡ 0 = amounts-checked n s zeros ∙ ap refusalOf amounts ∙ passed in
+      let j : amountsRefusal n s ≡ 0 = amounts-checked n s zeros ∙ ap analysisRefusal amounts ∙ passed in
       let e : contentOf n (p .count) (2 + 5 * n) s ≡ asRead (0 ∷ xs) (trimmed p) = λ i. record { answer = Read; analysis = record { amounts = amounts i }; split = split i } in
       read-good s code n (p .count) (2 + 5 * n) sections codes j ∙ e
 
@@ -220,13 +220,13 @@ unfolding statusOf
 no-code x h = unlisted 0 x refl h
 
 -- the bytes of an analysis and a split that are not refused read as these
-pub read-bytes : (a : List ℕ) (p : Split) → Sized a p → allowedCount (p .count) ≡ true → refusalOf a ≡ 0 → (code : ℕ)
+pub read-bytes : (a : List ℕ) (p : Split) → Sized a p → allowedCount (p .count) ≡ true → analysisRefusal a ≡ 0 → (code : ℕ)
     → readOf (sheetOf a p) code ≡ asRead a (trimmed p)
 read-bytes [] p k allowed passed code = absurd (omega (arith, k .amounts-of-codes))
 read-bytes (x ∷ xs) p k allowed passed code =
     let g = both-true (inRange 0 x) (allInRange 1 xs) (passed-ranges (x ∷ xs) passed) in
     let e : x ≡ 0 = no-code x (g .0) in
-    subst (λ (y : ℕ). Sized (y ∷ xs) p → refusalOf (y ∷ xs) ≡ 0 → readOf (sheetOf (y ∷ xs) p) code ≡ asRead (y ∷ xs) (trimmed p))
+    subst (λ (y : ℕ). Sized (y ∷ xs) p → analysisRefusal (y ∷ xs) ≡ 0 → readOf (sheetOf (y ∷ xs) p) code ≡ asRead (y ∷ xs) (trimmed p))
     (sym e)
     (λ j c. read-sheet xs p j allowed c code)
     k
@@ -258,7 +258,7 @@ module _ (s : List ℕ) (bytes : Bytes s) (x : Whole s) where
   shape : Sectioned s (x .n) (x .m) (x .first)
   shape = sectioned s (x .sections)
 
-  passed : (zeroListed (x .n) s 1 ≡ false) × (refusalOf (amountsOf (x .n) s) ≡ 0)
+  passed : (zeroListed (x .n) s 1 ≡ false) × (analysisRefusal (amountsOf (x .n) s) ≡ 0)
   passed = amounts-back (x .n) s (x .amounts)
 
   filled : Filled (x .n) s 1 0 (1 + 5 * x .n) (0 ∷ []) (CODES - 1)
@@ -312,7 +312,7 @@ written-read s bytes code h b code' l =
     let r = read-good s code (x .n) (x .m) (x .first) (x .sections) (x .codes) (x .amounts) in
     let a : List ℕ = readOf s code .analysis .amounts in
     let p : Split = readOf s code .split in
-    let j : refusalOf a ≡ 0 = ap (λ (y : Sheet). refusalOf (y .analysis .amounts)) r ∙ amounts-back (x .n) s (x .amounts) .1 in
+    let j : analysisRefusal a ≡ 0 = ap (λ (y : Sheet). analysisRefusal (y .analysis .amounts)) r ∙ amounts-back (x .n) s (x .amounts) .1 in
     let m : allowedCount (p .count) ≡ true = ap (λ (y : Sheet). allowedCount (y .split .count)) r ∙ sectioned s (x .sections) .allowed in
     let k : length (sheetOf a p) ≤ length b = subst (λ (y : List ℕ). length y ≤ length b) (sym e) l in
     let z = number-none a p (length b) m j k in (

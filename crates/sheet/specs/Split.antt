@@ -6,7 +6,7 @@ use mathlib.Core.Bool.{Bool, true}
 use lib.ListN.{length, getD, take, replicate}
 use Rattle.refusal.specs.Keys.{isIn}
 use Rattle.sheet.specs.declared.Split.{Split}
-use Rattle.sheet.specs.Bytes.{numberAt, bytesOf}
+use Rattle.sheet.specs.Bytes.{fourBytesAt, bytesOf}
 
 -- the places of a column: room for a split's records
 abbrev pub RECORDS : ℕ
@@ -45,7 +45,7 @@ byteColumn (suc m) s at = getD s at 0 ∷ byteColumn m s (at + RECORD_BYTES)
 
 abbrev pub amountColumn : ℕ → List ℕ → ℕ → List ℕ
 amountColumn zero s at = []
-amountColumn (suc m) s at = numberAt s at ∷ amountColumn m s (at + RECORD_BYTES)
+amountColumn (suc m) s at = fourBytesAt s at ∷ amountColumn m s (at + RECORD_BYTES)
 
 -- a column with zeros in the places that are not used
 abbrev pub padded : List ℕ → List ℕ

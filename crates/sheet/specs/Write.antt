@@ -6,12 +6,12 @@ use mathlib.Core.Path.{_≡_}
 use mathlib.Core.List.{List, _++_}
 use lib.ListN.{length, drop}
 use lib.Dec.{leb, eqb}
-use Rattle.refusal.specs.Register.{TORN, OUT_OF_RANGE, SHORT_BLANK}
-use Rattle.analysis.specs.Check.{refusalOf, AtFault}
+use Rattle.refusal.specs.Register.{TORN, SHORT_BLANK, carried}
+use Rattle.analysis.specs.Check.{analysisRefusal, AtFault}
 use Rattle.sheet.specs.declared.Split.{Split}
 use Rattle.sheet.specs.declared.Written.{Written}
 use Rattle.sheet.specs.declared.Written.the-variants.{Length, Refused}
-use Rattle.sheet.specs.WrittenCases.{numberOf, codeOf}
+use Rattle.sheet.specs.WrittenCases.{numberOf, faultOf}
 use Rattle.sheet.specs.Split.{allowedCount}
 use Rattle.sheet.specs.Sheet.{sheetOf}
 
@@ -20,7 +20,7 @@ use Rattle.sheet.specs.Sheet.{sheetOf}
 unfoldable pub writeRefusal : List ℕ → Split → ℕ → ℕ
 writeRefusal a p size =
     cond (allowedCount (p .count))
-    (cond (eqb (refusalOf a) 0) (cond (leb (length (sheetOf a p)) size) 0 SHORT_BLANK) (refusalOf a))
+    (cond (eqb (analysisRefusal a) 0) (cond (leb (length (sheetOf a p)) size) 0 SHORT_BLANK) (analysisRefusal a))
     TORN
 
 -- the answer; a refusal 5 carries `code`
@@ -28,7 +28,7 @@ unfoldable pub writtenOf : List ℕ → Split → ℕ → ℕ → Written
 writtenOf a p size code =
     cond (eqb (writeRefusal a p size) 0)
     (Length (length (sheetOf a p)))
-    (Refused (writeRefusal a p size) (cond (eqb (writeRefusal a p size) OUT_OF_RANGE) code 0))
+    (Refused (writeRefusal a p size) (carried (writeRefusal a p size) code 0))
 
 -- the buffer after it: the sheet's bytes at its start and the rest as it was, or all of it as it was
 unfoldable pub leftOf : List ℕ → Split → List ℕ → List ℕ
@@ -36,6 +36,6 @@ leftOf a p b = cond (eqb (writeRefusal a p (length b)) 0) (sheetOf a p ++ drop (
 
 -- the promise of the writer: answer and buffer are fixed but for the code of 5, and that is a code at fault
 pub record WrittenAs (a : List ℕ) (p : Split) (b : List ℕ) (r : Written) (left : List ℕ) : Type 0 where
-  pub answer : r ≡ writtenOf a p (length b) (codeOf r)
+  pub answer : r ≡ writtenOf a p (length b) (faultOf r)
   pub buffer : left ≡ leftOf a p b
-  pub code : numberOf r ≡ 5 → AtFault a (codeOf r)
+  pub code : numberOf r ≡ 5 → AtFault a (faultOf r)

@@ -14,9 +14,9 @@ placeOf (Length n) = 0
 placeOf (Refused number code) = code
 
 -- the code at fault that 5 carries, else 0
-abbrev pub codeOf : Written → ℕ
-codeOf (Length n) = 0
-codeOf (Refused number code) = code
+abbrev pub faultOf : Written → ℕ
+faultOf (Length n) = 0
+faultOf (Refused number code) = code
 
 -- the length, or what the buffer for it held
 abbrev pub figuresOf : Written → ℕ → ℕ

@@ -7,6 +7,7 @@ use native.Mathlib.Nat as N
 use native.Mathlib.Omega.{arith}
 use lib.ListN.{length}
 use lib.IntN.{ℤ, natAbs}
+use Rattle.integer.specs.Figures.{MILLION}
 use Rattle.integer.specs.Fraction.{Within}
 use Rattle.split.specs.Fold.{sumTo}
 use Rattle.split.specs.Split.{CELLS, partsOf, Chosen, Sound}
@@ -22,14 +23,14 @@ use Rattle.split.specs.declared.Answer.the-variants.{Rated}
 
 module _ (ch : List ℕ) (k : ℕ) (mix a : List ℕ) (chosen : Chosen ch k) where
   -- cells that re-sum to a million parts at most, with no system empty, can be worked out
-  pub fit-sound : length a ≡ CELLS → totalOf mix ≤ 1000000 → Resums mix k a → NoneEmpty ch k a → Sound ch k a
+  pub fit-sound : length a ≡ CELLS → totalOf mix ≤ MILLION → Resums mix k a → NoneEmpty ch k a → Sound ch k a
   fit-sound long few sums some = record { stock = record { chosen = chosen; long = long; few = rw (resummed mix k a sums) few }; some = some }
 
-  pub fit-few : totalOf mix ≤ 1000000 → Resums mix k a → sumTo (partsOf ch a) k ≤ 1000000
+  pub fit-few : totalOf mix ≤ MILLION → Resums mix k a → sumTo (partsOf ch a) k ≤ MILLION
   fit-few few sums = omega (arith, parts-le ch k a chosen, resummed mix k a sums)
 
   -- a split that re-sums has exactly a million parts, so the mean is a weighted mean
-  pub fit-million : Clean ch k a → totalOf mix ≡ 1000000 → Resums mix k a → sumTo (partsOf ch a) k ≡ 1000000
+  pub fit-million : Clean ch k a → totalOf mix ≡ MILLION → Resums mix k a → sumTo (partsOf ch a) k ≡ MILLION
   fit-million clean million sums = parts-columns ch k a chosen clean ∙ resummed mix k a sums ∙ million
 
   module _ (limit n1 : ℕ) (w : ℤ) (s n : ℕ) (is : proposedOf limit ch k mix a n1 ≡ Rated w s n) where
@@ -40,11 +41,11 @@ module _ (ch : List ℕ) (k : ℕ) (mix a : List ℕ) (chosen : Chosen ch k) whe
     rating-is = rated-is limit ch k mix a n1 w s n is .0
 
     -- less than 40 units from the exact fraction at the same whole amounts
-    pub rated-within : totalOf mix ≤ 1000000 → n1 ≤ 1000000 → Within w (exactRating ch k a n1) 40
+    pub rated-within : totalOf mix ≤ MILLION → n1 ≤ MILLION → Within w (exactRating ch k a n1) 40
     rated-within few l = rw rating-is (rating-within ch k a n1 (fit .some) (fit-few few (fit .sums)) l)
 
     -- below 2 ^ 53 in magnitude
-    pub rated-small : totalOf mix ≤ 1000000 → natAbs w < 9007199254740992
+    pub rated-small : totalOf mix ≤ MILLION → natAbs w < 9007199254740992
     rated-small few = rw rating-is (N.lt-of-le-of-lt (rating-small ch k a n1 (fit-few few (fit .sums))) (omega arith))
 
     pub rated-spread-small : s < 9007199254740992

@@ -1,12 +1,10 @@
 -- What each case of `Answer` is (document 01, "What is turned away"): a refusal's number, 0 where there is none; what
 -- it carries, the record's place with 2 to 4 and the code at fault with 5; a rating's figures; and what a lent buffer
 -- then holds. Assumes nothing.
-use mathlib.Core.Bool.{cond}
 use mathlib.Core.List.{List, [], _∷_}
 use Prim.Native.Nat.{ℕ}
-use lib.Dec.{eqb}
 use lib.IntN.{ℤ, pos}
-use Rattle.refusal.specs.Register.{OUT_OF_RANGE}
+use Rattle.refusal.specs.Register.{carried}
 use Rattle.split.specs.declared.Answer.{Answer}
 use Rattle.split.specs.declared.Answer.the-variants.{Rated, Refused}
 
@@ -20,9 +18,9 @@ placeOf (Rated rating spread rounds) = 0
 placeOf (Refused number place) = place
 
 -- the code at fault that 5 carries, else 0
-abbrev pub codeOf : Answer → ℕ
-codeOf (Rated rating spread rounds) = 0
-codeOf (Refused number place) = cond (eqb number OUT_OF_RANGE) place 0
+abbrev pub faultOf : Answer → ℕ
+faultOf (Rated rating spread rounds) = 0
+faultOf (Refused number place) = carried number place 0
 
 -- rating and spread in units and the rounds, or what the buffer for them held
 abbrev pub figuresOf : Answer → List ℤ → List ℤ
@@ -30,6 +28,6 @@ figuresOf (Rated rating spread rounds) old = rating ∷ pos spread ∷ pos round
 figuresOf (Refused number place) old = old
 
 -- what stands beside a rating, or what the buffer held
-abbrev pub heldOf {ℓ} : {A : Type ℓ} → Answer → A → A → A
-heldOf (Rated rating spread rounds) new old = new
-heldOf (Refused number place) new old = old
+abbrev pub bufferOf {ℓ} : {A : Type ℓ} → Answer → A → A → A
+bufferOf (Rated rating spread rounds) new old = new
+bufferOf (Refused number place) new old = old

@@ -2,7 +2,9 @@
 -- a rating is less than 40 units from it (document 01, "The split and the rating"). Assumes nothing.
 use mathlib.Core.List.{List}
 use Prim.Native.Nat.{ℕ, zero, suc, _*_, _-_, _^_, _<_}
-use lib.IntN.{pos, negsuc}
+use lib.IntN.{pos}
+use Rattle.integer.specs.Figures.{neg, MILLION}
+use Rattle.split.specs.Rating.{PURE_METHANE}
 use Rattle.integer.specs.Fraction.{Fraction, whole, plus, times, over}
 use Rattle.formula.specs.Partial.{exactNumber}
 use Rattle.split.specs.Split.{systemOf, amountOf, partsOf}
@@ -17,13 +19,13 @@ exactSum ch zero a = whole (pos 0)
 exactSum ch (suc k) a = plus (exactSum ch k a) (times (exactAt ch a k) (partsOf ch a k))
 
 unfoldable pub exactMean : List ℕ → ℕ → List ℕ → Fraction
-exactMean ch k a = over (exactSum ch k a) 1000000
+exactMean ch k a = over (exactSum ch k a) MILLION
 
 unfoldable pub exactInert : ℕ → Fraction
-exactInert n1 = exactNumber 20 n1 (1000000 - n1) 0
+exactInert n1 = exactNumber 20 n1 (MILLION - n1) 0
 
 unfoldable pub exactRating : List ℕ → ℕ → List ℕ → ℕ → Fraction
-exactRating ch k a n1 = plus (plus (exactMean ch k a) (exactInert n1)) (whole (negsuc 1000002999))
+exactRating ch k a n1 = plus (plus (exactMean ch k a) (exactInert n1)) (whole (neg PURE_METHANE))
 
 -- no row is empty
 abbrev pub NoneEmpty : List ℕ → ℕ → List ℕ → Type 0

@@ -4,30 +4,32 @@ use mathlib.Core.List.{List}
 use mathlib.Core.Bool.{Bool, not, _&&_, cond}
 use lib.Dec.{ltb, leb}
 use lib.ListN.{getD, replicate}
-use Rattle.systems.specs.Systems.{COMPONENTS, candidates, elem}
+use Rattle.integer.specs.Figures.{MILLION}
+use Rattle.refusal.specs.Keys.{isIn}
+use Rattle.systems.specs.Systems.{COMPONENTS, candidates}
 use Rattle.split.specs.Fold.{sumTo, allTo}
 use Rattle.split.specs.Split.{SYSTEMS, CELLS, systemOf}
 use Rattle.split.specs.Rating.{someEmpty}
 use Rattle.split.specs.Start.{startOf}
-use Rattle.split.specs.Search.{LEVEL, found, searchOf}
+use Rattle.split.specs.Search.{FIRST_LEVEL, foundOf, searchOf}
 use Rattle.split.specs.declared.Search.the-variants.{Unfit}
 use Rattle.split.specs.declared.Found.{Found}
 
 -- one or more chosen systems that there is room for, each a candidate
 unfoldable pub chosenFit : List ℕ → ℕ → Bool
-chosenFit ch k = ltb 0 k && (leb k SYSTEMS && allTo (λ s. elem (systemOf ch s) candidates) k)
+chosenFit ch k = ltb 0 k && (leb k SYSTEMS && allTo (λ s. isIn (systemOf ch s) candidates) k)
 
 -- a mixture of a million parts at most
 unfoldable pub mixtureFit : List ℕ → Bool
-mixtureFit mix = leb (sumTo (λ c. getD mix c 0) COMPONENTS) 1000000
+mixtureFit mix = leb (sumTo (λ c. getD mix c 0) COMPONENTS) MILLION
 
 -- both, a first stride of 65536 at most, and a start that leaves no system empty
 unfoldable pub searchFit : List ℕ → List ℕ → ℕ → ℕ → Bool
-searchFit mix ch k level = leb level LEVEL && (mixtureFit mix && (chosenFit ch k && not (someEmpty ch k (startOf mix ch k))))
+searchFit mix ch k level = leb level FIRST_LEVEL && (mixtureFit mix && (chosenFit ch k && not (someEmpty ch k (startOf mix ch k))))
 
 -- the search from the start; any other input is unfit, and finds nothing
 unfoldable pub findOf : List ℕ → List ℕ → ℕ → ℕ → ℕ → ℕ → Found
 findOf mix ch k limit level allowance =
     cond (searchFit mix ch k level)
     (searchOf ch k limit level allowance (startOf mix ch k))
-    (found (replicate CELLS 0) Unfit)
+    (foundOf (replicate CELLS 0) Unfit)

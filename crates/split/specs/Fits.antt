@@ -5,7 +5,7 @@ use mathlib.Core.List.{List}
 use Prim.Native.Nat.{ℕ, _<_}
 use lib.ListN.{getD}
 use Rattle.systems.specs.Systems.{COMPONENTS}
-use Rattle.split.specs.Split.{columnOf, numberAt}
+use Rattle.split.specs.Split.{columnOf, rowNumber}
 use Rattle.split.specs.Spread.{EveryTwo}
 use Rattle.split.specs.Exact.{NoneEmpty}
 
@@ -16,4 +16,4 @@ Resums mix k a = (c : ℕ) → c < COMPONENTS → columnOf k a c ≡ getD mix c 
 pub record Fit (limit : ℕ) (ch : List ℕ) (k : ℕ) (mix a : List ℕ) : Type 0 where
   pub sums : Resums mix k a
   pub some : NoneEmpty ch k a
-  pub near : EveryTwo limit (numberAt ch a) k
+  pub near : EveryTwo limit (rowNumber ch a) k

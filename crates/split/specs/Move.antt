@@ -8,7 +8,7 @@ use lib.Dec.{ltb, leb, eqb}
 use lib.ListN.{getD, set}
 use Rattle.systems.specs.Systems.{COMPONENTS, hasOf}
 use Rattle.split.specs.Fold.{sumTo, first}
-use Rattle.split.specs.Split.{SYSTEMS, cellOf, systemOf, partsOf, numberAt}
+use Rattle.split.specs.Split.{SYSTEMS, cellOf, systemOf, partsOf, rowNumber}
 
 -- the square of the difference of two numbers, each first cut to thousandths of a methane number towards zero
 unfoldable pub squareOf : ℤ → ℤ → ℕ
@@ -51,7 +51,7 @@ unfoldable pub affordsOf : List ℕ → List ℕ → ℕ → ℕ → Bool
 affordsOf ch a d m = leb d (cellOf a (giverOf m) (componentOf m)) && ltb d (partsOf ch a (giverOf m))
 
 unfoldable pub lowersOf : List ℕ → ℕ → List ℕ → ℕ → ℕ → Bool
-lowersOf ch k a d m = ltb (imbalanceOf (numberAt ch (movedOf a m d)) k) (imbalanceOf (numberAt ch a) k)
+lowersOf ch k a d m = ltb (imbalanceOf (rowNumber ch (movedOf a m d)) k) (imbalanceOf (rowNumber ch a) k)
 
 unfoldable pub canOf : List ℕ → ℕ → List ℕ → ℕ → ℕ → Bool
 canOf ch k a d m = betweenOf ch k m && (affordsOf ch a d m && lowersOf ch k a d m)

@@ -3,8 +3,9 @@ use mathlib.Core.Bool.{Bool, _&&_, cond}
 use mathlib.Core.List.{List}
 use Prim.Native.Nat.{ℕ, _≤_}
 use lib.Dec.{ltb, leb}
+use Rattle.integer.specs.Figures.{MILLION}
 use Rattle.refusal.specs.Register.{WIDE}
-use Rattle.split.specs.Split.{numberAt, Chosen}
+use Rattle.split.specs.Split.{rowNumber, Chosen}
 use Rattle.split.specs.Rating.{spreadOf, ratingOf, proposedOf}
 use Rattle.split.specs.Find.{chosenFit, mixtureFit}
 use Rattle.split.specs.Laws.Sums.{totalOf}
@@ -15,22 +16,22 @@ use Rattle.split.specs.declared.Proposed.the-variants.{Answered, Unfit}
 
 -- an inert mixture's n1, a mixture of a million parts at most, chosen systems that are candidates
 unfoldable pub proposalFit : List ℕ → List ℕ → ℕ → ℕ → Bool
-proposalFit mix ch k n1 = leb n1 1000000 && (mixtureFit mix && chosenFit ch k)
+proposalFit mix ch k n1 = leb n1 MILLION && (mixtureFit mix && chosenFit ch k)
 
 -- the answer; other input is unfit, which is no refusal
-unfoldable pub answerOf : ℕ → List ℕ → ℕ → List ℕ → List ℕ → ℕ → Proposed
-answerOf limit ch k mix a n1 =
+unfoldable pub proposedAnswer : ℕ → List ℕ → ℕ → List ℕ → List ℕ → ℕ → Proposed
+proposedAnswer limit ch k mix a n1 =
     cond (proposalFit mix ch k n1) (Answered (proposedOf limit ch k mix a n1)) Unfit
 
 -- the answer to a split that re-sums and has no empty system
 unfoldable pub ratedOf : ℕ → List ℕ → ℕ → List ℕ → ℕ → Answer
 ratedOf limit ch k a n1 =
-    cond (ltb limit (spreadOf (numberAt ch a) k))
+    cond (ltb limit (spreadOf (rowNumber ch a) k))
     (Refused WIDE 0)
-    (Rated (ratingOf ch k a n1) (spreadOf (numberAt ch a) k) 0)
+    (Rated (ratingOf ch k a n1) (spreadOf (rowNumber ch a) k) 0)
 
 -- input that is answered by the rules
 pub record Proposal (mix ch : List ℕ) (k n1 : ℕ) : Type 0 where
   pub chosen : Chosen ch k
-  pub few : totalOf mix ≤ 1000000
-  pub inert : n1 ≤ 1000000
+  pub few : totalOf mix ≤ MILLION
+  pub inert : n1 ≤ MILLION

@@ -4,9 +4,10 @@ use mathlib.Core.Path.{_≡_, sym, ap, _∙_}
 use mathlib.Core.List.{List}
 use Prim.Native.Nat.{ℕ, _*_, _≤_, _<_}
 use native.Mathlib.Nat as N
+use Rattle.integer.specs.Figures.{MILLION}
 use Rattle.integer.specs.Fraction.{Within}
 use Rattle.systems.specs.Systems.{COMPONENTS}
-use Rattle.split.specs.Split.{RECORDS, cellsOf, amountsOf, numberAt}
+use Rattle.split.specs.Split.{RECORDS, cellsOf, amountsOf, rowNumber}
 use Rattle.split.specs.Rating.{ratingOf, proposedOf}
 use Rattle.split.specs.Laws.Starts.{Shared}
 use Rattle.split.specs.Laws.Finds.{Balance}
@@ -24,7 +25,7 @@ module _ (mix ch : List ℕ) (k limit allowance : ℕ) (a : List ℕ) (s r : ℕ
   balance-fit = record {
     sums = λ c l. balance .sums c l (shared c l);
     some = balance .sound .some;
-    near = spread-near limit (numberAt ch a) k (N.le-trans (N.le-of-eq (sym (balance .spread))) (balance .within));
+    near = spread-near limit (rowNumber ch a) k (N.le-trans (N.le-of-eq (sym (balance .spread))) (balance .within));
   }
 
   -- the same rating and the same spread
@@ -35,5 +36,5 @@ module _ (mix ch : List ℕ) (k limit allowance : ℕ) (a : List ℕ) (s r : ℕ
   pub put-back-records : (n1 : ℕ) → 3 * k ≤ RECORDS → proposedOf limit ch k mix (cellsOf ch k (amountsOf ch k a)) n1 ≡ Rated (ratingOf ch k a n1) s 0
   put-back-records n1 room = ap (λ (b : List ℕ). proposedOf limit ch k mix b n1) (cells-back ch k (balance .chosen) room a (balance .sound .stock .long) (balance .clean)) ∙ put-back n1
 
-  pub found-within : (n1 : ℕ) → totalOf mix ≤ 1000000 → n1 ≤ 1000000 → Within (ratingOf ch k a n1) (exactRating ch k a n1) 40
+  pub found-within : (n1 : ℕ) → totalOf mix ≤ MILLION → n1 ≤ MILLION → Within (ratingOf ch k a n1) (exactRating ch k a n1) 40
   found-within n1 few l = rated-within ch k mix a (balance .chosen) limit n1 (ratingOf ch k a n1) s 0 (put-back n1) few l

@@ -8,7 +8,7 @@ use Prim.Native.Nat.{ℕ}
 use lib.Dec.{ltb}
 use lib.IntN.{ℤ}
 use borrow.Author.Tests.{ltb-false, le-ltb}
-use Rattle.split.specs.Split.{numberAt}
+use Rattle.split.specs.Split.{rowNumber}
 use Rattle.split.specs.Rating.{spreadOf, ratingOf, resums, someEmpty, verdict, proposedOf}
 use Rattle.split.specs.Laws.Spread.{spread-near, near-spread}
 use Rattle.split.specs.Fits.{Fit}
@@ -34,7 +34,7 @@ verdict-last b e w v r h i j = ap₂ (λ (x y : Bool). verdict x y w r) h i ∙ 
 
 module _ (limit : ℕ) (ch : List ℕ) (k : ℕ) (mix a : List ℕ) (n1 : ℕ) where
   abbrev spread : ℕ
-  spread = spreadOf (numberAt ch a) k
+  spread = spreadOf (rowNumber ch a) k
 
   abbrev rated : Answer
   rated = Rated (ratingOf ch k a n1) spread 0
@@ -51,15 +51,15 @@ module _ (limit : ℕ) (ch : List ℕ) (k : ℕ) (mix a : List ℕ) (n1 : ℕ) w
   unfolding proposedOf
   proposed-wide h e w = verdict-last (resums mix k a) (someEmpty ch k a) (ltb limit spread) true rated h e w
 
-  pub proposed-rated : resums mix k a ≡ true → someEmpty ch k a ≡ false → ltb limit spread ≡ false → proposedOf limit ch k mix a n1 ≡ Rated (ratingOf ch k a n1) (spreadOf (numberAt ch a) k) 0
+  pub proposed-rated : resums mix k a ≡ true → someEmpty ch k a ≡ false → ltb limit spread ≡ false → proposedOf limit ch k mix a n1 ≡ Rated (ratingOf ch k a n1) (spreadOf (rowNumber ch a) k) 0
   unfolding proposedOf
   proposed-rated h e w = verdict-last (resums mix k a) (someEmpty ch k a) (ltb limit spread) false rated h e w
 
   -- ---- rated exactly when
 
   -- rated, with the rating and the spread, when the split is fit
-  pub fit-rated : Fit limit ch k mix a → proposedOf limit ch k mix a n1 ≡ Rated (ratingOf ch k a n1) (spreadOf (numberAt ch a) k) 0
-  fit-rated f = proposed-rated (yes-resums mix k a (f .sums)) (no-empty ch k a (f .some)) (le-ltb limit spread (near-spread limit (numberAt ch a) k (f .near)))
+  pub fit-rated : Fit limit ch k mix a → proposedOf limit ch k mix a n1 ≡ Rated (ratingOf ch k a n1) (spreadOf (rowNumber ch a) k) 0
+  fit-rated f = proposed-rated (yes-resums mix k a (f .sums)) (no-empty ch k a (f .some)) (le-ltb limit spread (near-spread limit (rowNumber ch a) k (f .near)))
 
   passed : (b e w : Bool) (r : Answer) → IsRated (verdict b e w r) → (b ≡ true) × (e ≡ false) × (w ≡ false)
   passed false e w r t = absurd t
@@ -72,13 +72,13 @@ module _ (limit : ℕ) (ch : List ℕ) (k : ℕ) (mix a : List ℕ) (n1 : ℕ) w
   unfolding proposedOf
   rated-fit t =
       let (b, e, w) = passed (resums mix k a) (someEmpty ch k a) (ltb limit spread) rated t in
-      record { sums = resums-yes mix k a b; some = empty-no ch k a e; near = spread-near limit (numberAt ch a) k (ltb-false limit spread w) }
+      record { sums = resums-yes mix k a b; some = empty-no ch k a e; near = spread-near limit (rowNumber ch a) k (ltb-false limit spread w) }
 
   pub rated-exactly-when : IsRated (proposedOf limit ch k mix a n1) ↔ Fit limit ch k mix a
   rated-exactly-when = (rated-fit, λ f. subst IsRated (sym (fit-rated f)) tt)
 
   -- and then with this rating and this spread
-  pub rated-is : (w : ℤ) (s n : ℕ) → proposedOf limit ch k mix a n1 ≡ Rated w s n → (w ≡ ratingOf ch k a n1) × (s ≡ spreadOf (numberAt ch a) k) × (n ≡ 0)
+  pub rated-is : (w : ℤ) (s n : ℕ) → proposedOf limit ch k mix a n1 ≡ Rated w s n → (w ≡ ratingOf ch k a n1) × (s ≡ spreadOf (rowNumber ch a) k) × (n ≡ 0)
   rated-is w s n is =
       let same : Rated w s n ≡ Rated (ratingOf ch k a n1) spread 0 = sym is ∙ fit-rated (rated-fit (subst IsRated (sym is) tt)) in
       (cc, cc, cc)

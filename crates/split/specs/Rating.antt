@@ -4,15 +4,20 @@ use mathlib.Core.List.{List}
 use mathlib.Core.Bool.{Bool, true, false}
 use lib.Dec.{ltb, eqb}
 use lib.ListN.{getD}
-use lib.IntN.{ℤ, pos, negsuc, natAbs, _+ℤ_, _-ℤ_, _*ℤ_}
+use lib.IntN.{ℤ, pos, natAbs, _+ℤ_, _-ℤ_, _*ℤ_}
 use lib.Signed.{quotZ}
+use Rattle.integer.specs.Figures.{neg, MILLION}
 use Rattle.refusal.specs.Register.{UNSUMMED, EMPTY_SYSTEM, WIDE}
 use Rattle.formula.specs.Partial.{partialNumber}
 use Rattle.systems.specs.Systems.{COMPONENTS}
 use Rattle.split.specs.Fold.{sumToZ, greatestTo, leastTo, allTo, someTo}
-use Rattle.split.specs.Split.{partsOf, columnOf, numberAt}
+use Rattle.split.specs.Split.{partsOf, columnOf, rowNumber}
 use Rattle.split.specs.declared.Answer.{Answer}
 use Rattle.split.specs.declared.Answer.the-variants.{Rated, Refused}
+
+-- the spread limit, 0.05 of a methane number, in units
+abbrev pub LIMIT : ℕ
+LIMIT = 500000
 
 -- the spread of k numbers: the greatest less the smallest
 unfoldable pub spreadOf : (ℕ → ℤ) → ℕ → ℕ
@@ -20,18 +25,22 @@ spreadOf v k = natAbs (greatestTo v k -ℤ leastTo v k)
 
 -- each partial number times its system's parts, added; the mean is that divided once
 unfoldable pub weightedOf : List ℕ → ℕ → List ℕ → ℤ
-weightedOf ch k a = sumToZ (λ s. numberAt ch a s *ℤ pos (partsOf ch a s)) k
+weightedOf ch k a = sumToZ (λ s. rowNumber ch a s *ℤ pos (partsOf ch a s)) k
 
 unfoldable pub meanOf : List ℕ → ℕ → List ℕ → ℤ
-meanOf ch k a = quotZ (weightedOf ch k a) (pos 1000000)
+meanOf ch k a = quotZ (weightedOf ch k a) (pos MILLION)
 
 -- the inert number: system 20 at n1 and the rest
 unfoldable pub inertNumber : ℕ → ℤ
-inertNumber n1 = partialNumber 20 n1 (1000000 - n1) 0
+inertNumber n1 = partialNumber 20 n1 (MILLION - n1) 0
+
+-- 100.0003, in units: system 20's number of methane alone
+abbrev pub PURE_METHANE : ℕ
+PURE_METHANE = 1000003000
 
 -- the mean and the inert number less 100.0003
 unfoldable pub ratingOf : List ℕ → ℕ → List ℕ → ℕ → ℤ
-ratingOf ch k a n1 = meanOf ch k a +ℤ inertNumber n1 +ℤ negsuc 1000002999
+ratingOf ch k a n1 = meanOf ch k a +ℤ inertNumber n1 +ℤ neg PURE_METHANE
 
 -- each component's amounts add up to the mixture's
 unfoldable pub resums : List ℕ → ℕ → List ℕ → Bool
@@ -51,5 +60,5 @@ verdict true false false rated = rated
 -- the answer to the cells a, proposed as a split of the mixture, under a spread limit
 unfoldable pub proposedOf : ℕ → List ℕ → ℕ → List ℕ → List ℕ → ℕ → Answer
 proposedOf limit ch k mix a n1 =
-    verdict (resums mix k a) (someEmpty ch k a) (ltb limit (spreadOf (numberAt ch a) k))
-    (Rated (ratingOf ch k a n1) (spreadOf (numberAt ch a) k) 0)
+    verdict (resums mix k a) (someEmpty ch k a) (ltb limit (spreadOf (rowNumber ch a) k))
+    (Rated (ratingOf ch k a n1) (spreadOf (rowNumber ch a) k) 0)

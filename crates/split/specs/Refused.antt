@@ -10,7 +10,7 @@ use native.Mathlib.Omega.{arith}
 use lib.Dec.{ltb}
 use lib.IntN.{ℤ}
 use borrow.Author.Tests.{ltb-false, le-ltb}
-use Rattle.split.specs.Split.{numberAt}
+use Rattle.split.specs.Split.{rowNumber}
 use Rattle.split.specs.Rating.{spreadOf, ratingOf, resums, someEmpty, verdict, proposedOf}
 use Rattle.split.specs.Spread.{EveryTwo}
 use Rattle.split.specs.Laws.Spread.{spread-near, near-spread}
@@ -53,33 +53,33 @@ at-10 true false false x y h = absurd (omega (arith, ap numberOf h))
 
 module _ (limit : ℕ) (ch : List ℕ) (k : ℕ) (mix a : List ℕ) (n1 : ℕ) where
   abbrev wide : Bool
-  wide = ltb limit (spreadOf (numberAt ch a) k)
+  wide = ltb limit (spreadOf (rowNumber ch a) k)
 
-  not-wide : wide ≡ false → EveryTwo limit (numberAt ch a) k
-  not-wide w = spread-near limit (numberAt ch a) k (ltb-false limit (spreadOf (numberAt ch a) k) w)
+  not-wide : wide ≡ false → EveryTwo limit (rowNumber ch a) k
+  not-wide w = spread-near limit (rowNumber ch a) k (ltb-false limit (spreadOf (rowNumber ch a) k) w)
 
-  near-not-wide : EveryTwo limit (numberAt ch a) k → wide ≡ false
-  near-not-wide n = le-ltb limit (spreadOf (numberAt ch a) k) (near-spread limit (numberAt ch a) k n)
+  near-not-wide : EveryTwo limit (rowNumber ch a) k → wide ≡ false
+  near-not-wide n = le-ltb limit (spreadOf (rowNumber ch a) k) (near-spread limit (rowNumber ch a) k n)
 
   pub refused-8-exactly-when : (proposedOf limit ch k mix a n1 ≡ Refused 8 0) ↔ (Resums mix k a → ⊥)
   unfolding proposedOf
   refused-8-exactly-when = (
-    λ h r. differ (resums mix k a) (yes-resums mix k a r) (at-8 (resums mix k a) (someEmpty ch k a) wide (ratingOf ch k a n1) (spreadOf (numberAt ch a) k) h),
+    λ h r. differ (resums mix k a) (yes-resums mix k a r) (at-8 (resums mix k a) (someEmpty ch k a) wide (ratingOf ch k a n1) (spreadOf (rowNumber ch a) k) h),
     λ n. proposed-unsummed limit ch k mix a n1 (fails (resums mix k a) (resums-yes mix k a) n),
   )
 
   pub refused-9-exactly-when : (proposedOf limit ch k mix a n1 ≡ Refused 9 0) ↔ (Resums mix k a × (NoneEmpty ch k a → ⊥))
   unfolding proposedOf
   refused-9-exactly-when = (
-    λ h. let (b, e) = at-9 (resums mix k a) (someEmpty ch k a) wide (ratingOf ch k a n1) (spreadOf (numberAt ch a) k) h in
+    λ h. let (b, e) = at-9 (resums mix k a) (someEmpty ch k a) wide (ratingOf ch k a n1) (spreadOf (rowNumber ch a) k) h in
         (resums-yes mix k a b, λ n. differ (someEmpty ch k a) e (no-empty ch k a n)),
     λ g. proposed-empty limit ch k mix a n1 (yes-resums mix k a (g .0)) (holds (someEmpty ch k a) (empty-no ch k a) (g .1)),
   )
 
-  pub refused-10-exactly-when : (proposedOf limit ch k mix a n1 ≡ Refused 10 0) ↔ (Resums mix k a × NoneEmpty ch k a × (EveryTwo limit (numberAt ch a) k → ⊥))
+  pub refused-10-exactly-when : (proposedOf limit ch k mix a n1 ≡ Refused 10 0) ↔ (Resums mix k a × NoneEmpty ch k a × (EveryTwo limit (rowNumber ch a) k → ⊥))
   unfolding proposedOf
   refused-10-exactly-when = (
-    λ h. let (b, e, w) = at-10 (resums mix k a) (someEmpty ch k a) wide (ratingOf ch k a n1) (spreadOf (numberAt ch a) k) h in
+    λ h. let (b, e, w) = at-10 (resums mix k a) (someEmpty ch k a) wide (ratingOf ch k a n1) (spreadOf (rowNumber ch a) k) h in
         (resums-yes mix k a b, empty-no ch k a e, λ n. differ wide w (near-not-wide n)),
     λ g. proposed-wide limit ch k mix a n1 (yes-resums mix k a (g .0)) (no-empty ch k a (g .1)) (holds wide not-wide (g .2)),
   )

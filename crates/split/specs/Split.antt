@@ -10,6 +10,7 @@ use mathlib.Core.Path.{_≡_}
 use lib.Dec.{ltb, eqb}
 use lib.ListN.{getD, length}
 use lib.IntN.{ℤ}
+use Rattle.integer.specs.Figures.{MILLION}
 use Rattle.formula.specs.Partial.{partialNumber}
 use Rattle.systems.specs.Systems.{COMPONENTS, memberOf, hasOf, Candidate}
 use Rattle.split.specs.Fold.{sumTo, first, table}
@@ -45,8 +46,8 @@ unfoldable pub columnOf : ℕ → List ℕ → ℕ → ℕ
 columnOf k a c = sumTo (λ s. cellOf a s c) k
 
 -- row s's partial number, as worked out
-unfoldable pub numberAt : List ℕ → List ℕ → ℕ → ℤ
-numberAt ch a s = partialNumber (systemOf ch s) (amountOf ch a s 0) (amountOf ch a s 1) (amountOf ch a s 2)
+unfoldable pub rowNumber : List ℕ → List ℕ → ℕ → ℤ
+rowNumber ch a s = partialNumber (systemOf ch s) (amountOf ch a s 0) (amountOf ch a s 1) (amountOf ch a s 2)
 
 -- row s is one of the k, and its system contains component c
 unfoldable pub heldOf : List ℕ → ℕ → ℕ → ℕ → Bool
@@ -82,7 +83,7 @@ pub record Chosen (ch : List ℕ) (k : ℕ) : Type 0 where
 pub record Stock (ch : List ℕ) (k : ℕ) (a : List ℕ) : Type 0 where
   pub chosen : Chosen ch k
   pub long : length a ≡ CELLS
-  pub few : sumTo (columnOf k a) COMPONENTS ≤ 1000000
+  pub few : sumTo (columnOf k a) COMPONENTS ≤ MILLION
 
 -- no system empty
 pub record Sound (ch : List ℕ) (k : ℕ) (a : List ℕ) : Type 0 where

@@ -17,11 +17,11 @@ unfoldable pub shareOf : ℕ → ℕ → ℕ → ℕ
 shareOf t n r = t / n + cond (ltb r (t % n)) 1 0
 
 -- row s's amount of component c
-unfoldable pub givenOf : List ℕ → List ℕ → ℕ → ℕ → ℕ → ℕ
-givenOf mix ch k s c = cond (heldOf ch k s c) (shareOf (getD mix c 0) (sharersOf ch c k) (sharersOf ch c s)) 0
+unfoldable pub startAmount : List ℕ → List ℕ → ℕ → ℕ → ℕ → ℕ
+startAmount mix ch k s c = cond (heldOf ch k s c) (shareOf (getD mix c 0) (sharersOf ch c k) (sharersOf ch c s)) 0
 
 abbrev pub startCell : List ℕ → List ℕ → ℕ → ℕ → ℕ
-startCell mix ch k i = givenOf mix ch k (i / COMPONENTS) (i % COMPONENTS)
+startCell mix ch k i = startAmount mix ch k (i / COMPONENTS) (i % COMPONENTS)
 
 unfoldable pub startOf : List ℕ → List ℕ → ℕ → List ℕ
 startOf mix ch k = table (startCell mix ch k) CELLS 0

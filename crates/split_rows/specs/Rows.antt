@@ -5,13 +5,14 @@ use mathlib.Core.Bool.{Bool, true, false, _&&_, cond}
 use lib.Dec.{ltb, leb}
 use lib.IntN.{ℤ, pos}
 use lib.ListN.{getD, replicate}
+use Rattle.refusal.specs.Keys.{isIn}
 use Rattle.refusal.specs.Register.{NO_SYSTEM}
 use Rattle.ternary.specs.Answer.{isMixture, formulaOf}
 use Rattle.ternary.specs.declared.Partial.{Partial}
 use Rattle.ternary.specs.declared.Partial.the-variants.{Refused}
-use Rattle.systems.specs.Systems.{candidates, elem, memberOf}
+use Rattle.systems.specs.Systems.{candidates, memberOf}
 use Rattle.split.specs.Fold.{allTo}
-use Rattle.split.specs.Split.{SYSTEMS, cellOf, systemOf, partsOf, numberAt}
+use Rattle.split.specs.Split.{SYSTEMS, cellOf, systemOf, partsOf, rowNumber}
 use Rattle.split_rows.specs.declared.Rows.{Rows}
 
 -- a list of numbers as a function
@@ -25,13 +26,13 @@ partsIn system a s = cellOf a s (memberOf system 0) + cellOf a s (memberOf syste
 -- its partial number, or why it has none
 unfoldable pub answerIn : ℕ → List ℕ → ℕ → Partial
 answerIn system a s =
-    cond (elem system candidates)
+    cond (isIn system candidates)
     (formulaOf system (cellOf a s (memberOf system 0)) (cellOf a s (memberOf system 1)) (cellOf a s (memberOf system 2)))
     (Refused NO_SYSTEM)
 
 -- row s has a partial number: its system is a candidate and its parts make a mixture
 unfoldable pub rowFit : List ℕ → List ℕ → ℕ → Bool
-rowFit ch a s = elem (systemOf ch s) candidates && isMixture (partsOf ch a s)
+rowFit ch a s = isIn (systemOf ch s) candidates && isMixture (partsOf ch a s)
 
 -- each of the k rows, for which there is room
 unfoldable pub rowsFit : List ℕ → ℕ → List ℕ → Bool
@@ -49,5 +50,5 @@ none = record { fit = false; numbers = replicate SYSTEMS (pos 0); parts = replic
 unfoldable pub rowsOf : List ℕ → ℕ → List ℕ → Rows
 rowsOf ch k a =
     cond (rowsFit ch k a)
-    (record { fit = true; numbers = upTo (pos 0) k (numberAt ch a) SYSTEMS 0; parts = upTo 0 k (partsOf ch a) SYSTEMS 0 })
+    (record { fit = true; numbers = upTo (pos 0) k (rowNumber ch a) SYSTEMS 0; parts = upTo 0 k (partsOf ch a) SYSTEMS 0 })
     none

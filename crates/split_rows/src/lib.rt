@@ -1,7 +1,9 @@
 // The rows of a split: their partial numbers and their parts. No public function has a `requires`.
 ghost use mathlib.Core.Path.{_≡_};
 ghost use Prim.Native.Nat.{_+_, _<_, _≤_};
-ghost use Rattle.systems.specs.Systems.{memberOf, candidates, elem, Candidate};
+ghost use Rattle.integer.specs.Figures.{MILLION};
+ghost use Rattle.refusal.specs.Keys.{isIn};
+ghost use Rattle.systems.specs.Systems.{memberOf, candidates, Candidate};
 ghost use Rattle.split.specs.Split.{SYSTEMS, cellOf};
 ghost use Rattle.split_rows.specs.Rows.{partsIn, answerIn, none, rowsOf};
 use refusal::NO_SYSTEM;
@@ -26,7 +28,7 @@ fn wide(x: u8) -> u32
 
 // Whether a system can be chosen: those and no others have components.
 fn is_candidate(system: u8) -> bool
-    ensures { λ r. ⌜ r ≡ elem system candidates ⌝ }
+    ensures { λ r. ⌜ r ≡ isIn system candidates ⌝ }
 {
     systems::member(system, 0) < COMPONENTS
 }
@@ -59,7 +61,7 @@ fn answer(system: u8, a: &[u32; CELLS], s: usize) -> Partial
 
 // Row s's parts.
 fn parts(system: u8, a: &[u32; CELLS], s: usize) -> u32
-    requires { ⌜ Candidate system × (s < SYSTEMS) × (partsIn system (now a) s ≤ 1000000) ⌝ }
+    requires { ⌜ Candidate system × (s < SYSTEMS) × (partsIn system (now a) s ≤ MILLION) ⌝ }
     ensures { λ r. ⌜ r ≡ partsIn system (now (a .entry)) s ⌝ }
 {
     amount(system, a, s, 0) + amount(system, a, s, 1) + amount(system, a, s, 2)

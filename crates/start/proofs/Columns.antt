@@ -15,9 +15,9 @@ use Rattle.systems.specs.Laws.Table.{none-has}
 use Rattle.split.specs.Fold.{sumTo, table}
 use Rattle.split.specs.Laws.Tables.{length-table, getD-table}
 use Rattle.split.specs.Split.{SYSTEMS, CELLS, systemOf}
-use Rattle.split.specs.Start.{sharersOf, shareOf, givenOf, startCell, startOf}
+use Rattle.split.specs.Start.{sharersOf, shareOf, startAmount, startCell, startOf}
 use Rattle.split.specs.Laws.Starts.{cell-past, cell-off, cell-on, some-sharer}
-use Rattle.start.specs.Inner.Column.{Cells, Marked, partOf, rowOf, columnTo, sharedOf, sharedTo}
+use Rattle.start.specs.Inner.Column.{Cells, Marked, partOf, sharedRow, columnTo, sharedOf, sharedTo}
 
 -- ---- one column
 
@@ -25,34 +25,34 @@ module _ (ch : List ℕ) (c share odd : ℕ) (a : List ℕ) where
   column-length : (n : ℕ) → length (columnTo ch c share odd a n) ≡ length a
   unfolding columnTo
   column-length zero = refl
-  column-length (suc n) = length-set (columnTo ch c share odd a n) (n * COMPONENTS + c) (rowOf ch c share odd n) ∙ column-length n
+  column-length (suc n) = length-set (columnTo ch c share odd a n) (n * COMPONENTS + c) (sharedRow ch c share odd n) ∙ column-length n
 
   -- the other cells stay
   column-other : (n j : ℕ) → ((i : ℕ) → i < n → j ≡ i * COMPONENTS + c → ⊥) → getD (columnTo ch c share odd a n) j 0 ≡ getD a j 0
   unfolding columnTo
   column-other zero j h = refl
   column-other (suc n) j h =
-      getD-set-other (columnTo ch c share odd a n) (n * COMPONENTS + c) j (rowOf ch c share odd n) 0 (h n (omega arith))
+      getD-set-other (columnTo ch c share odd a n) (n * COMPONENTS + c) j (sharedRow ch c share odd n) 0 (h n (omega arith))
       ∙ column-other n j (λ i l. h i (omega arith))
 
   -- each of the rows has its part
-  column-row : (n s : ℕ) → s < n → c < COMPONENTS → n * COMPONENTS ≤ length a → getD (columnTo ch c share odd a n) (s * COMPONENTS + c) 0 ≡ rowOf ch c share odd s
+  column-row : (n s : ℕ) → s < n → c < COMPONENTS → n * COMPONENTS ≤ length a → getD (columnTo ch c share odd a n) (s * COMPONENTS + c) 0 ≡ sharedRow ch c share odd s
   unfolding columnTo
   column-row zero s h l m = absurd (not-suc-le-zero h)
   column-row (suc n) s h l m = go (eqb s n) refl (λ h′. column-row n s h′ l (omega arith))
     where
-      go : (b : Bool) → eqb s n ≡ b → (s < n → getD (columnTo ch c share odd a n) (s * COMPONENTS + c) 0 ≡ rowOf ch c share odd s)
-          → getD (columnTo ch c share odd a (suc n)) (s * COMPONENTS + c) 0 ≡ rowOf ch c share odd s
+      go : (b : Bool) → eqb s n ≡ b → (s < n → getD (columnTo ch c share odd a n) (s * COMPONENTS + c) 0 ≡ sharedRow ch c share odd s)
+          → getD (columnTo ch c share odd a (suc n)) (s * COMPONENTS + c) 0 ≡ sharedRow ch c share odd s
       go true e next =
-          rw (eqb-true s n e) (getD-set-same (columnTo ch c share odd a n) (n * COMPONENTS + c) (rowOf ch c share odd n) 0 (omega (arith, column-length n)))
+          rw (eqb-true s n e) (getD-set-same (columnTo ch c share odd a n) (n * COMPONENTS + c) (sharedRow ch c share odd n) 0 (omega (arith, column-length n)))
       go false e next =
           let d = eqb-false s n e in
-          getD-set-other (columnTo ch c share odd a n) (n * COMPONENTS + c) (s * COMPONENTS + c) (rowOf ch c share odd n) 0 (λ q. d (omega arith)) ∙ next (omega arith)
+          getD-set-other (columnTo ch c share odd a n) (n * COMPONENTS + c) (s * COMPONENTS + c) (sharedRow ch c share odd n) 0 (λ q. d (omega arith)) ∙ next (omega arith)
 
 -- ---- a column of marks: shares of 1
 
-row-mark : (ch : List ℕ) (c s : ℕ) → rowOf ch c 1 0 s ≡ cond (hasOf (systemOf ch s) c) 1 0
-unfolding rowOf partOf
+row-mark : (ch : List ℕ) (c s : ℕ) → sharedRow ch c 1 0 s ≡ cond (hasOf (systemOf ch s) c) 1 0
+unfolding sharedRow partOf
 row-mark ch c s = go (hasOf (systemOf ch s) c)
   where
     go : (b : Bool) → cond (eqb (cond b 1 0) 0) 0 (1 + cond (ltb (sharersOf ch c s) 0) 1 0) ≡ cond b 1 0
@@ -99,7 +99,7 @@ marks ch end c a b z long e = record {
 
 -- row s's part of component c
 abbrev share-of : List ℕ → List ℕ → ℕ → ℕ → ℕ → ℕ
-share-of mix ch k c s = rowOf ch c (getD mix c 0 / max 1 (sharersOf ch c k)) (getD mix c 0 % max 1 (sharersOf ch c k)) s
+share-of mix ch k c s = sharedRow ch c (getD mix c 0 / max 1 (sharersOf ch c k)) (getD mix c 0 % max 1 (sharersOf ch c k)) s
 
 module _ (mix ch : List ℕ) (k : ℕ) (a : List ℕ) where
   shared-length : (n : ℕ) → length (sharedTo mix ch k a n) ≡ length a
@@ -160,11 +160,11 @@ module _ (ch : List ℕ) (long : length ch ≤ SYSTEMS) (c : ℕ) (low : c < COM
 
 module _ (mix ch : List ℕ) (k : ℕ) (long : length ch ≤ SYSTEMS) where
   -- a row's part is what the start gives it
-  given-is : (s c : ℕ) → s < k → c < COMPONENTS → share-of mix ch (min SYSTEMS k) c s ≡ givenOf mix ch k s c
-  unfolding rowOf partOf shareOf
+  given-is : (s c : ℕ) → s < k → c < COMPONENTS → share-of mix ch (min SYSTEMS k) c s ≡ startAmount mix ch k s c
+  unfolding sharedRow partOf shareOf
   given-is s c h l = go (hasOf (systemOf ch s) c) refl
     where
-      go : (b : Bool) → hasOf (systemOf ch s) c ≡ b → share-of mix ch (min SYSTEMS k) c s ≡ givenOf mix ch k s c
+      go : (b : Bool) → hasOf (systemOf ch s) c ≡ b → share-of mix ch (min SYSTEMS k) c s ≡ startAmount mix ch k s c
       go false e = rw e (cell-off mix ch k s c h (systemOf ch s) false refl (sym e) refl)
       go true e =
           let some : 0 < sharersOf ch c k = some-sharer mix ch k s c h (systemOf ch s) true refl (sym e) (sharersOf ch c k) refl refl in
@@ -174,10 +174,10 @@ module _ (mix ch : List ℕ) (k : ℕ) (long : length ch ≤ SYSTEMS) where
   abbrev zeros : List ℕ
   zeros = replicate CELLS 0
 
-  cell-is : (s c : ℕ) → s < SYSTEMS → c < COMPONENTS → getD (sharedTo mix ch (min SYSTEMS k) zeros COMPONENTS) (s * COMPONENTS + c) 0 ≡ givenOf mix ch k s c
+  cell-is : (s c : ℕ) → s < SYSTEMS → c < COMPONENTS → getD (sharedTo mix ch (min SYSTEMS k) zeros COMPONENTS) (s * COMPONENTS + c) 0 ≡ startAmount mix ch k s c
   cell-is s c h l = go (ltb s k) refl
     where
-      go : (b : Bool) → ltb s k ≡ b → getD (sharedTo mix ch (min SYSTEMS k) zeros COMPONENTS) (s * COMPONENTS + c) 0 ≡ givenOf mix ch k s c
+      go : (b : Bool) → ltb s k ≡ b → getD (sharedTo mix ch (min SYSTEMS k) zeros COMPONENTS) (s * COMPONENTS + c) 0 ≡ startAmount mix ch k s c
       go true e =
           let u = ltb-true s k e in
           shared-row mix ch (min SYSTEMS k) zeros s c l COMPONENTS (omega arith) l (omega arith) (omega (arith, length-replicate {A = ℕ} CELLS 0)) ∙ given-is s c u l
@@ -217,8 +217,8 @@ unfolding sharedTo
 done-more mix ch k a b n h z e = record { most = omega arith; cells = rw (add-one n) (e ∙ ap (sharedOf ch k n (getD mix n 0)) (z .cells)) }
 
 -- a component of which the mixture has nothing is passed over: its cells hold 0
-row-none : (ch : List ℕ) (c s : ℕ) → rowOf ch c 0 0 s ≡ 0
-unfolding rowOf partOf
+row-none : (ch : List ℕ) (c s : ℕ) → sharedRow ch c 0 0 s ≡ 0
+unfolding sharedRow partOf
 row-none ch c s = go (eqb (cond (hasOf (systemOf ch s) c) 1 0) 0)
   where
     go : (b : Bool) → cond b 0 (0 + cond (ltb (sharersOf ch c s) 0) 1 0) ≡ 0

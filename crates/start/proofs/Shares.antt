@@ -15,7 +15,7 @@ use Rattle.split.specs.Laws.Folds.{sum-none, sum-more}
 use Rattle.split.specs.Split.{CELLS, systemOf}
 use Rattle.split.specs.Start.{sharersOf}
 use Rattle.start.proofs.Columns.{over-marks}
-use Rattle.start.specs.Inner.Column.{Cells, Marked, containedAt, partOf, rowOf, columnTo, sharedOf}
+use Rattle.start.specs.Inner.Column.{Cells, Marked, containedAt, partOf, sharedRow, columnTo, sharedOf}
 
 -- the three cases of a part
 module _ (here share odd rank : ℕ) where
@@ -103,7 +103,7 @@ module _ (ch : List ℕ) (end c share odd : ℕ) (a : List ℕ) (z : Cells end c
   module _ (b : List ℕ) (rank i : ℕ) (w : Written ch end c share odd a b rank i) where
     pub written-more : (here v : ℕ) → i < end → (here ≡ containedAt ch i) × (here ≤ 1) → v ≡ partOf here share odd rank
         → Written ch end c share odd a (set b i v) (rank + here) (i + COMPONENTS)
-    unfolding columnTo rowOf counted-more
+    unfolding columnTo sharedRow counted-more
     written-more here v h e p = record {
       counted = counted-more ch end c z rank i (w .counted) here h e;
       cells =

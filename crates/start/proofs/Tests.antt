@@ -7,7 +7,9 @@ use native.Mathlib.Omega.{arith}
 use lib.Dec.{leb}
 use lib.ListN.{getD}
 use borrow.Author.Tests.{le-ltb, lt-ltb, le-leb, lt-leb}
-use Rattle.systems.specs.Systems.{COMPONENTS, candidates, memberOf, elem}
+use Rattle.integer.specs.Figures.{MILLION}
+use Rattle.refusal.specs.Keys.{isIn}
+use Rattle.systems.specs.Systems.{COMPONENTS, candidates, memberOf}
 use Rattle.split.specs.Fold.{sumTo, allTo}
 use Rattle.split.specs.Laws.Folds.{sum-none, sum-more}
 use Rattle.split.specs.Split.{SYSTEMS, systemOf}
@@ -28,18 +30,18 @@ module _ (mix : List ℕ) where
   pub added-more : (sum c x : ℕ) → c < COMPONENTS → Added mix sum c → (x ≡ getD mix c 0) × (x ≤ 4294967295) → Added mix (sum + x) (c + 1)
   added-more sum c x h z e = record { most = omega arith; all = sum-more (λ e. getD mix e 0) c sum x (z .all) (e .0); few = omega (arith, z .few, e .1) }
 
-  pub added-fit : (sum c : ℕ) → COMPONENTS ≤ c → Added mix sum c → leb sum 1000000 ≡ mixtureFit mix
+  pub added-fit : (sum c : ℕ) → COMPONENTS ≤ c → Added mix sum c → leb sum MILLION ≡ mixtureFit mix
   unfolding mixtureFit
   added-fit sum c h z =
       let q : c ≡ COMPONENTS = omega (arith, z .most) in
-      ap (λ x. leb x 1000000) (z .all ∙ ap (sumTo (λ e. getD mix e 0)) q)
+      ap (λ x. leb x MILLION) (z .all ∙ ap (sumTo (λ e. getD mix e 0)) q)
 
 -- a system with a first component is a candidate
 module _ (system r : ℕ) (e : r ≡ memberOf system 0) where
-  off-candidate : COMPONENTS ≤ r → elem system candidates ≡ false
+  off-candidate : COMPONENTS ≤ r → isIn system candidates ≡ false
   off-candidate z = sym (candidate-is system r e) ∙ le-ltb r COMPONENTS z
 
-  on-candidate : r < COMPONENTS → elem system candidates ≡ true
+  on-candidate : r < COMPONENTS → isIn system candidates ≡ true
   on-candidate z = sym (candidate-is system r e) ∙ lt-ltb r COMPONENTS z
 
 -- the tests of the chosen systems
@@ -54,12 +56,12 @@ chosen-many ch k h = rw (lt-ltb 0 k (omega arith), lt-leb k SYSTEMS h, chosenFit
 
 -- row s's system is a candidate
 abbrev passes : List ℕ → ℕ → Bool
-passes ch s = elem (systemOf ch s) candidates
+passes ch s = isIn (systemOf ch s) candidates
 
 -- the rows from s on pass
 pub record Tested (ch : List ℕ) (k s : ℕ) : Type 0 where
   pub low : s ≤ k
-  pub rest : allTo (λ r. elem (systemOf ch r) candidates) k ≡ allTo (λ r. elem (systemOf ch r) candidates) s
+  pub rest : allTo (λ r. isIn (systemOf ch r) candidates) k ≡ allTo (λ r. isIn (systemOf ch r) candidates) s
 
 module _ (ch : List ℕ) (k : ℕ) where
   pub tested-none : Tested ch k k

@@ -17,18 +17,18 @@ abbrev pub weights : List ℕ
 weights = 48 ∷ 75 ∷ 80 ∷ 100 ∷ 96 ∷ []
 
 -- a component's weight times its parts; 0 where it is no component
-abbrev pub weightedOf : List ℕ → ℕ → ℕ
-weightedOf mix c = getD weights c 0 * getD mix c 0
+abbrev pub weightedParts : List ℕ → ℕ → ℕ
+weightedParts mix c = getD weights c 0 * getD mix c 0
 
 -- a system's fitness times 480, over the three components that it contains
 unfoldable pub fitnessOf : List ℕ → ℕ → ℕ
 fitnessOf mix system =
-    weightedOf mix (memberOf system 0) + weightedOf mix (memberOf system 1) + weightedOf mix (memberOf system 2)
+    weightedParts mix (memberOf system 0) + weightedParts mix (memberOf system 1) + weightedParts mix (memberOf system 2)
 
 -- the weighted parts of all components below n
 unfoldable pub allTo : List ℕ → ℕ → ℕ
 allTo mix zero = 0
-allTo mix (suc n) = allTo mix n + weightedOf mix n
+allTo mix (suc n) = allTo mix n + weightedParts mix n
 
 -- ---- the components present
 
@@ -175,8 +175,8 @@ SYSTEMS = 8
 unfoldable pub paddedOf : List ℕ → List ℕ
 paddedOf l = l ++ replicate (SYSTEMS - length l) 0
 
-abbrev pub answerOf : List ℕ → Choice
-answerOf l = record { count = length l; systems = paddedOf l }
+abbrev pub choiceFrom : List ℕ → Choice
+choiceFrom l = record { count = length l; systems = paddedOf l }
 
 abbrev pub choiceOf : List ℕ → Choice
-choiceOf mix = answerOf (chooseOf mix)
+choiceOf mix = choiceFrom (chooseOf mix)

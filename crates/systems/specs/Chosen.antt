@@ -16,7 +16,8 @@ use lib.Count.{ones}
 use lib.Dec.{T, eqb, ltb, leb, ltb→lt, leb→le, le→leb}
 use lib.ListN.{getD, set, length, replicate}
 use borrow.Author.Tests.{eqb-true, eq-eqb, ne-eqb, ltb-true, ltb-false, lt-ltb, not-true}
-use Rattle.systems.specs.Systems.{COMPONENTS, METHANE, HYDROGEN, memberOf, hasOf, elem, Candidate}
+use Rattle.refusal.specs.Keys.{isIn}
+use Rattle.systems.specs.Systems.{COMPONENTS, METHANE, HYDROGEN, memberOf, hasOf, Candidate}
 use Rattle.systems.specs.Laws.Table.{of-true, to-true, every, each, everyTo, eachTo}
 use Rattle.systems.specs.Laws.Members.{countTo}
 use Rattle.systems.specs.Laws.Presence.{present-is, present-lt, standing-more, offered-candidate}
@@ -29,8 +30,8 @@ some f [] = false
 some f (x ∷ xs) = f x || some f xs
 
 some-elem : (P : Type 0) (f : ℕ → Bool) (xs : List ℕ) → T (some f xs)
-    → ((s : ℕ) → elem s xs ≡ true → f s ≡ true → P) → P
-unfolding elem
+    → ((s : ℕ) → isIn s xs ≡ true → f s ≡ true → P) → P
+unfolding isIn
 some-elem P f [] t k = absurd t
 some-elem P f (x ∷ xs) t k =
     go (f x) refl t (k x (elem-here x xs)) (λ u. some-elem P f xs u (λ s e. k s (elem-there s x xs e)))
@@ -48,8 +49,8 @@ to-passed : (a b : Bool) → (a ≡ true → T b) → T (not a || b)
 to-passed true b f = f refl
 to-passed false b f = tt
 
-every-of : (f : ℕ → Bool) (xs : List ℕ) → ((s : ℕ) → elem s xs ≡ true → T (f s)) → T (every f xs)
-unfolding elem
+every-of : (f : ℕ → Bool) (xs : List ℕ) → ((s : ℕ) → isIn s xs ≡ true → T (f s)) → T (every f xs)
+unfolding isIn
 every-of f [] h = tt
 every-of f (x ∷ xs) h =
     and-i (f x) (every f xs) (h x (elem-here x xs)) (every-of f xs (λ s e. h s (elem-there s x xs e)))
@@ -72,7 +73,7 @@ always good rank systems wanted (c ∷ cs) marks =
 
 -- a key that puts higher ranks first takes a system of the highest rank
 module _ (key rank : ℕ → ℕ) (systems : List ℕ) (r : T (rises 0 systems))
-    (before : (s t : ℕ) → elem s systems ≡ true → rank s < rank t → key s < key t) where
+    (before : (s t : ℕ) → isIn s systems ≡ true → rank s < rank t → key s < key t) where
   module _ (marks : List Bool) (c : ℕ) where
     abbrev best : ℕ
     best = fittestOf key systems marks c
@@ -86,7 +87,7 @@ module _ (key rank : ℕ → ℕ) (systems : List ℕ) (r : T (rises 0 systems))
         (λ t e. to-passed (openOf marks c t) (leb (rank t) (rank best))
         (λ o. le→leb (rank t) (rank best) (no-higher t (f .greatest t e o) (f .listed))))))
       where
-        no-higher : (t : ℕ) → key t ≤ key best → elem best systems ≡ true → rank t ≤ rank best
+        no-higher : (t : ℕ) → key t ≤ key best → isIn best systems ≡ true → rank t ≤ rank best
         no-higher t l e = go (ltb (rank best) (rank t)) refl
           where
             go : (b : Bool) → ltb (rank best) (rank t) ≡ b → rank t ≤ rank best
@@ -169,7 +170,7 @@ five-chosen n k e h =
 pub record Choosable (present : ℕ) (ch : List ℕ) (k : ℕ) : Type 0 where
   pub some : 2 ≤ k
   pub few : k ≤ MOST
-  pub offered : (i : ℕ) → i < k → elem (getD ch i 0) (candidatesOf present) ≡ true
+  pub offered : (i : ℕ) → i < k → isIn (getD ch i 0) (candidatesOf present) ≡ true
   pub known : (i : ℕ) → i < k → Candidate (getD ch i 0)
   pub rising : (i j : ℕ) → i < j → j < k → getD ch i 0 < getD ch j 0
   pub twice : (c : ℕ) → c < COMPONENTS → inMask present c ≡ true
@@ -183,7 +184,7 @@ pub record Filled (present : ℕ) (ch : List ℕ) (k : ℕ) : Type 0 where
 
 -- the same as tests
 offeredAt : ℕ → List ℕ → ℕ → Bool
-offeredAt present ch i = elem (getD ch i 0) (candidatesOf present)
+offeredAt present ch i = isIn (getD ch i 0) (candidatesOf present)
 
 risesAt : List ℕ → ℕ → ℕ → Bool
 risesAt ch i j = not (ltb i j) || ltb (getD ch i 0) (getD ch j 0)
@@ -218,7 +219,7 @@ of-choosable present ch k t =
     let (number, offered, rises, twice, supplied) =
     five (leb 2 k && leb k MOST) (everyTo (offeredAt present ch) k) (everyTo (λ i. everyTo (risesAt ch i) k) k)
     (everyTo (twiceAt present ch k) COMPONENTS) (everyTo (filledAt 1 present ch) k) t in
-    let among : ((i : ℕ) → i < k → elem (getD ch i 0) (candidatesOf present) ≡ true) =
+    let among : ((i : ℕ) → i < k → isIn (getD ch i 0) (candidatesOf present) ≡ true) =
     λ i h. to-true (offeredAt present ch i) (eachTo (offeredAt present ch) k offered i h) in
     record {
       some = leb→le 2 k (and-l (leb 2 k) (leb k MOST) number);
@@ -271,7 +272,7 @@ enough present = not (leb 2 (ones present)) || first present
 
 each-set : T (everyTo enough (2 ^ COMPONENTS))
 unfolding enough first second goodMarks goodBoth good full choosable offeredAt risesAt twiceAt filledAt paddedOf
-    chosenOf listOf fold containingOf hasOf memberOf elem countTo keep inMask presentIn maskOf maskFrom ones
+    chosenOf listOf fold containingOf hasOf memberOf isIn countTo keep inMask presentIn maskOf maskFrom ones
     candidatesOf
 each-set = tt
 
@@ -285,7 +286,7 @@ rising-offered present = go (inMask present HYDROGEN)
 
 -- so for every key that puts the systems with more components present first
 passes-always : (present : ℕ) (key : ℕ → ℕ) → present < 2 ^ COMPONENTS → 2 ≤ ones present
-    → ((s t : ℕ) → elem s (candidatesOf present) ≡ true → presentIn present s < presentIn present t
+    → ((s t : ℕ) → isIn s (candidatesOf present) ≡ true → presentIn present s < presentIn present t
     → key s < key t)
     → T (goodBoth present (chooseBy key (candidatesOf present) (keep present order)))
 unfolding marksOf enough first second goodMarks

@@ -8,7 +8,8 @@ use native.Mathlib.Omega.{arith}
 use lib.Ieee.Fits.{and-i, and-l, and-r}
 use lib.Dec.{T, eqb, leb, leb→le, le→leb}
 use borrow.Author.Tests.{eqb-true, eq-eqb}
-use Rattle.systems.specs.Systems.{COMPONENTS, memberOf, hasOf, elem, candidates}
+use Rattle.refusal.specs.Keys.{isIn}
+use Rattle.systems.specs.Systems.{COMPONENTS, memberOf, hasOf, candidates}
 use Rattle.systems.specs.Laws.Table.{of-true, eachTo}
 use Rattle.systems.specs.Laws.Scores.{score-open, score-closed, open-of-score, better-before, better-cases}
 use Rattle.systems.specs.Choice.{fold, isChosen, openOf, scoreOf, betterOf, fittestOf}
@@ -25,26 +26,26 @@ rises-lower b s (x ∷ systems) h t =
     (le→leb b x (omega (arith, leb→le s x (and-l (leb s x) (rises x systems) t))))
     (and-r (leb s x) (rises x systems) t)
 
-elem-cases : (P : Type 0) (n x : ℕ) (xs : List ℕ) → elem n (x ∷ xs) ≡ true
-    → (n ≡ x → P) → (elem n xs ≡ true → P) → P
-unfolding elem
+elem-cases : (P : Type 0) (n x : ℕ) (xs : List ℕ) → isIn n (x ∷ xs) ≡ true
+    → (n ≡ x → P) → (isIn n xs ≡ true → P) → P
+unfolding isIn
 elem-cases P n x xs h f g = go (eqb n x) refl
   where
     go : (b : Bool) → eqb n x ≡ b → P
     go true e = f (eqb-true n x e)
-    go false e = g (rw (e, elem) at h)
+    go false e = g (rw (e, isIn) at h)
 
-pub elem-here : (x : ℕ) (xs : List ℕ) → elem x (x ∷ xs) ≡ true
-unfolding elem
-elem-here x xs = rw (eq-eqb x x refl, elem)
+pub elem-here : (x : ℕ) (xs : List ℕ) → isIn x (x ∷ xs) ≡ true
+unfolding isIn
+elem-here x xs = rw (eq-eqb x x refl, isIn)
 
-pub elem-there : (n x : ℕ) (xs : List ℕ) → elem n xs ≡ true → elem n (x ∷ xs) ≡ true
-unfolding elem
+pub elem-there : (n x : ℕ) (xs : List ℕ) → isIn n xs ≡ true → isIn n (x ∷ xs) ≡ true
+unfolding isIn
 elem-there n x xs h = go (eqb n x) refl
   where
-    go : (b : Bool) → eqb n x ≡ b → elem n (x ∷ xs) ≡ true
-    go true e = rw (e, elem)
-    go false e = rw (e, elem) h
+    go : (b : Bool) → eqb n x ≡ b → isIn n (x ∷ xs) ≡ true
+    go true e = rw (e, isIn)
+    go false e = rw (e, isIn) h
 
 module _ (key : ℕ → ℕ) (marks : List Bool) (c : ℕ) where
   abbrev score : ℕ → ℕ
@@ -67,8 +68,8 @@ module _ (key : ℕ → ℕ) (marks : List Bool) (c : ℕ) where
       omega (arith, grows systems (betterOf key marks c b x), better-grows b x)
 
   -- nor than any system of the list
-  tops : (systems : List ℕ) (b s : ℕ) → elem s systems ≡ true → score s ≤ score (best systems b)
-  unfolding fold elem
+  tops : (systems : List ℕ) (b s : ℕ) → isIn s systems ≡ true → score s ≤ score (best systems b)
+  unfolding fold isIn
   tops [] b s e = absurd (of-true false e)
   tops (x ∷ systems) b s e =
       elem-cases (score s ≤ score (best (x ∷ systems) b)) s x systems e
@@ -86,7 +87,7 @@ module _ (key : ℕ → ℕ) (marks : List Bool) (c : ℕ) where
 
   -- it is what it began with or one of the list
   among : (P : ℕ → Type 0) (systems : List ℕ) (b : ℕ) → P b
-      → ((s : ℕ) → elem s systems ≡ true → P s) → P (best systems b)
+      → ((s : ℕ) → isIn s systems ≡ true → P s) → P (best systems b)
   unfolding fold
   among P [] b p f = p
   among P (x ∷ systems) b p f =
@@ -95,9 +96,9 @@ module _ (key : ℕ → ℕ) (marks : List Bool) (c : ℕ) where
       (λ s e. f s (elem-there s x systems e))
 
   -- and none that scores as much has a lower number
-  lowest-best : (systems : List ℕ) (b s : ℕ) → T (rises b systems) → elem s systems ≡ true
+  lowest-best : (systems : List ℕ) (b s : ℕ) → T (rises b systems) → isIn s systems ≡ true
       → score s ≡ score (best systems b) → best systems b ≤ s
-  unfolding fold elem
+  unfolding fold isIn
   lowest-best [] b s t e q = absurd (of-true false e)
   lowest-best (x ∷ systems) b s t e q =
       let l : b ≤ x = leb→le b x (and-l (leb b x) (rises x systems) t) in
@@ -113,15 +114,15 @@ module _ (key : ℕ → ℕ) (marks : List Bool) (c : ℕ) where
 -- f contains component c and is not chosen, no such system of the list has a greater key, and none with an equal key a
 -- lower number
 pub record Fittest (key : ℕ → ℕ) (systems : List ℕ) (marks : List Bool) (c f : ℕ) : Type 0 where
-  pub listed : elem f systems ≡ true
+  pub listed : isIn f systems ≡ true
   pub free : openOf marks c f ≡ true
-  pub greatest : (s : ℕ) → elem s systems ≡ true → openOf marks c s ≡ true → key s ≤ key f
-  pub lowest : (s : ℕ) → elem s systems ≡ true → openOf marks c s ≡ true → key s ≡ key f → f ≤ s
+  pub greatest : (s : ℕ) → isIn s systems ≡ true → openOf marks c s ≡ true → key s ≤ key f
+  pub lowest : (s : ℕ) → isIn s systems ≡ true → openOf marks c s ≡ true → key s ≡ key f → f ≤ s
 
 -- so it is wherever a system of a rising list can be taken
 module _ (key : ℕ → ℕ) (systems : List ℕ) (marks : List Bool) (c : ℕ) (t : T (rises 0 systems))
     (n : openOf marks c 0 ≡ false)
-    (s : ℕ) (e : elem s systems ≡ true) (o : openOf marks c s ≡ true) where
+    (s : ℕ) (e : isIn s systems ≡ true) (o : openOf marks c s ≡ true) where
   abbrev f : ℕ
   f = fittestOf key systems marks c
 
@@ -137,7 +138,7 @@ module _ (key : ℕ → ℕ) (systems : List ℕ) (marks : List Bool) (c : ℕ) 
   fittest-is =
       record {
         listed =
-            among key marks c (λ x. 0 < scoreOf key marks c x → elem x systems ≡ true) systems 0
+            among key marks c (λ x. 0 < scoreOf key marks c x → isIn x systems ≡ true) systems 0
             (λ h. let z = score-closed key marks c 0 n in absurd (omega arith)) (λ x p h. p) some-score;
         free = f-open;
         greatest = λ x p q.
@@ -158,7 +159,7 @@ lacks c = not (hasOf 0 c)
 
 -- the fittest candidate, for every mixture or other key
 pub fittest-candidate : (key : ℕ → ℕ) (marks : List Bool) (c : ℕ) → c < COMPONENTS
-    → (s : ℕ) → elem s candidates ≡ true → openOf marks c s ≡ true
+    → (s : ℕ) → isIn s candidates ≡ true → openOf marks c s ≡ true
     → Fittest key candidates marks c (fittestOf key candidates marks c)
 unfolding lacks hasOf memberOf
 fittest-candidate key marks c h =

@@ -6,7 +6,7 @@ use mathlib.Core.Bool.{Bool, true, false, cond}
 use mathlib.Core.Path.{_≡_, refl}
 use lib.Dec.{eqb}
 use lib.ListN.{getD}
-use Rattle.refusal.specs.Keys.{distinct, rising}
+use Rattle.refusal.specs.Keys.{distinct, rising, isIn}
 
 -- components are positions: methane 0, ethane 1, propane 2, butane 3, hydrogen 4
 abbrev pub COMPONENTS : ℕ
@@ -28,6 +28,7 @@ hydrocarbonSystems = 2 ∷ 4 ∷ 7 ∷ 8 ∷ []
 
 -- no candidate stands twice, and they rise
 pub no-candidate-twice : distinct candidates ≡ true
+unfolding isIn
 no-candidate-twice = refl
 
 pub candidates-rise : rising 0 candidates ≡ true
@@ -48,11 +49,6 @@ unfoldable pub hasOf : ℕ → ℕ → Bool
 hasOf system c =
     cond (eqb c (memberOf system 0)) true (cond (eqb c (memberOf system 1)) true (eqb c (memberOf system 2)))
 
--- whether a number is in a list
-unfoldable pub elem : ℕ → List ℕ → Bool
-elem n [] = false
-elem n (m ∷ ms) = cond (eqb n m) true (elem n ms)
-
 -- the system is a candidate
 pub record Candidate (system : ℕ) : Type 0 where
-  pub listed : elem system candidates ≡ true
+  pub listed : isIn system candidates ≡ true

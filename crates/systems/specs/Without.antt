@@ -11,7 +11,7 @@ use lib.ListN.{getD}
 use borrow.Author.Tests.{eqb-true, le-ltb}
 use Rattle.systems.specs.Systems.{COMPONENTS, HYDROGEN, memberOf, hydrocarbonSystems}
 use Rattle.systems.specs.Laws.Presence.{present-is}
-use Rattle.systems.specs.Choice.{weights, fitnessOf, allTo, maskFrom, inMask, presentAt, presentTo, presentOf, presentIn, standingBy, candidatesFor, candidatesOf, keep, hydrocarbonOrder, order, chooseBy, chooseIn, chooseOf, answerOf, choiceOf}
+use Rattle.systems.specs.Choice.{weights, fitnessOf, allTo, maskFrom, inMask, presentAt, presentTo, presentOf, presentIn, standingBy, candidatesFor, candidatesOf, keep, hydrocarbonOrder, order, chooseBy, chooseIn, chooseOf, choiceFrom, choiceOf}
 
 -- ---- as it was
 
@@ -85,8 +85,8 @@ module _ (mix : List ℕ) (none : getD mix HYDROGEN 0 ≡ 0) where
       present-before all-before
 
   -- and so it is answered
-  pub choice-before : choiceOf mix ≡ answerOf (chooseBefore mix)
-  choice-before = ap answerOf choose-before
+  pub choice-before : choiceOf mix ≡ choiceFrom (chooseBefore mix)
+  choice-before = ap choiceFrom choose-before
 
 -- ---- four amounts, and the same with 0 of hydrogen
 

@@ -10,13 +10,14 @@ use lib.ListN.{getD}
 use borrow.Author.Tests.{lt-ltb, le-ltb, le-leb, lt-leb}
 use mir.Syntax.{w64}
 use mir.Val.{Fits}
+use Rattle.integer.specs.Figures.{MILLION}
 use Rattle.refusal.specs.Register.{NO_MIXTURE, NO_SYSTEM, SHARE}
 use Rattle.formula.specs.Coefficients.{isSystem}
-use Rattle.formula.specs.Ranges.{rangesOf, shareIn, sharesIn, inRange}
+use Rattle.formula.specs.Ranges.{rangesOf, shareIn, sharesIn, sharesInRange}
 use Rattle.ternary.specs.declared.Partial.{Partial}
 use Rattle.ternary.specs.PartialCases.{numberOf}
 use Rattle.ternary.specs.declared.Partial.the-variants.{Refused}
-use Rattle.ternary.specs.Answer.{isMixture, rangedRefusalOf, partialOf}
+use Rattle.ternary.specs.Answer.{isMixture, partialRefusal, partialOf}
 use Rattle.ternary.specs.Laws.Answer.{partial-refusal, partial-outside}
 
 -- a percent of a sum of three amounts
@@ -33,11 +34,11 @@ first : (a b : Bool) → a ≡ false → false ≡ a && b
 first true b h = absurd (subst T h tt)
 first false b h = refl
 
-pub some-parts : (d : ℕ) → 0 < d → leb d 1000000 ≡ isMixture d
-some-parts d h = both (ltb 0 d) (leb d 1000000) (lt-ltb 0 d h)
+pub some-parts : (d : ℕ) → 0 < d → leb d MILLION ≡ isMixture d
+some-parts d h = both (ltb 0 d) (leb d MILLION) (lt-ltb 0 d h)
 
 pub no-parts : (d : ℕ) → d ≤ 0 → ltb 0 d ≡ isMixture d
-no-parts d h = let e = le-ltb 0 d h in e ∙ first (ltb 0 d) (leb d 1000000) e
+no-parts d h = let e = le-ltb 0 d h in e ∙ first (ltb 0 d) (leb d MILLION) e
 
 module _ (least greatest n d : ℕ) where
   pub share-upper : least * d ≤ 100 * n → leb (100 * n) (greatest * d) ≡ shareIn least greatest n d
@@ -62,18 +63,18 @@ module _ (system n1 n2 n3 : ℕ) (r : List ℕ) (e : r ≡ rangesOf system) (d :
   abbrev z : Bool
   z = shareIn (getD r 4 0) (getD r 5 0) n3 d
 
-  all-is : x && (y && z) ≡ inRange system n1 n2 n3
-  unfolding inRange
+  all-is : x && (y && z) ≡ sharesInRange system n1 n2 n3
+  unfolding sharesInRange
   all-is = ap (λ (u : ℕ). shareIn (getD r 0 0) (getD r 1 0) n1 u && (shareIn (getD r 2 0) (getD r 3 0) n2 u && shareIn (getD r 4 0) (getD r 5 0) n3 u)) f
       ∙ ap (λ (u : List ℕ). sharesIn u n1 n2 n3) e
 
-  pub first-out : x ≡ false → false ≡ inRange system n1 n2 n3
+  pub first-out : x ≡ false → false ≡ sharesInRange system n1 n2 n3
   first-out h = first x (y && z) h ∙ all-is
 
-  pub second-out : x ≡ true → y ≡ false → false ≡ inRange system n1 n2 n3
+  pub second-out : x ≡ true → y ≡ false → false ≡ sharesInRange system n1 n2 n3
   second-out h k = first y z k ∙ both x (y && z) h ∙ all-is
 
-  pub third-is : x ≡ true → y ≡ true → z ≡ inRange system n1 n2 n3
+  pub third-is : x ≡ true → y ≡ true → z ≡ sharesInRange system n1 n2 n3
   third-is h k = both y z k ∙ both x (y && z) h ∙ all-is
 
 -- ---- outside the ranges
@@ -94,12 +95,12 @@ module _ (system d : ℕ) where
 -- ---- an answer that is so has this number
 
 pub with-ranged : (s n1 n2 n3 : ℕ) (r : Partial) → r ≡ partialOf s n1 n2 n3
-    → (r ≡ partialOf s n1 n2 n3) × (numberOf r ≡ rangedRefusalOf s n1 n2 n3)
+    → (r ≡ partialOf s n1 n2 n3) × (numberOf r ≡ partialRefusal s n1 n2 n3)
 with-ranged s n1 n2 n3 r e = (e, ap numberOf e ∙ partial-refusal s n1 n2 n3)
 
 -- the refusal of a sum d that is that of the three amounts
 pub out-of-range : (s n1 n2 n3 d : ℕ) → d ≡ n1 + n2 + n3 → (n : ℕ) → n ≡ cond (isSystem s) (cond (isMixture d) SHARE NO_MIXTURE) NO_SYSTEM
-    → inRange s n1 n2 n3 ≡ false → Refused n ≡ partialOf s n1 n2 n3
+    → sharesInRange s n1 n2 n3 ≡ false → Refused n ≡ partialOf s n1 n2 n3
 out-of-range s n1 n2 n3 d e n q h =
     ap Refused (q ∙ ap (λ (x : ℕ). cond (isSystem s) (cond (isMixture x) SHARE NO_MIXTURE) NO_SYSTEM) e)
     ∙ partial-outside s n1 n2 n3 h

@@ -5,12 +5,13 @@ use mathlib.Core.List.{List}
 use Prim.Native.Nat.{ℕ, _+_, _-_, _≤_, _<_}
 use native.Mathlib.Omega.{arith}
 use lib.IntN.{ℤ}
+use Rattle.integer.specs.Figures.{MILLION}
 use Rattle.formula.specs.WorkingRule.{worked, rowsOf}
 use Rattle.formula.specs.Coefficients.{isSystem, tableOf, coeffOf}
 use Rattle.formula.specs.Laws.Bound.{small}
 use Rattle.ternary.specs.Inner.Table.{inTable, Bounded}
 use Rattle.formula.specs.Partial.{partialNumber}
-use Rattle.ternary.specs.Answer.{isMixture, refusalOf, formulaOf}
+use Rattle.ternary.specs.Answer.{isMixture, formulaRefusal, formulaOf}
 use Rattle.ternary.specs.Laws.Answer.{formula-refusal, formula-is, formula-12}
 use Rattle.ternary.specs.PartialCases.{numberOf}
 use Rattle.ternary.specs.declared.Partial.{Partial}
@@ -36,14 +37,14 @@ module _ (s n1 n2 d : ℕ) (known : isSystem s ≡ true) (h : n1 + n2 ≤ d) whe
   pub sum-refused : isMixture d ≡ false → Refused 12 ≡ formulaOf s n1 n2 (d - n1 - n2)
   sum-refused k = sym (formula-12 s n1 n2 (d - n1 - n2) known (ap isMixture whole ∙ k))
 
-  pub sum-number : (z : ℤ) → z ≡ worked n1 n2 d (rowsOf (coeffOf s)) → 0 < d → d ≤ 1000000 → Number z ≡ formulaOf s n1 n2 (d - n1 - n2)
+  pub sum-number : (z : ℤ) → z ≡ worked n1 n2 d (rowsOf (coeffOf s)) → 0 < d → d ≤ MILLION → Number z ≡ formulaOf s n1 n2 (d - n1 - n2)
   unfolding partialNumber
   sum-number z e k l =
       ap Number (e ∙ ap (λ (x : ℕ). worked n1 n2 x (rowsOf (coeffOf s))) (sym whole))
       ∙ sym (formula-is s n1 n2 (d - n1 - n2) known (omega (arith, whole)) (omega (arith, whole)))
 
 -- an answer that is so has this number
-pub with-number : (s n1 n2 n3 : ℕ) (r : Partial) → r ≡ formulaOf s n1 n2 n3 → (r ≡ formulaOf s n1 n2 n3) × (numberOf r ≡ refusalOf s (n1 + n2 + n3))
+pub with-number : (s n1 n2 n3 : ℕ) (r : Partial) → r ≡ formulaOf s n1 n2 n3 → (r ≡ formulaOf s n1 n2 n3) × (numberOf r ≡ formulaRefusal s (n1 + n2 + n3))
 with-number s n1 n2 n3 r e = (e, ap numberOf e ∙ formula-refusal s n1 n2 n3)
 
 -- and from there to the three amounts

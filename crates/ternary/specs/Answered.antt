@@ -8,9 +8,10 @@ use Prim.Native.Nat.{ℕ, _+_, _≤_, _<_}
 use native.Mathlib.Omega.{arith}
 use lib.Dec.{T}
 use lib.IntN.{ℤ, pos}
+use Rattle.integer.specs.Figures.{MILLION}
 use Rattle.integer.specs.Fraction.{Within}
 use Rattle.formula.specs.Coefficients.{isSystem}
-use Rattle.formula.specs.Ranges.{rangesOf, inRange}
+use Rattle.formula.specs.Ranges.{rangesOf, sharesInRange}
 use Rattle.formula.specs.InRange.{Shares, in-range-only, in-range-when}
 use Rattle.formula.specs.Partial.{partialNumber, exactNumber}
 use Rattle.formula.specs.Accuracy.{partial-within}
@@ -24,7 +25,7 @@ use Rattle.ternary.specs.Laws.Answer.{mixture-yes, mixture-of, mixture-n
 pub record Answerable (system n1 n2 n3 : ℕ) : Type 0 where
   pub known : isSystem system ≡ true
   pub some : 0 < n1 + n2 + n3
-  pub few : n1 + n2 + n3 ≤ 1000000
+  pub few : n1 + n2 + n3 ≤ MILLION
   pub shares : Shares (rangesOf system) n1 n2 n3
 
 never : {A : Type 0} {n : ℕ} {z : ℤ} → 0 < n → Refused n ≡ Number z → A
@@ -45,11 +46,11 @@ module _ (system n1 n2 n3 : ℕ) where
       ∙ formula-is system n1 n2 n3 (a .known) (a .some) (a .few)
 
   tests : (z : ℤ) → partialOf system n1 n2 n3 ≡ Number z
-      → (isSystem system ≡ true) × (isMixture (n1 + n2 + n3) ≡ true) × (inRange system n1 n2 n3 ≡ true)
+      → (isSystem system ≡ true) × (isMixture (n1 + n2 + n3) ≡ true) × (sharesInRange system n1 n2 n3 ≡ true)
       × (z ≡ partialNumber system n1 n2 n3)
   unfolding partialOf
   tests z e =
-      passed (isSystem system) (isMixture (n1 + n2 + n3)) (inRange system n1 n2 n3) (partialNumber system n1 n2 n3) z e
+      passed (isSystem system) (isMixture (n1 + n2 + n3)) (sharesInRange system n1 n2 n3) (partialNumber system n1 n2 n3) z e
 
   pub answered-only : (z : ℤ) → partialOf system n1 n2 n3 ≡ Number z
       → Answerable system n1 n2 n3 × (z ≡ partialNumber system n1 n2 n3)
@@ -104,18 +105,18 @@ module _ (system n1 n2 n3 : ℕ) where
   abbrev is : Partial → Type 0
   is p = partialOf system n1 n2 n3 ≡ p
 
-  at : {b m r : Bool} → isSystem system ≡ b → isMixture parts ≡ m → inRange system n1 n2 n3 ≡ r
+  at : {b m r : Bool} → isSystem system ≡ b → isMixture parts ≡ m → sharesInRange system n1 n2 n3 ≡ r
       → is (answer (partialNumber system n1 n2 n3) b m r)
   unfolding partialOf
   at {b} {m} {r} p q s =
-      ap (λ (u : Bool). answer (partialNumber system n1 n2 n3) u (isMixture parts) (inRange system n1 n2 n3)) p
-      ∙ ap (λ (u : Bool). answer (partialNumber system n1 n2 n3) b u (inRange system n1 n2 n3)) q
+      ap (λ (u : Bool). answer (partialNumber system n1 n2 n3) u (isMixture parts) (sharesInRange system n1 n2 n3)) p
+      ∙ ap (λ (u : Bool). answer (partialNumber system n1 n2 n3) b u (sharesInRange system n1 n2 n3)) q
       ∙ ap (λ (u : Bool). answer (partialNumber system n1 n2 n3) b m u) s
 
-  out : ¬ Shares (rangesOf system) n1 n2 n3 → inRange system n1 n2 n3 ≡ false
-  out h = go (inRange system n1 n2 n3) refl
+  out : ¬ Shares (rangesOf system) n1 n2 n3 → sharesInRange system n1 n2 n3 ≡ false
+  out h = go (sharesInRange system n1 n2 n3) refl
     where
-      go : (b : Bool) → inRange system n1 n2 n3 ≡ b → b ≡ false
+      go : (b : Bool) → sharesInRange system n1 n2 n3 ≡ b → b ≡ false
       go true e = absurd (h (in-range-only system n1 n2 n3 e))
       go false e = refl
 
@@ -123,33 +124,33 @@ module _ (system n1 n2 n3 : ℕ) where
   pub refused-13 : (isSystem system ≡ false → is (Refused 13)) × (is (Refused 13) → isSystem system ≡ false)
   unfolding partialOf
   refused-13 = (
-    λ h. at {m = isMixture parts} {r = inRange system n1 n2 n3} h refl refl,
-    to-13 (partialNumber system n1 n2 n3) (isSystem system) (isMixture parts) (inRange system n1 n2 n3),
+    λ h. at {m = isMixture parts} {r = sharesInRange system n1 n2 n3} h refl refl,
+    to-13 (partialNumber system n1 n2 n3) (isSystem system) (isMixture parts) (sharesInRange system n1 n2 n3),
   )
 
   -- 12: such a system, and the amounts add up to 0 or to more than 1000000
   abbrev pub NoMixture : Type 0
-  NoMixture = (isSystem system ≡ true) × ((parts ≡ 0) ⊎ (1000000 < parts))
+  NoMixture = (isSystem system ≡ true) × ((parts ≡ 0) ⊎ (MILLION < parts))
 
   pub refused-12 : (NoMixture → is (Refused 12)) × (is (Refused 12) → NoMixture)
   unfolding partialOf
   refused-12 = (
-    λ h. at {r = inRange system n1 n2 n3} (h .0) (⊎-elim (mixture-zero parts) (mixture-above parts) (h .1)) refl,
+    λ h. at {r = sharesInRange system n1 n2 n3} (h .0) (⊎-elim (mixture-zero parts) (mixture-above parts) (h .1)) refl,
     λ e.
-        let t = to-12 (partialNumber system n1 n2 n3) (isSystem system) (isMixture parts) (inRange system n1 n2 n3) e in
+        let t = to-12 (partialNumber system n1 n2 n3) (isSystem system) (isMixture parts) (sharesInRange system n1 n2 n3) e in
         (t .0, mixture-not parts (t .1)),
   )
 
   -- 17: such a system and a mixture, and a share outside its range
   abbrev pub ShareOutside : Type 0
-  ShareOutside = (isSystem system ≡ true) × (0 < parts) × (parts ≤ 1000000) × ¬ Shares (rangesOf system) n1 n2 n3
+  ShareOutside = (isSystem system ≡ true) × (0 < parts) × (parts ≤ MILLION) × ¬ Shares (rangesOf system) n1 n2 n3
 
   pub refused-17 : (ShareOutside → is (Refused 17)) × (is (Refused 17) → ShareOutside)
   unfolding partialOf
   refused-17 = (
     λ h. at (h .0) (mixture-yes parts (h .1) (h .2)) (out (h .3)),
     λ e.
-        let t = to-17 (partialNumber system n1 n2 n3) (isSystem system) (isMixture parts) (inRange system n1 n2 n3) e in
+        let t = to-17 (partialNumber system n1 n2 n3) (isSystem system) (isMixture parts) (sharesInRange system n1 n2 n3) e in
         let m = mixture-of parts (t .1) in
         (t .0, m .0, m .1, λ s. absurd (subst T (sym (in-range-when system n1 n2 n3 s) ∙ t .2) tt)),
   )

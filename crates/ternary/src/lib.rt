@@ -10,9 +10,9 @@ ghost use mathlib.Core.Bool.{true, cond};
 ghost use Prim.Native.Nat.{_+_, _-_, _≤_};
 ghost use Rattle.refusal.specs.Register.{NO_MIXTURE, NO_SYSTEM, SHARE};
 ghost use Rattle.formula.specs.Coefficients.{isSystem};
-ghost use Rattle.formula.specs.Ranges.{shareIn, inRange};
+ghost use Rattle.formula.specs.Ranges.{shareIn, sharesInRange};
 ghost use Rattle.ternary.specs.PartialCases.{numberOf};
-ghost use Rattle.ternary.specs.Answer.{isMixture, refusalOf, formulaOf, rangedRefusalOf, partialOf};
+ghost use Rattle.ternary.specs.Answer.{isMixture, formulaRefusal, formulaOf, partialRefusal, partialOf};
 use coefficients::is_system;
 use refusal::NO_MIXTURE;
 use refusal::NO_SYSTEM;
@@ -32,7 +32,7 @@ pub enum Partial {
 // looked at first, as most amounts lie in them; outside them 13 and 12 still come before 17.
 pub fn partial_number(system: u32, n1: u32, n2: u32, n3: u32) -> Partial
     ensures { λ r. ⌜ r ≡ partialOf system n1 n2 n3 ⌝ }
-    ensures { λ r. ⌜ numberOf r ≡ rangedRefusalOf system n1 n2 n3 ⌝ }
+    ensures { λ r. ⌜ numberOf r ≡ partialRefusal system n1 n2 n3 ⌝ }
 {
     if in_range(system, n1, n2, n3) {
         return formula_number(system, n1, n2, n3);
@@ -44,7 +44,7 @@ pub fn partial_number(system: u32, n1: u32, n2: u32, n3: u32) -> Partial
 // 13 and 12 as above.
 pub fn formula_number(system: u32, n1: u32, n2: u32, n3: u32) -> Partial
     ensures { λ r. ⌜ r ≡ formulaOf system n1 n2 n3 ⌝ }
-    ensures { λ r. ⌜ numberOf r ≡ refusalOf system (n1 + n2 + n3) ⌝ }
+    ensures { λ r. ⌜ numberOf r ≡ formulaRefusal system (n1 + n2 + n3) ⌝ }
 {
     if is_system(system) {
         return of_sum(system, n1, n2, sum(n1, n2, n3));
@@ -57,7 +57,7 @@ const FULL: u32 = 8;
 
 // Whether the shares of three amounts lie in a system's ranges of validity.
 pub fn in_range(system: u32, n1: u32, n2: u32, n3: u32) -> bool
-    ensures { λ r. ⌜ r ≡ inRange system n1 n2 n3 ⌝ }
+    ensures { λ r. ⌜ r ≡ sharesInRange system n1 n2 n3 ⌝ }
 {
     if system <= FULL {
         return true;

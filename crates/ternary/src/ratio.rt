@@ -5,6 +5,7 @@ ghost use Prim.Native.Nat.{_+_, _*_, _/_, _<_, _≤_};
 ghost use lib.IntN.{pos, natAbs};
 ghost use lib.Dec.{T};
 ghost use lib.Signed.{nonNeg};
+ghost use Rattle.integer.specs.Figures.{MILLION};
 ghost use Rattle.formula.specs.WorkingRule.{stepZ, LARGEST};
 ghost use Rattle.ternary.specs.Inner.Precomputed.{Precomputed};
 
@@ -30,7 +31,7 @@ pub(crate) struct Ratio {
 
 // The ratio n / d, by the inverse of d.
 pub(crate) fn ratio_of(n: u32, d: u64, inverse: u64) -> Ratio
-    requires { ⌜ (n ≤ d) × (0 < d) × (d ≤ 1000000) × (inverse ≡ 9223372036854775808 / d) ⌝ }
+    requires { ⌜ (n ≤ d) × (0 < d) × (d ≤ MILLION) × (inverse ≡ 9223372036854775808 / d) ⌝ }
     ensures { λ r. ⌜ (r .n ≡ n) × (r .d ≡ d) × Precomputed (r .n) (r .d) (r .high) (r .low) ⌝ }
 {
     let scaled = n as u64 * inverse / DROPPED;

@@ -2,6 +2,7 @@
 ghost use mathlib.Core.Path.{_≡_};
 ghost use Prim.Native.Nat.{_+_, _<_, _≤_};
 ghost use lib.IntN.{natAbs};
+ghost use Rattle.integer.specs.Figures.{MILLION};
 ghost use Rattle.formula.specs.Coefficients.{coeffOf};
 ghost use Rattle.formula.specs.WorkingRule.{stepZ, horner, coefs, worked, rowsOf, LARGEST};
 ghost use Rattle.ternary.specs.Inner.Precomputed.{Precomputed};
@@ -14,7 +15,7 @@ use coefficients::of_system;
 
 // The number of a system at the amounts n1, n2 and others, of sum d. The inverse of d is its one division.
 pub(crate) fn number(system: u32, n1: u32, n2: u32, d: u64) -> i64
-    requires { ⌜ (n1 ≤ d) × (n2 ≤ d) × (0 < d) × (d ≤ 1000000) ⌝ }
+    requires { ⌜ (n1 ≤ d) × (n2 ≤ d) × (0 < d) × (d ≤ MILLION) ⌝ }
     ensures { λ r. ⌜ r ≡ worked n1 n2 d (rowsOf (coeffOf system)) ⌝ }
 {
     let t = of_system(system);

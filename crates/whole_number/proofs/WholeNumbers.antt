@@ -11,6 +11,7 @@ use borrow.Author.Tests.{ltb-true, ltb-false}
 use mir.Syntax.{w64}
 use mir.Val.{SFits, toZ, ofZ}
 use mir.ValLaws.{toZ-ofZ}
+use Rattle.integer.specs.Figures.{neg}
 use Rattle.integer.specs.Laws.Bits.{sfits-small}
 use Rattle.integer.specs.Laws.Ring.{ring, natAbs-+, natAbs--, natAbs-quot, quot-rem, rem-lt}
 use Rattle.integer.specs.Laws.Order.{sub-ge, sub-lt}
@@ -33,7 +34,7 @@ by-rest : (z k : ℤ) (s : ℕ) → s < 10000000 → remZ z (pos 10000000) +ℤ 
 by-rest z k s h e = sym (floor-unique (z +ℤ pos 5000000) (quotZ z (pos 10000000) +ℤ k) 10000000 s h
     (gathered z (quotZ z (pos 10000000)) (pos 10000000) (remZ z (pos 10000000)) (pos 5000000) k (pos s) (quot-rem z 10000000) e))
 
-low-rest : (r : ℤ) → natAbs r < 10000000 → ltZ r (negsuc 4999999) ≡ true → (s : ℕ) × (s < 10000000) × (r +ℤ pos 5000000 ≡ negsuc 0 *ℤ pos 10000000 +ℤ pos s)
+low-rest : (r : ℤ) → natAbs r < 10000000 → ltZ r (neg 5000000) ≡ true → (s : ℕ) × (s < 10000000) × (r +ℤ pos 5000000 ≡ neg 1 *ℤ pos 10000000 +ℤ pos s)
 low-rest (pos a) h t = absurd (subst⁻¹ T t tt)
 low-rest (negsuc a) h t = (9999999 - (a - 5000000), omega arith, sub-lt 5000000 (suc a) (omega (arith, above)) ∙ ap negsuc (there above) ∙ sym (neg-split 0 10000000 (9999999 - (a - 5000000)) (omega arith)))
   where
@@ -43,7 +44,7 @@ low-rest (negsuc a) h t = (9999999 - (a - 5000000), omega arith, sub-lt 5000000 
     there : 4999999 < a → suc a - suc 5000000 ≡ 0 * 10000000 + (10000000 - 1 - (9999999 - (a - 5000000)))
     there k = omega arith
 
-mid-rest : (r : ℤ) → ltZ r (negsuc 4999999) ≡ false → ltZ r (pos 5000000) ≡ true → (s : ℕ) × (s < 10000000) × (r +ℤ pos 5000000 ≡ pos 0 *ℤ pos 10000000 +ℤ pos s)
+mid-rest : (r : ℤ) → ltZ r (neg 5000000) ≡ false → ltZ r (pos 5000000) ≡ true → (s : ℕ) × (s < 10000000) × (r +ℤ pos 5000000 ≡ pos 0 *ℤ pos 10000000 +ℤ pos s)
 mid-rest (pos a) t u = (a + 5000000, omega (arith, ltb-true a 5000000 u), ap pos (omega arith))
 mid-rest (negsuc a) t u = (5000000 - suc a, omega arith, sub-ge 5000000 (suc a) (omega (arith, ltb-false 4999999 a t)) ∙ ap pos (omega arith))
 
@@ -90,15 +91,15 @@ module _ (z : ℤ) (fz : SFits w64 z) where
   pub add-ok : SFits w64 (toZ w64 (ofZ w64 (quotZ (toZ w64 (ofZ w64 z)) (pos 10000000))) +ℤ pos 1)
   add-ok = subst⁻¹ (λ (x : ℤ). SFits w64 (x +ℤ pos 1)) q-is more-fits
 
-  pub low-is : ltZ (toZ w64 (ofZ w64 (remZ (toZ w64 (ofZ w64 z)) (pos 10000000)))) (negsuc 4999999) ≡ true → toZ w64 (ofZ w64 (toZ w64 (ofZ w64 (quotZ (toZ w64 (ofZ w64 z)) (pos 10000000))) -ℤ pos 1)) ≡ wholeNumber z
+  pub low-is : ltZ (toZ w64 (ofZ w64 (remZ (toZ w64 (ofZ w64 z)) (pos 10000000)))) (neg 5000000) ≡ true → toZ w64 (ofZ w64 (toZ w64 (ofZ w64 (quotZ (toZ w64 (ofZ w64 z)) (pos 10000000))) -ℤ pos 1)) ≡ wholeNumber z
   low-is t =
-      let (s, h, e) = low-rest (remZ z (pos 10000000)) (rem-lt z {d = 10000000} (lit< tt)) (subst (λ (x : ℤ). ltZ x (negsuc 4999999) ≡ true) r-is t) in
+      let (s, h, e) = low-rest (remZ z (pos 10000000)) (rem-lt z {d = 10000000} (lit< tt)) (subst (λ (x : ℤ). ltZ x (neg 5000000) ≡ true) r-is t) in
       ap (λ (x : ℤ). toZ w64 (ofZ w64 (x -ℤ pos 1))) q-is ∙ toZ-ofZ w64 (quotZ z (pos 10000000) -ℤ pos 1) less-fits
-      ∙ by-rest z (negsuc 0) s h e
+      ∙ by-rest z (neg 1) s h e
 
-  pub mid-is : ltZ (toZ w64 (ofZ w64 (remZ (toZ w64 (ofZ w64 z)) (pos 10000000)))) (negsuc 4999999) ≡ false → ltZ (toZ w64 (ofZ w64 (remZ (toZ w64 (ofZ w64 z)) (pos 10000000)))) (pos 5000000) ≡ true → toZ w64 (ofZ w64 (quotZ (toZ w64 (ofZ w64 z)) (pos 10000000))) ≡ wholeNumber z
+  pub mid-is : ltZ (toZ w64 (ofZ w64 (remZ (toZ w64 (ofZ w64 z)) (pos 10000000)))) (neg 5000000) ≡ false → ltZ (toZ w64 (ofZ w64 (remZ (toZ w64 (ofZ w64 z)) (pos 10000000)))) (pos 5000000) ≡ true → toZ w64 (ofZ w64 (quotZ (toZ w64 (ofZ w64 z)) (pos 10000000))) ≡ wholeNumber z
   mid-is t u =
-      let (s, h, e) = mid-rest (remZ z (pos 10000000)) (subst (λ (x : ℤ). ltZ x (negsuc 4999999) ≡ false) r-is t) (subst (λ (x : ℤ). ltZ x (pos 5000000) ≡ true) r-is u) in
+      let (s, h, e) = mid-rest (remZ z (pos 10000000)) (subst (λ (x : ℤ). ltZ x (neg 5000000) ≡ false) r-is t) (subst (λ (x : ℤ). ltZ x (pos 5000000) ≡ true) r-is u) in
       q-is ∙ sym (+ℤ-idr (quotZ z (pos 10000000))) ∙ by-rest z (pos 0) s h e
 
   pub high-is : ltZ (toZ w64 (ofZ w64 (remZ (toZ w64 (ofZ w64 z)) (pos 10000000)))) (pos 5000000) ≡ false → toZ w64 (ofZ w64 (toZ w64 (ofZ w64 (quotZ (toZ w64 (ofZ w64 z)) (pos 10000000))) +ℤ pos 1)) ≡ wholeNumber z

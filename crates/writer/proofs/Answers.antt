@@ -9,7 +9,7 @@ use lib.Dec.{eqb, ltb}
 use borrow.Author.Tests.{eqb-true, eqb-false, ltb-true, ltb-false, lt-ltb, le-ltb}
 use Rattle.analysis.specs.declared.Checked.{Checked}
 use Rattle.analysis.specs.declared.Checked.the-variants as checked
-use Rattle.analysis.specs.Check.{refusalOf, answerOf, Checking}
+use Rattle.analysis.specs.Check.{analysisRefusal, checkedOf, Checking}
 use Rattle.sheet.specs.declared.Split.{Split}
 use Rattle.sheet.specs.declared.Written.{Written}
 use Rattle.sheet.specs.declared.Written.the-variants.{Length, Refused}
@@ -36,33 +36,33 @@ module _ (a : List ℕ) (p : Split) (size : ℕ) where
 
   module _ (h : allowedCount (p .count) ≡ true) where
     -- what a refusal by the check says of the number
-    refused-number : (number code : ℕ) → checked.Refused number code ≡ answerOf (refusalOf a) code
-        → (refusalOf a ≡ 0 → ⊥) × (refusalOf a ≡ number) × (cond (eqb (refusalOf a) 5) code 0 ≡ code)
-    refused-number number code e = go (eqb (refusalOf a) 0) refl e
+    refused-number : (number code : ℕ) → checked.Refused number code ≡ checkedOf (analysisRefusal a) code
+        → (analysisRefusal a ≡ 0 → ⊥) × (analysisRefusal a ≡ number) × (cond (eqb (analysisRefusal a) 5) code 0 ≡ code)
+    refused-number number code e = go (eqb (analysisRefusal a) 0) refl e
       where
-        go : (t : Bool) → eqb (refusalOf a) 0 ≡ t
-            → checked.Refused number code ≡ cond t checked.InRange (checked.Refused (refusalOf a) (cond (eqb (refusalOf a) 5) code 0))
-            → (refusalOf a ≡ 0 → ⊥) × (refusalOf a ≡ number) × (cond (eqb (refusalOf a) 5) code 0 ≡ code)
+        go : (t : Bool) → eqb (analysisRefusal a) 0 ≡ t
+            → checked.Refused number code ≡ cond t checked.InRange (checked.Refused (analysisRefusal a) (cond (eqb (analysisRefusal a) 5) code 0))
+            → (analysisRefusal a ≡ 0 → ⊥) × (analysisRefusal a ≡ number) × (cond (eqb (analysisRefusal a) 5) code 0 ≡ code)
         go true q e = let z : _≡_ {A = ℕ} 0 1 = cc in absurd (never z)
         go false q e = (eqb-false _ _ q, cc, cc)
 
     refused-answer : (number code : ℕ) → Checking a (checked.Refused number code) → Answered a p size (Refused number code)
     refused-answer number code k =
         let q = refused-number number code (k .answer) in
-        let g = written-refused a p size code (refusalOf a) (number-check a p size h (q .0)) (q .0) in
+        let g = written-refused a p size code (analysisRefusal a) (number-check a p size h (q .0)) (q .0) in
         record {
-          answer = sym (g ∙ ap (λ (x : ℕ). Refused (refusalOf a) x) (q .2) ∙ ap (λ (x : ℕ). Refused x code) (q .1));
+          answer = sym (g ∙ ap (λ (x : ℕ). Refused (analysisRefusal a) x) (q .2) ∙ ap (λ (x : ℕ). Refused x code) (q .1));
           code = k .code;
         }
 
     pub answer-check : (number code : ℕ) (y : Checked) → Checking a y → y ≡ checked.Refused number code → Answered a p size (Refused number code)
     answer-check number code y k e = refused-answer number code (subst (λ (x : Checked). Checking a x) e k)
 
-    in-range : (y : Checked) → Checking a y → y ≡ checked.InRange → refusalOf a ≡ 0
-    in-range y k e = go (eqb (refusalOf a) 0) refl (subst (λ (x : Checked). Checking a x) e k .answer)
+    in-range : (y : Checked) → Checking a y → y ≡ checked.InRange → analysisRefusal a ≡ 0
+    in-range y k e = go (eqb (analysisRefusal a) 0) refl (subst (λ (x : Checked). Checking a x) e k .answer)
       where
-        go : (t : Bool) → eqb (refusalOf a) 0 ≡ t
-            → checked.InRange ≡ cond t checked.InRange (checked.Refused (refusalOf a) (cond (eqb (refusalOf a) 5) 0 0)) → refusalOf a ≡ 0
+        go : (t : Bool) → eqb (analysisRefusal a) 0 ≡ t
+            → checked.InRange ≡ cond t checked.InRange (checked.Refused (analysisRefusal a) (cond (eqb (analysisRefusal a) 5) 0 0)) → analysisRefusal a ≡ 0
         go true q e = eqb-true _ _ q
         go false q e = let z : _≡_ {A = ℕ} 0 1 = cc in absurd (never z)
 

@@ -11,7 +11,7 @@ ghost use Rattle.sheet.specs.Components.{COMPONENT_BYTES, countOf, componentByt
 ghost use Rattle.sheet.specs.Split.{RECORDS, RECORD_BYTES, splitBytes};
 ghost use Rattle.sheet.specs.Sheet.{sheetOf};
 ghost use Rattle.analysis.specs.Check.{AtFault};
-ghost use Rattle.sheet.specs.WrittenCases.{numberOf, codeOf};
+ghost use Rattle.sheet.specs.WrittenCases.{numberOf, faultOf};
 ghost use Rattle.sheet.specs.Write.{writtenOf, leftOf};
 ghost use Rattle.writer.specs.Inner.Answered.{Answered, roomFor};
 use analysis::Analysis;
@@ -154,9 +154,9 @@ fn put_sheet(a: [u32; CODES], p: Split, b: &mut [u8])
 
 // The sheet of the analysis and the split in the buffer, and its length; or a refusal, and the buffer as it was.
 pub fn write(a: Analysis, p: Split, b: &mut [u8]) -> Written
-    ensures { λ r. ⌜ r ≡ writtenOf (a .amounts) p (length (now (b .entry))) (codeOf r) ⌝ }
+    ensures { λ r. ⌜ r ≡ writtenOf (a .amounts) p (length (now (b .entry))) (faultOf r) ⌝ }
     ensures { λ _. ⌜ now (b .exit) ≡ leftOf (a .amounts) p (now (b .entry)) ⌝ }
-    ensures { λ r. ⌜ (numberOf r ≡ 5 → AtFault (a .amounts) (codeOf r)) ⌝ }
+    ensures { λ r. ⌜ (numberOf r ≡ 5 → AtFault (a .amounts) (faultOf r)) ⌝ }
 {
     let answer = answer(a, p, b.len());
     let Written::Length(_) = answer else {

@@ -14,20 +14,20 @@ use borrow.Author.Tests.{eqb-true, eqb-false, leb-true}
 use Rattle.analysis.specs.Register.{CODES, register, statusOf}
 use Rattle.analysis.specs.declared.Checked.{Checked}
 use Rattle.analysis.specs.declared.Checked.the-variants.{InRange, Refused}
-use Rattle.analysis.specs.CheckedCases.{numberOf, codeOf}
-use Rattle.analysis.specs.Check.{leastOf, greatestOf, requiredOf, inRange, allInRange, totalOf, totalFits, refusalOf, answerOf, Checking}
+use Rattle.analysis.specs.CheckedCases.{numberOf, faultOf}
+use Rattle.analysis.specs.Check.{leastOf, greatestOf, requiredOf, inRange, allInRange, totalOf, totalFits, analysisRefusal, checkedOf, Checking}
 use Rattle.analysis.specs.Laws.Required.{all-head, refusal-none, all-register, all-from}
 
 -- the number of the check's answer is the analysis's
-pub answer-number : (n code : ℕ) → numberOf (answerOf n code) ≡ n
+pub answer-number : (n code : ℕ) → numberOf (checkedOf n code) ≡ n
 answer-number n code = go (eqb n 0) refl
   where
     go : (t : Bool) → eqb n 0 ≡ t → numberOf (cond t InRange (Refused n (cond (eqb n 5) code 0))) ≡ n
     go true e = sym (eqb-true n 0 e)
     go false e = refl
 
-pub checked-number : (a : List ℕ) (r : Checked) → Checking a r → numberOf r ≡ refusalOf a
-checked-number a r h = ap numberOf (h .answer) ∙ answer-number (refusalOf a) (codeOf r)
+pub checked-number : (a : List ℕ) (r : Checked) → Checking a r → numberOf r ≡ analysisRefusal a
+checked-number a r h = ap numberOf (h .answer) ∙ answer-number (analysisRefusal a) (faultOf r)
 
 -- the sum of the amounts from code k on
 pub total-go : (k : ℕ) (a : List ℕ) → k < length a → totalOf (drop k a) ≡ getD a k 0 + totalOf (drop (k + 1) a)
@@ -91,13 +91,13 @@ all-at a k h l =
     let e : 0 + k ≡ k = omega arith in
     rw e at (all-from register a 0 k (all-register 0 a ∙ h) l)
 
-module _ (a : List ℕ) (h : refusalOf a ≡ 0) where
+module _ (a : List ℕ) (h : analysisRefusal a ≡ 0) where
   pub passed-ranges : allInRange 0 a ≡ true
-  unfolding refusalOf
+  unfolding analysisRefusal
   passed-ranges = refusal-none (allInRange 0 a) (totalFits (totalOf a)) h .0
 
   passed-total : totalFits (totalOf a) ≡ true
-  unfolding refusalOf
+  unfolding analysisRefusal
   passed-total = refusal-none (allInRange 0 a) (totalFits (totalOf a)) h .1
 
   pub passed-least : 999900 ≤ totalOf a
@@ -166,7 +166,7 @@ module _ (a : List ℕ) (l : length a ≡ CODES) where
         total-end CODES a (omega arith),
       )
 
-  module _ (h : refusalOf a ≡ 0) where
+  module _ (h : analysisRefusal a ≡ 0) where
     at-most : (k : ℕ) → k < CODES → getD a k 0 ≤ greatestOf k
     at-most k s = range-greatest k (getD a k 0) (all-at a k (passed-ranges a h) (omega arith))
 

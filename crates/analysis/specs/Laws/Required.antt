@@ -13,7 +13,7 @@ use Rattle.analysis.specs.Register.{Status, live, retired, splitsOnly, u
 use Rattle.analysis.specs.Register.{statusOf}
 use Rattle.analysis.specs.Check.{leastBy, greatestBy, requiredBy, inRangeBy, inRange, allInRange, totalOf}
 use Rattle.analysis.specs.Check.{totalFits}
-use Rattle.analysis.specs.Check.{refusalBy, refusalOf}
+use Rattle.analysis.specs.Check.{refusalByTests, analysisRefusal}
 use Rattle.analysis.specs.Required.{requiredToo, allInRangeIn, refusalIn, requiring}
 
 -- ---- by the register it is the check
@@ -24,9 +24,9 @@ all-register code [] = refl
 all-register code (x ∷ xs) =
     ap (λ (b : Bool). cond (inRangeBy (statusIn register code) x) b false) (all-register (suc code) xs)
 
-pub refusal-register : (a : List ℕ) → refusalIn register a ≡ refusalOf a
-unfolding refusalIn refusalOf
-refusal-register a = ap (λ (b : Bool). refusalBy b (totalFits (totalOf a))) (all-register 0 a)
+pub refusal-register : (a : List ℕ) → refusalIn register a ≡ analysisRefusal a
+unfolding refusalIn analysisRefusal
+refusal-register a = ap (λ (b : Bool). refusalByTests b (totalFits (totalOf a))) (all-register 0 a)
 
 -- ---- what passes where more must be present, passes
 
@@ -71,7 +71,7 @@ all-passes codes es code (x ∷ xs) h =
     rw (code-passes codes es code x t, all-passes codes es (suc code) xs u)
 
 -- what it says that an analysis is not refused
-pub refusal-none : (t u : Bool) → refusalBy t u ≡ 0 → (t ≡ true) × (u ≡ true)
+pub refusal-none : (t u : Bool) → refusalByTests t u ≡ 0 → (t ≡ true) × (u ≡ true)
 refusal-none true true h = (refl, refl)
 refusal-none true false h = absurd (omega arith)
 refusal-none false u h = absurd (omega arith)

@@ -2,7 +2,7 @@
 use mathlib.Core.Path.{ap, _∙_}
 use Rattle.analysis.specs.Check.{AtFault}
 use Rattle.sheet.specs.declared.Split.{Split}
-use Rattle.split.specs.AnswerCases.{codeOf}
+use Rattle.split.specs.AnswerCases.{faultOf}
 use Rattle.rating.specs.Rate.{splitAnswer}
 use Rattle.c_reply.specs.Interface.{splitFrom}
 use Rattle.c_ratings.proofs.Cases.{reply-is, figures-are, fault-at}
@@ -28,7 +28,7 @@ returns c =
     let s = b .proposed in
     let x = b .before .before .before .args in
     let p = splitFrom (x .count) (x .systems .now) (x .codes .now) (x .parts .now) in
-    let h = s .ensures .0 ∙ ap (λ (y : Split). splitAnswer (x .amounts .now) y (codeOf (s .result))) (b .before .before .split-from .ensures) in
+    let h = s .ensures .0 ∙ ap (λ (y : Split). splitAnswer (x .amounts .now) y (faultOf (s .result))) (b .before .before .split-from .ensures) in
     let e = c .reply-of .ensures in (
       (
         reply-is (splitAnswer (x .amounts .now) p) _ h _ e,

@@ -6,20 +6,20 @@ use borrow.Author.Needs.{needs}
 use lib.ListN.{getD}
 use Rattle.systems.specs.Systems.{COMPONENTS}
 use Rattle.systems.specs.Choice.{candidatesFor}
-use Rattle.choice.specs.Inner.Keys.{weighedTo}
+use Rattle.choice.specs.Inner.Keys.{keyWeights}
 use Rattle.choice.proofs.Keying.{weighed-next}
 use Rattle.choice.proofs.fitness.Statement.{statement}
 use Rattle.choice.proofs.fitness.Tie as tie
 
 abbrev Inv-loop : tie.InvT-loop
 Inv-loop hydrogen i m k₀ c₀ k c =
-    (c ≤ COMPONENTS) × (k ≤ 429496729500 * c + 1) × (k ≡ weighedTo m (getD (candidatesFor hydrogen) i 0) c + 1)
+    (c ≤ COMPONENTS) × (k ≤ 429496729500 * c + 1) × (k ≡ keyWeights m (getD (candidatesFor hydrogen) i 0) c + 1)
 
 abbrev μ-loop : tie.MeasureT-loop
 μ-loop hydrogen i m k₀ c₀ k c = COMPONENTS - c
 
 loop-holds : tie.Need-loop-holds Inv-loop μ-loop
-unfolding weighedTo
+unfolding keyWeights
 loop-holds c = (omega arith, omega arith, refl)
 
 mul-weighted : tie.Need-mul-weighted Inv-loop μ-loop

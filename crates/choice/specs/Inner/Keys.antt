@@ -6,12 +6,12 @@ use mathlib.Core.List.{List}
 use mathlib.Core.Bool.{Bool, cond}
 use lib.ListN.{getD, length}
 use Rattle.systems.specs.Systems.{hasOf}
-use Rattle.systems.specs.Choice.{NUMBERS, weightedOf, candidatesFor, isChosen}
+use Rattle.systems.specs.Choice.{NUMBERS, weightedParts, candidatesFor, isChosen}
 
 -- the weighted parts of the components below c that a system contains
-unfoldable pub weighedTo : List ℕ → ℕ → ℕ → ℕ
-weighedTo mix system zero = 0
-weighedTo mix system (suc c) = weighedTo mix system c + cond (hasOf system c) (weightedOf mix c) 0
+unfoldable pub keyWeights : List ℕ → ℕ → ℕ → ℕ
+keyWeights mix system zero = 0
+keyWeights mix system (suc c) = keyWeights mix system c + cond (hasOf system c) (weightedParts mix c) 0
 
 -- a system's key: 0 where it is chosen, else its standing and 1
 unfoldable pub keyOf : (ℕ → ℕ) → List Bool → ℕ → ℕ

@@ -17,9 +17,9 @@ use Rattle.split.specs.Laws.Folds.{all-each, all-of}
 use Rattle.split.specs.Laws.Members.{both-left, both-right}
 use Rattle.split.specs.Laws.Tables.{getD-table}
 use Rattle.split.specs.Split.{RECORDS, cellsOf}
-use Rattle.split.specs.Rating.{ratingOf, proposedOf}
+use Rattle.split.specs.Rating.{ratingOf, proposedOf, LIMIT}
 use Rattle.split.specs.Rated.{IsRated, rated-is}
-use Rattle.split.specs.Search.{LEVEL}
+use Rattle.split.specs.Search.{FIRST_LEVEL}
 use Rattle.split.specs.Laws.Finds.{Balance, input-fits, find-search, find-balanced}
 use Rattle.split.specs.PutBack.{put-back-records}
 use Rattle.split.specs.declared.Answer.{Answer}
@@ -28,7 +28,7 @@ use Rattle.split.specs.declared.Search.{Search}
 use Rattle.split.specs.declared.Search.the-variants.{Balanced, Unbalanced, Unfit}
 use Rattle.split.specs.declared.Found.{Found}
 use Rattle.rating.specs.Records.{systemAt, codeAt, systemsOf, codesOf, matchesAt, fitsOf}
-use Rattle.rating.specs.Rate.{LIMIT, ROUNDS, mixOf, systemsFor, countFor, ratingRefusal, checkedBy, splitBy, splitAnswer, recordsOf, outcome, foundBy, foundOutcome, searched, searchOutcome}
+use Rattle.rating.specs.Rate.{ROUNDS, mixOf, systemsFor, countFor, ratingRefusal, checkedBy, splitBy, splitAnswer, recordsOf, outcome, foundBy, foundOutcome, searched, searchOutcome}
 use Rattle.rating.specs.RatedOn.{RatedOn}
 use Rattle.rating.specs.Laws.Ready.{room, shared, input}
 use Rattle.rating.specs.declared.Outcome.{Outcome}
@@ -164,10 +164,10 @@ pub balance : (a : List ℕ) → length a ≡ CODES → RatedOn a → (allowance
     → Balance (mixOf a) (systemsFor a) (countFor a) LIMIT (min allowance ROUNDS) (searched a allowance .cells) s r
 balance a long passed allowance s r is =
     let u =
-    find-search (mixOf a) (systemsFor a) (countFor a) LEVEL LIMIT (min allowance ROUNDS)
-    (input-fits (mixOf a) (systemsFor a) (countFor a) LEVEL (input a long passed)) in
+    find-search (mixOf a) (systemsFor a) (countFor a) FIRST_LEVEL LIMIT (min allowance ROUNDS)
+    (input-fits (mixOf a) (systemsFor a) (countFor a) FIRST_LEVEL (input a long passed)) in
     rw u
-    (find-balanced (mixOf a) (systemsFor a) (countFor a) LIMIT LEVEL (min allowance ROUNDS) s r
+    (find-balanced (mixOf a) (systemsFor a) (countFor a) LIMIT FIRST_LEVEL (min allowance ROUNDS) s r
     (ap (λ (f : Found). f .search) (sym u) ∙ is))
 
 -- the found split, put back

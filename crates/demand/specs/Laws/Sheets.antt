@@ -10,7 +10,7 @@ use lib.ListN.{getD}
 use borrow.Author.Tests.{eqb-false, eq-eqb, ne-eqb}
 use Rattle.refusal.specs.Register.{TOO_FEW}
 use Rattle.analysis.specs.Register.{Status, live, retired, splitsOnly, unknown, statusOf}
-use Rattle.analysis.specs.Check.{refusalBy, refusalOf, allInRange, totalFits, totalOf}
+use Rattle.analysis.specs.Check.{refusalByTests, analysisRefusal, allInRange, totalFits, totalOf}
 use Rattle.sheet.specs.Components as components
 use Rattle.sheet.specs.Components.{codeRefusal, codesReading, zeroListed}
 use Rattle.sheet.specs.Split.{noSplit}
@@ -62,11 +62,11 @@ codes-number (suc n) s at i p = go (codes-number n s (at + 5) (i + 1) (getD s at
     go rest true e = rest
     go rest false e = (omega (arith, eqb-false (codeRefusal (getD s at 0) p) 0 e), omega (arith, code-number (getD s at 0) p))
 
-check-number : (a : List ℕ) → refusalOf a ≤ 6
-unfolding refusalOf
+check-number : (a : List ℕ) → analysisRefusal a ≤ 6
+unfolding analysisRefusal
 check-number a = go (allInRange 0 a) (totalFits (totalOf a))
   where
-    go : (t u : Bool) → refusalBy t u ≤ 6
+    go : (t u : Bool) → refusalByTests t u ≤ 6
     go false u = omega arith
     go true false = omega arith
     go true true = omega arith
@@ -75,7 +75,7 @@ amounts-number : (n : ℕ) (s : List ℕ) → amountsRefusal n s ≤ 6
 unfolding amountsRefusal
 amounts-number n s = go (zeroListed n s 1)
   where
-    go : (t : Bool) → cond t 5 (refusalOf (amountsOf n s)) ≤ 6
+    go : (t : Bool) → cond t 5 (analysisRefusal (amountsOf n s)) ≤ 6
     go true = omega arith
     go false = check-number (amountsOf n s)
 

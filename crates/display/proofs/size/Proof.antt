@@ -11,10 +11,11 @@ use mir.Syntax.{w64}
 use mir.Val.{Fits, SFits, toZ, ofZ}
 use mir.ValLaws.{toZ-ofZ}
 use borrow.Author.Tests.{le-ltb}
+use Rattle.integer.specs.Figures.{neg}
 use Rattle.display.proofs.size.Statement.{statement}
 use Rattle.display.proofs.size.Tie as tie
 
-flipped : (z : ℤ) → ltZ z (pos 0) ≡ true → negsuc 0 -ℤ z ≡ pos (mag z)
+flipped : (z : ℤ) → ltZ z (pos 0) ≡ true → neg 1 -ℤ z ≡ pos (mag z)
 flipped (pos n) h = absurd (subst (λ (b : Bool). T b → ⊥) (sym (le-ltb n 0 (omega arith)) ∙ h) (λ x. x) tt)
 flipped (negsuc k) h =
     ap (λ (b : Bool). cond b (negsuc (1 - suc (suc k))) (pos (suc k - 1))) (le-ltb (suc k) 1 (omega arith)) ∙ ap pos (omega arith)
@@ -22,9 +23,9 @@ flipped (negsuc k) h =
 sign : (c : tie.Then1) → ltZ (c .before .args .n) (pos 0) ≡ true
 sign c = subst (λ (z : ℤ). ltZ z (pos 0) ≡ true) (toZ-ofZ w64 (c .before .args .n) (c .before .fits .n)) (c .if1 .taken)
 
-value : (c : tie.Then1) → negsuc 0 -ℤ toZ w64 (ofZ w64 (c .before .args .n)) ≡ pos (mag (c .before .args .n))
+value : (c : tie.Then1) → neg 1 -ℤ toZ w64 (ofZ w64 (c .before .args .n)) ≡ pos (mag (c .before .args .n))
 value c =
-    ap (λ (z : ℤ). negsuc 0 -ℤ z) (toZ-ofZ w64 (c .before .args .n) (c .before .fits .n)) ∙ flipped (c .before .args .n) (sign c)
+    ap (λ (z : ℤ). neg 1 -ℤ z) (toZ-ofZ w64 (c .before .args .n) (c .before .fits .n)) ∙ flipped (c .before .args .n) (sign c)
 
 sub-result : tie.Need-sub-result
 sub-result c = subst (SFits w64) (sym (value c)) (record { sfits = c .before .fits .n .sfits })

@@ -35,7 +35,7 @@ from-le t at (suc count) = omega (arith, from-le t (suc at) count, first-le t at
 -- ---- every system
 
 listed : (system : ℕ) → isSystem system ≡ true → T (keepsRule (getD tables (placeIn printed system) []))
-unfolding isSystem
+unfolding isSystem isIn
 listed system h = and-r (isIn system printed) (keepsRule (getD tables (placeIn printed system) [])) (subst⁻¹ T h tt)
 
 none-small : sumAbs (replicate 20 (pos 0)) ≤ LARGEST

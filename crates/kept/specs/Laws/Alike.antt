@@ -8,16 +8,17 @@ use mathlib.Core.List.{List}
 use native.Mathlib.Omega.{arith}
 use lib.Dec.{T, ltb, eqb, ltb→lt, eqb→eq}
 use lib.Ieee.Fits.{and-l, and-r}
-use lib.IntN.{ℤ, pos, negsuc, _+ℤ_, _*ℤ_}
+use lib.IntN.{ℤ, pos, _+ℤ_, _*ℤ_}
 use lib.Signed.{quotZ}
 use lib.ListN.{length}
 use borrow.Author.Tests.{ltb-true}
+use Rattle.integer.specs.Figures.{neg, MILLION}
 use Rattle.systems.specs.Systems.{memberOf, hasOf, Candidate}
 use Rattle.systems.specs.Laws.Members.{member-lt, has-member}
 use Rattle.systems.specs.Laws.Table.{everyTo, eachTo, each-candidate, of-true}
 use Rattle.split.specs.Fold.{sumTo, first}
 use Rattle.split.specs.Split.{SYSTEMS, RECORDS, systemOf, rankOf}
-use Rattle.split.specs.Rating.{spreadOf, inertNumber}
+use Rattle.split.specs.Rating.{spreadOf, inertNumber, PURE_METHANE}
 use Rattle.split.specs.Move.{imbalanceOf}
 use Rattle.kept.specs.Widths.{BEFORE, BLEND, cellCount, cellIn, amountIn, partsIn, numberIn, componentIn, amountsIn, weightedIn, meanIn, ratingIn, someEmptyIn}
 use Rattle.kept.specs.Laws.Steady.{sum-same-ℤ, some-same, table-same, spread-same, imbalance-same}
@@ -115,7 +116,7 @@ module _ (ch : List ℕ) (k : ℕ) (without : Without ch k) (a b : List ℕ) (al
   pub rating-same : (n1 : ℕ) → ratingIn BEFORE ch k a n1 ≡ ratingIn BLEND ch k b n1
   unfolding ratingIn meanIn weightedIn
   rating-same n1 =
-      ap (λ (x : ℤ). quotZ x (pos 1000000) +ℤ inertNumber n1 +ℤ negsuc 1000002999)
+      ap (λ (x : ℤ). quotZ x (pos MILLION) +ℤ inertNumber n1 +ℤ neg PURE_METHANE)
       (sum-same-ℤ (λ s. numberIn BEFORE ch a s *ℤ pos (partsIn BEFORE ch a s))
       (λ s. numberIn BLEND ch b s *ℤ pos (partsIn BLEND ch b s)) k
       (λ s h. ap₂ _*ℤ_ (number-same s h) (ap pos (parts-same s h))))

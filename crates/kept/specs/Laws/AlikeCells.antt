@@ -10,7 +10,7 @@ use lib.Seq.{getD-set-same, getD-set-other}
 use borrow.Author.Tests.{eqb-true, eqb-false, eq-eqb, ne-eqb}
 use Rattle.split.specs.Fold.{table}
 use Rattle.split.specs.Split.{SYSTEMS, heldOf}
-use Rattle.split.specs.Start.{shareOf, sharersOf, givenOf}
+use Rattle.split.specs.Start.{shareOf, sharersOf, startAmount}
 use Rattle.split.specs.Move.{componentOf, giverOf, takerOf, shift}
 use Rattle.split.specs.Laws.Tables.{length-table, getD-table}
 use Rattle.split.specs.Laws.Moves.{length-shift}
@@ -53,9 +53,9 @@ records-alike ch k xs = alike-by (recorded ch k xs) (recorded ch k xs) (λ s c l
 pub start-alike : (mix′ mix ch : List ℕ) (k : ℕ)
     → ((c : ℕ) → c < BEFORE → getD mix′ c 0 ≡ getD mix c 0)
     → Alike (startIn BEFORE mix′ ch k) (startIn BLEND mix ch k)
-unfolding startIn givenOf
+unfolding startIn startAmount
 start-alike mix′ mix ch k e =
-    alike-by (givenOf mix′ ch k) (givenOf mix ch k)
+    alike-by (startAmount mix′ ch k) (startAmount mix ch k)
     (λ s c l. ap
     (λ (t : ℕ). cond (heldOf ch k s c) (shareOf t (sharersOf ch c k) (sharersOf ch c s)) 0)
     (e c l))

@@ -11,7 +11,7 @@ use Rattle.systems.specs.Systems.{hasOf}
 use Rattle.split.specs.Split.{systemOf}
 use Rattle.split.specs.Rating.{spreadOf}
 use Rattle.split.specs.Move.{componentOf, giverOf, betweenOf}
-use Rattle.split.specs.Search.{found}
+use Rattle.split.specs.Search.{foundOf}
 use Rattle.split.specs.Laws.Tests.{Between, between-true}
 use Rattle.split.specs.declared.Turn.{Turn}
 use Rattle.split.specs.declared.Turn.the-variants.{Rate, Refuse, Move, Halve}
@@ -126,12 +126,12 @@ module _ (ch : List ℕ) (k limit allowance : ℕ) where
 
   module _ (w n : ℕ) (a : List ℕ) (level rounds : ℕ) where
     in-rate : (s : ℕ) → turnIn w ch k limit allowance a level rounds ≡ Rate s
-        → runIn w ch k limit allowance (suc n) a level rounds ≡ found a (Balanced s rounds)
+        → runIn w ch k limit allowance (suc n) a level rounds ≡ foundOf a (Balanced s rounds)
     unfolding runIn
     in-rate s e = rw (e, runIn)
 
     in-refuse : turnIn w ch k limit allowance a level rounds ≡ Refuse
-        → runIn w ch k limit allowance (suc n) a level rounds ≡ found a Unbalanced
+        → runIn w ch k limit allowance (suc n) a level rounds ≡ foundOf a Unbalanced
     unfolding runIn
     in-refuse e = rw (e, runIn)
 

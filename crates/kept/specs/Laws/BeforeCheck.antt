@@ -10,7 +10,7 @@ use lib.Dec.{eqb, leb}
 use lib.ListN.{length, getD, drop}
 use borrow.Author.Tests.{eqb-true, eqb-false, ne-eqb, leb-true}
 use Rattle.analysis.specs.Register.{CODES, BASE, Status, unknown, Entry, register, statusIn}
-use Rattle.analysis.specs.Check.{inRangeBy, totalOf, totalFits, refusalBy, refusalOf}
+use Rattle.analysis.specs.Check.{inRangeBy, totalOf, totalFits, refusalByTests, analysisRefusal}
 use Rattle.analysis.specs.Required.{allInRangeIn, refusalIn}
 use Rattle.analysis.specs.Laws.Required.{refusal-register, all-head, all-from, refusal-none}
 use Rattle.kept.specs.BeforeCheck.{registerBefore}
@@ -54,10 +54,10 @@ code-alike c x none = go (eqb c 15) refl
     go false e = ap (λ (s : Status). inRangeBy s x) (sym (status-kept c (eqb-false c 15 e)))
 
 -- an analysis without hydrogen is checked as before
-pub without-kept : (a : List ℕ) → getD a 15 0 ≡ 0 → refusalIn registerBefore a ≡ refusalOf a
+pub without-kept : (a : List ℕ) → getD a 15 0 ≡ 0 → refusalIn registerBefore a ≡ analysisRefusal a
 unfolding refusalIn
 without-kept a none =
-    ap (λ (b : Bool). refusalBy b (totalFits (totalOf a)))
+    ap (λ (b : Bool). refusalByTests b (totalFits (totalOf a)))
     (all-alike registerBefore register 0 a (λ k. code-alike (0 + k) (getD a k 0) (at k)))
     ∙ refusal-register a
   where
@@ -81,7 +81,7 @@ before-none a l h =
 
 -- what passed before: what passes, without hydrogen
 pub before-exactly-when : (a : List ℕ) → length a ≡ CODES
-    → (refusalIn registerBefore a ≡ 0) ↔ ((refusalOf a ≡ 0) × (getD a 15 0 ≡ 0))
+    → (refusalIn registerBefore a ≡ 0) ↔ ((analysisRefusal a ≡ 0) × (getD a 15 0 ≡ 0))
 before-exactly-when a l = (
   λ h. let none = before-none a l h in (sym (without-kept a none) ∙ h, none),
   λ h. without-kept a (h .1) ∙ h .0,

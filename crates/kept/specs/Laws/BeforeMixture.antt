@@ -10,9 +10,10 @@ use lib.Dec.{ltb}
 use lib.ListN.{getD, set, length, length-set, length-map, length-append, List·getD-append}
 use lib.Seq.{set-append-left, getD-append-seam, getD-at}
 use borrow.Author.Tests.{le-ltb}
+use Rattle.integer.specs.Figures.{MILLION}
 use Rattle.analysis.specs.Check.{totalOf}
-use Rattle.mixture.specs.Scaling.{WHOLE, quotientOf, remainderOf, quotientsOf, remaindersOf, missingOf, greatestTo, greatestPlace, oneMore, distributed, scaledOf}
-use Rattle.mixture.specs.Simplification.{amountOf, tenthsOf, tenthsTotal, simplifiedOf}
+use Rattle.mixture.specs.Scaling.{quotientOf, remainderOf, quotientsOf, remaindersOf, missingOf, largestTo, greatestPlace, oneMore, distributed, scaledOf}
+use Rattle.mixture.specs.Simplification.{amountOfCode, tenthsOf, tenthsTotal, simplifiedOf}
 use Rattle.mixture.specs.Inert.{methaneShare, inertFirst}
 use Rattle.systems.specs.Without.{HYDROCARBONS}
 use Rattle.mixture.specs.Laws.Total.{greatest-below, scaled-length}
@@ -32,34 +33,34 @@ map-end : (f : ℕ → ℕ) (xs : List ℕ) → f 0 ≡ 0 → map f (xs ++ (0 �
 map-end f [] e = ap (λ (n : ℕ). n ∷ []) e
 map-end f (x ∷ xs) e = ap (λ (l : List ℕ). f x ∷ l) (map-end f xs e)
 
-greatest-most : (rs : List ℕ) (n : ℕ) → greatestTo rs n ≤ n
-unfolding greatestTo
+greatest-most : (rs : List ℕ) (n : ℕ) → largestTo rs n ≤ n
+unfolding largestTo
 greatest-most rs zero = omega arith
 greatest-most rs (suc n) = omega (arith, greatest-below rs (suc n) (omega arith))
 
 -- the greatest of the first n, whatever follows
-greatest-front : (rs more : List ℕ) (n : ℕ) → n ≤ length rs → greatestTo (rs ++ more) n ≡ greatestTo rs n
-unfolding greatestTo
+greatest-front : (rs more : List ℕ) (n : ℕ) → n ≤ length rs → largestTo (rs ++ more) n ≡ largestTo rs n
+unfolding largestTo
 greatest-front rs more zero h = refl
 greatest-front rs more (suc n) h =
-    let g : greatestTo (rs ++ more) n ≡ greatestTo rs n = greatest-front rs more n (omega arith) in
-    let x : getD (rs ++ more) (greatestTo (rs ++ more) n) 0 ≡ getD rs (greatestTo rs n) 0 =
+    let g : largestTo (rs ++ more) n ≡ largestTo rs n = greatest-front rs more n (omega arith) in
+    let x : getD (rs ++ more) (largestTo (rs ++ more) n) 0 ≡ getD rs (largestTo rs n) 0 =
     ap (λ (k : ℕ). getD (rs ++ more) k 0) g
-    ∙ List·getD-append rs more 0 (greatestTo rs n) (omega (arith, greatest-most rs n)) in
+    ∙ List·getD-append rs more 0 (largestTo rs n) (omega (arith, greatest-most rs n)) in
     let y : getD (rs ++ more) n 0 ≡ getD rs n 0 = List·getD-append rs more 0 n (omega arith) in
     λ i. cond (ltb (x i) (y i)) n (g i)
 
 -- 0 is greater than none
-greatest-none : (rs : List ℕ) (n : ℕ) → getD rs n 0 ≡ 0 → greatestTo rs (suc n) ≡ greatestTo rs n
-unfolding greatestTo
+greatest-none : (rs : List ℕ) (n : ℕ) → getD rs n 0 ≡ 0 → largestTo rs (suc n) ≡ largestTo rs n
+unfolding largestTo
 greatest-none rs n e =
-    let f : ltb (getD rs (greatestTo rs n) 0) (getD rs n 0) ≡ false =
-    le-ltb (getD rs (greatestTo rs n) 0) (getD rs n 0) (omega arith) in
-    λ i. cond (f i) n (greatestTo rs n)
+    let f : ltb (getD rs (largestTo rs n) 0) (getD rs n 0) ≡ false =
+    le-ltb (getD rs (largestTo rs n) 0) (getD rs n 0) (omega arith) in
+    λ i. cond (f i) n (largestTo rs n)
 
 greatest-end : (rs : List ℕ) → greatestPlace (rs ++ (0 ∷ [])) ≡ greatestPlace rs
 greatest-end rs =
-    ap (λ (n : ℕ). greatestTo (rs ++ (0 ∷ [])) n) (length-append rs (0 ∷ []) ∙ add-one (length rs))
+    ap (λ (n : ℕ). largestTo (rs ++ (0 ∷ [])) n) (length-append rs (0 ∷ []) ∙ add-one (length rs))
     ∙ greatest-none (rs ++ (0 ∷ [])) (length rs) (getD-append-seam rs 0 [] 0)
     ∙ greatest-front rs (0 ∷ []) (length rs) (omega arith)
 
@@ -93,7 +94,7 @@ unfolding scaledOf
 scaled-end xs h =
     let t = totalOf xs in
     let m : missingOf (quotientsOf (xs ++ (0 ∷ [])) t) ≡ missingOf (quotientsOf xs t) =
-    ap missingOf (quotients-end xs t) ∙ ap (λ (n : ℕ). WHOLE - n) (sum-end (quotientsOf xs t)) in
+    ap missingOf (quotients-end xs t) ∙ ap (λ (n : ℕ). MILLION - n) (sum-end (quotientsOf xs t)) in
     ap (λ (t : ℕ).
     distributed (missingOf (quotientsOf (xs ++ (0 ∷ [])) t)) (quotientsOf (xs ++ (0 ∷ [])) t)
     (remaindersOf (xs ++ (0 ∷ [])) t))
@@ -127,4 +128,4 @@ module _ (a : List ℕ) (none : getD a 15 0 ≡ 0) where
 
   -- and its inert mixture
   pub inert-kept : inertFirst a ≡ inertBefore a
-  inert-kept = ap (λ (t : ℕ). methaneShare t (amountOf a 11)) totals-kept
+  inert-kept = ap (λ (t : ℕ). methaneShare t (amountOfCode a 11)) totals-kept

@@ -3,7 +3,7 @@ use Prim.Native.Nat.{ℕ, zero, suc, _+_, _-_}
 use mathlib.Core.Path.{_≡_, refl}
 use mathlib.Core.List.{List}
 use Rattle.systems.specs.Systems.{COMPONENTS}
-use Rattle.split.specs.Split.{CELLS, cellOf, amountOf, partsOf, columnOf, numberAt, componentAt, cellsOf, amountsOf}
+use Rattle.split.specs.Split.{CELLS, cellOf, amountOf, partsOf, columnOf, rowNumber, componentAt, cellsOf, amountsOf}
 use Rattle.split.specs.Rating.{weightedOf, meanOf, ratingOf, resums, someEmpty, proposedOf}
 use Rattle.split.specs.Start.{startOf}
 use Rattle.split.specs.Move.{MOVES, movedOf, affordsOf, lowersOf, canOf, firstOf}
@@ -33,8 +33,8 @@ module _ (ch : List ℕ) (k : ℕ) (a : List ℕ) where
   unfolding columnIn columnOf
   column-today c = refl
 
-  pub number-today : (s : ℕ) → numberIn COMPONENTS ch a s ≡ numberAt ch a s
-  unfolding numberIn numberAt
+  pub number-today : (s : ℕ) → numberIn COMPONENTS ch a s ≡ rowNumber ch a s
+  unfolding numberIn rowNumber
   number-today s = refl
 
   pub records-today : amountsIn COMPONENTS ch k a ≡ amountsOf ch k a
@@ -53,13 +53,13 @@ component-today system j = refl
 
 pub rating-today : (ch : List ℕ) (k : ℕ) (a : List ℕ) (n1 : ℕ)
     → ratingIn COMPONENTS ch k a n1 ≡ ratingOf ch k a n1
-unfolding ratingIn ratingOf meanIn meanOf weightedIn weightedOf numberIn numberAt partsIn partsOf
+unfolding ratingIn ratingOf meanIn meanOf weightedIn weightedOf numberIn rowNumber partsIn partsOf
 rating-today ch k a n1 = refl
 
 pub proposed-today : (limit : ℕ) (ch : List ℕ) (k : ℕ) (mix a : List ℕ) (n1 : ℕ)
     → proposedIn COMPONENTS limit ch k mix a n1 ≡ proposedOf limit ch k mix a n1
 unfolding proposedIn proposedOf resumsIn resums columnIn columnOf someEmptyIn someEmpty ratingIn ratingOf meanIn meanOf
-    weightedIn weightedOf numberIn numberAt partsIn partsOf
+    weightedIn weightedOf numberIn rowNumber partsIn partsOf
 proposed-today limit ch k mix a n1 = refl
 
 -- ---- the search
@@ -74,13 +74,13 @@ module _ (ch : List ℕ) (k limit allowance : ℕ) where
   moved-today a m d = refl
 
   pub can-today : (a : List ℕ) (d m : ℕ) → canIn COMPONENTS ch k a d m ≡ canOf ch k a d m
-  unfolding canIn canOf affordsIn affordsOf lowersIn lowersOf movedIn movedOf numberIn numberAt partsIn partsOf
+  unfolding canIn canOf affordsIn affordsOf lowersIn lowersOf movedIn movedOf numberIn rowNumber partsIn partsOf
   can-today a d m = refl
 
   pub turn-today : (a : List ℕ) (level rounds : ℕ)
       → turnIn COMPONENTS ch k limit allowance a level rounds ≡ turnOf ch k limit allowance a level rounds
   unfolding turnIn turnOf goOnIn goOn firstIn firstOf canIn canOf affordsIn affordsOf lowersIn lowersOf movedIn movedOf
-      numberIn numberAt partsIn partsOf
+      numberIn rowNumber partsIn partsOf
   turn-today a level rounds = refl
 
   step-today : (n : ℕ) (a : List ℕ) (level rounds : ℕ)

@@ -1,7 +1,7 @@
 -- `mixture::distribute` meets its contract. Assumes nothing.
 use native.Mathlib.Omega.{arith}
 use mathlib.Core.Path.{refl, _∙_}
-use Rattle.mixture.specs.Scaling.{WHOLE}
+use Rattle.integer.specs.Figures.{MILLION}
 use Rattle.mixture.specs.Simplification.{COMPONENTS}
 use Rattle.mixture.specs.Laws.Total.{sum-has}
 use Rattle.mixture.proofs.Loops.{Distributing, distributing-next, distributed-all}
@@ -9,7 +9,7 @@ use Rattle.mixture.proofs.distribute.Statement.{statement}
 use Rattle.mixture.proofs.distribute.Tie as tie
 
 abbrev Inv-loop : tie.InvT-loop
-Inv-loop missing q₀ r₀ m₀ q r m = Distributing COMPONENTS WHOLE missing q₀ r₀ m q r
+Inv-loop missing q₀ r₀ m₀ q r m = Distributing COMPONENTS MILLION missing q₀ r₀ m q r
 
 abbrev μ-loop : tie.MeasureT-loop
 μ-loop missing q₀ r₀ m₀ q r m = m
@@ -52,7 +52,7 @@ loop-less c = omega arith
 loop-again : tie.Need-loop-again Inv-loop μ-loop
 loop-again c =
     let b = c .before .before .before in
-    distributing-next COMPONENTS WHOLE (b .before .args .missing) (b .before .args .quotients) (b .before .args .remainders) (b .loop .m) (b .loop .q) (b .loop .r) (c .greatest .result) (omega arith) (c .greatest .ensures .1) (c .greatest .ensures .0) (b .loop .inv)
+    distributing-next COMPONENTS MILLION (b .before .args .missing) (b .before .args .quotients) (b .before .args .remainders) (b .loop .m) (b .loop .q) (b .loop .r) (c .greatest .result) (omega arith) (c .greatest .ensures .1) (c .greatest .ensures .0) (b .loop .inv)
 
 returns : tie.Need-returns Inv-loop μ-loop
 returns c =

@@ -4,7 +4,7 @@ use mathlib.Core.Path.{ap, _∙_}
 use mathlib.Core.Logic.{⊎-elim}
 use native.Mathlib.Omega.{arith}
 use Rattle.mixture.proofs.Loops.{Greatest, greatest-one, greatest-same, greatest-here, greatest-there}
-use Rattle.mixture.specs.Scaling.{greatestTo}
+use Rattle.mixture.specs.Scaling.{largestTo}
 use Rattle.mixture.specs.Simplification.{COMPONENTS}
 use borrow.Author.Needs.{needs}
 use Rattle.mixture.proofs.greatest.Statement.{statement}
@@ -46,7 +46,7 @@ loop-again c =
 returns : tie.Need-returns Inv-loop μ-loop
 returns c =
     let b = c .before in
-    (b .loop .inv .place ∙ ap (greatestTo (b .before .before .args .r .now)) (omega arith), b .loop .inv .below)
+    (b .loop .inv .place ∙ ap (largestTo (b .before .before .args .r .now)) (omega arith), b .loop .inv .below)
 
 pub greatest-spec : {M : Type 1} → statement M
 greatest-spec =

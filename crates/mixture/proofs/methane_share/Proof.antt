@@ -2,7 +2,7 @@
 use Prim.Native.Nat.{_+_, _*_, _≤_}
 use mathlib.Core.Path.{_≡_, ap, _∙_}
 use native.Mathlib.Omega.{arith}
-use Rattle.mixture.specs.Scaling.{WHOLE}
+use Rattle.integer.specs.Figures.{MILLION}
 use Rattle.mixture.specs.Inert.{halvesUp, methaneShare}
 use Rattle.mixture.specs.Laws.Bounds.{share-greatest}
 use borrow.Author.Needs.{needs}
@@ -23,12 +23,12 @@ halves-up-requires c κs = search needs
 
 share : (c : tie.After-halves-up) →
     let a = c .before .before .args in
-    (c .halves-up .result ≡ methaneShare (a .total) (a .co2)) × (c .halves-up .result ≤ WHOLE)
+    (c .halves-up .result ≡ methaneShare (a .total) (a .co2)) × (c .halves-up .result ≤ MILLION)
 unfolding methaneShare
 share c =
     let a = c .before .before .args in
     let e : c .halves-up .result ≡ methaneShare (a .total) (a .co2) =
-    c .halves-up .ensures ∙ ap (λ w. halvesUp (WHOLE * a .total) (a .total + w)) (c .before .weighted .ensures .0) in
+    c .halves-up .ensures ∙ ap (λ w. halvesUp (MILLION * a .total) (a .total + w)) (c .before .weighted .ensures .0) in
     (e, omega (arith, share-greatest (a .total) (a .co2) (c .before .before .pre .0)))
 
 cast-result : tie.Need-cast-result

@@ -5,14 +5,14 @@ use Prim.Native.Nat.{_*_, _-_, _≤_}
 use mathlib.Core.Path.{_≡_}
 use lib.ListN.{take}
 use Rattle.analysis.specs.Check.{totalOf}
-use Rattle.mixture.specs.Inner.Limits.{LIMIT}
+use Rattle.mixture.specs.Inner.Limits.{MOST_PARTS}
 use Rattle.mixture.specs.Simplification.{COMPONENTS}
 use Rattle.mixture.proofs.Loops.{sum-none, sum-next, sum-all}
 use Rattle.mixture.proofs.sum.Statement.{statement}
 use Rattle.mixture.proofs.sum.Tie as tie
 
 abbrev Inv-loop : tie.InvT-loop
-Inv-loop x t₀ i₀ t i = (i ≤ COMPONENTS) × (t ≡ totalOf (take i x)) × (t ≤ LIMIT * i)
+Inv-loop x t₀ i₀ t i = (i ≤ COMPONENTS) × (t ≡ totalOf (take i x)) × (t ≤ MOST_PARTS * i)
 
 abbrev μ-loop : tie.MeasureT-loop
 μ-loop x t₀ i₀ t i = COMPONENTS - i

@@ -6,10 +6,10 @@ use lib.ListN.{getD, length}
 use Rattle.mixture.specs.Simplification.{COMPONENTS}
 
 -- up to this limit of each amount, products with 2 × 1000000 fit 64 bits
-abbrev pub LIMIT : ℕ
-LIMIT = 1000000000000
+abbrev pub MOST_PARTS : ℕ
+MOST_PARTS = 1000000000000
 
 -- amounts of the components, each at most the limit
 pub record Limited (xs : List ℕ) : Type 0 where
   pub long : length xs ≡ COMPONENTS
-  pub small : (i : ℕ) → getD xs i 0 ≤ LIMIT
+  pub small : (i : ℕ) → getD xs i 0 ≤ MOST_PARTS

@@ -7,11 +7,12 @@ use mathlib.Core.Logic.{inl, inr}
 use native.Mathlib.Nat.{le-div-iff-mul-le, div-lt-iff-lt-mul}
 use native.Mathlib.Omega.{arith}
 use lib.ListN.{getD, length}
+use Rattle.integer.specs.Figures.{MILLION}
 use Rattle.analysis.specs.Register.{CODES, statusOf}
-use Rattle.analysis.specs.Check.{totalOf, greatestOf, refusalOf}
+use Rattle.analysis.specs.Check.{totalOf, greatestOf, analysisRefusal}
 use Rattle.analysis.specs.Laws.Ranges.{NoneOr, WithinRanges, within-ranges, total-sum}
-use Rattle.mixture.specs.Scaling.{WHOLE, quotientOf, remaindersOf}
-use Rattle.mixture.specs.Simplification.{COMPONENTS, amountOf, tenthsOf, tenthsTotal, simplifiedOf}
+use Rattle.mixture.specs.Scaling.{quotientOf, remaindersOf}
+use Rattle.mixture.specs.Simplification.{COMPONENTS, amountOfCode, tenthsOf, tenthsTotal, simplifiedOf}
 use Rattle.mixture.specs.Inert.{methaneShare, inertFirst, inertSecond, inertOf}
 use Rattle.mixture.specs.Laws.Total.{scaled-length, scaled-sum}
 use Rattle.mixture.specs.Largest.{Before, largest-first}
@@ -19,15 +20,15 @@ use Rattle.mixture.specs.Laws.Share.{NearShare, scaled-near, scaled-abse
 
 -- ---- n1 of the inert mixture
 
-pub share-greatest : (t c : ℕ) → 0 < t → methaneShare t c ≤ WHOLE
+pub share-greatest : (t c : ℕ) → 0 < t → methaneShare t c ≤ MILLION
 unfolding methaneShare
 share-greatest t c h =
     let d = t + 10 * c in
-    let l : (2 * (WHOLE * t) + d) / (2 * d) < WHOLE + 1 = div-lt-iff-lt-mul {k = 2 * d} (omega arith) .1 (omega arith) in
+    let l : (2 * (MILLION * t) + d) / (2 * d) < MILLION + 1 = div-lt-iff-lt-mul {k = 2 * d} (omega arith) .1 (omega arith) in
     omega arith
 
 -- where the carbon dioxide is at most 1000000 times the rest
-pub share-least : (t c : ℕ) → 0 < t → 10 * c ≤ WHOLE * t → 1 ≤ methaneShare t c
+pub share-least : (t c : ℕ) → 0 < t → 10 * c ≤ MILLION * t → 1 ≤ methaneShare t c
 unfolding methaneShare
 share-least t c h k = le-div-iff-mul-le {k = 2 * (t + 10 * c)} (omega arith) .1 (omega arith)
 
@@ -39,7 +40,7 @@ simplified-length a = scaled-length (tenthsOf a)
 
 module _ (a : List ℕ) (p : 0 < tenthsTotal a) where
   -- the total is exactly 1000000
-  pub simplified-total : totalOf (simplifiedOf a) ≡ WHOLE
+  pub simplified-total : totalOf (simplifiedOf a) ≡ MILLION
   simplified-total = scaled-sum (tenthsOf a) p
 
   -- each amount is less than one part from its exact share
@@ -55,14 +56,14 @@ module _ (a : List ℕ) (p : 0 < tenthsTotal a) where
   unfolding tenthsOf
   simplified-largest i j li lj = largest-first (tenthsOf a) p i j li lj
 
-  pub inert-greatest : inertFirst a ≤ WHOLE
-  inert-greatest = share-greatest (tenthsTotal a) (amountOf a 11) p
+  pub inert-greatest : inertFirst a ≤ MILLION
+  inert-greatest = share-greatest (tenthsTotal a) (amountOfCode a 11) p
 
-  pub inert-total : inertFirst a + inertSecond a ≡ WHOLE
+  pub inert-total : inertFirst a + inertSecond a ≡ MILLION
   inert-total = let l = inert-greatest in omega arith
 
   -- n1, n2 and n3 make a whole, for n3 is 0
-  pub inert-sum : totalOf (inertOf a) ≡ WHOLE
+  pub inert-sum : totalOf (inertOf a) ≡ MILLION
   inert-sum = let l = inert-greatest in omega arith
 
 -- ---- an analysis in range
@@ -90,7 +91,7 @@ butane-or-absent p q r s t u (inl a) (inl b) (inl c) (inl d) (inr h) f = inr (om
 butane-or-absent p q r s t u (inl a) (inl b) (inl c) (inl d) (inl e) (inr h) = inr (omega arith)
 butane-or-absent p q r s t u (inl a) (inl b) (inl c) (inl d) (inl e) (inl f) = inl (omega arith)
 
-module _ (a : List ℕ) (l : length a ≡ CODES) (h : refusalOf a ≡ 0) where
+module _ (a : List ℕ) (l : length a ≡ CODES) (h : analysisRefusal a ≡ 0) where
   pub tenths-least : 4000000 ≤ tenthsTotal a
   unfolding tenthsOf
   tenths-least = let w = within-ranges a l h in omega arith
@@ -109,13 +110,13 @@ module _ (a : List ℕ) (l : length a ≡ CODES) (h : refusalOf a ≡ 0) where
     where
       go : (i : ℕ) → i < COMPONENTS → WithinRanges a → NoneOr 100 (getD (tenthsOf a) i 0)
       go zero k w = inr (omega arith)
-      go (suc zero) k w = times-ten 100 (amountOf a 2) (omega arith) (w .ethane-least)
-      go (suc (suc zero)) k w = times-ten 100 (amountOf a 3) (omega arith) (w .propane-least)
+      go (suc zero) k w = times-ten 100 (amountOfCode a 2) (omega arith) (w .ethane-least)
+      go (suc (suc zero)) k w = times-ten 100 (amountOfCode a 3) (omega arith) (w .propane-least)
       go (suc (suc (suc zero))) k w =
-          butane-or-absent (amountOf a 4) (amountOf a 5) (amountOf a 6) (amountOf a 7) (amountOf a 8) (amountOf a 10)
+          butane-or-absent (amountOfCode a 4) (amountOfCode a 5) (amountOfCode a 6) (amountOfCode a 7) (amountOfCode a 8) (amountOfCode a 10)
           (w .i-butane-least) (w .n-butane-least) (w .neo-pentane-least) (w .i-pentane-least) (w .n-pentane-least)
           (w .hexanes-least)
-      go (suc (suc (suc (suc zero)))) k w = times-ten 10 (amountOf a 15) (omega arith) (w .hydrogen-least)
+      go (suc (suc (suc (suc zero)))) k w = times-ten 10 (amountOfCode a 15) (omega arith) (w .hydrogen-least)
       go (suc (suc (suc (suc (suc i))))) k w = absurd (omega arith)
 
   -- one that is absent stays 0
@@ -149,4 +150,4 @@ module _ (a : List ℕ) (l : length a ≡ CODES) (h : refusalOf a ≡ 0) where
   inert-least =
       let w = within-ranges a l h in
       let t = tenths-least in
-      share-least (tenthsTotal a) (amountOf a 11) tenths-positive (omega arith)
+      share-least (tenthsTotal a) (amountOfCode a 11) tenths-positive (omega arith)

@@ -9,25 +9,26 @@ use lib.Dec.{eqb, ltb}
 use lib.ListN.{getD, set, length, length-set, length-map}
 use lib.Seq.{getD-set-same, getD-set-other}
 use borrow.Author.Tests.{eqb-true, eqb-false, ltb-true, ltb-false}
+use Rattle.integer.specs.Figures.{MILLION}
 use Rattle.analysis.specs.Check.{totalOf}
-use Rattle.mixture.specs.Scaling.{WHOLE, quotientOf, remainderOf, quotientsOf, remaindersOf, missingOf, greatestPlace, oneMore, distributed, scaledOf}
+use Rattle.mixture.specs.Scaling.{quotientOf, remainderOf, quotientsOf, remaindersOf, missingOf, greatestPlace, oneMore, distributed, scaledOf}
 use Rattle.mixture.specs.Laws.Total.{sum-set, greatest-below, greatest-least, remainders-sum}
 
 -- s parts are less than one part from 1000000 × x / t
 pub record NearShare (t x s : ℕ) : Type 0 where
-  pub above : s * t < WHOLE * x + t
-  pub below : WHOLE * x < s * t + t
+  pub above : s * t < MILLION * x + t
+  pub below : MILLION * x < s * t + t
 
 -- what holds of quotient and remainder of each amount while parts are given out
 record Fair (t x q r : ℕ) : Type 0 where
   pub near : NearShare t x q
-  pub exact : 0 < r → q * t + r ≡ WHOLE * x
+  pub exact : 0 < r → q * t + r ≡ MILLION * x
   pub small : r < t
 
 fair-first : (t x : ℕ) → 0 < t → Fair t x (quotientOf t x) (remainderOf t x)
 fair-first t x h =
-    let e = div-add-mod' (WHOLE * x) t in
-    let l = mod-lt (WHOLE * x) h in
+    let e = div-add-mod' (MILLION * x) t in
+    let l = mod-lt (MILLION * x) h in
     record { near = record { above = omega arith; below = omega arith }; exact = λ _. e; small = l }
 
 -- one more part where the remainder is not 0
@@ -104,7 +105,7 @@ module _ (xs : List ℕ) (h : 0 < totalOf xs) where
       omega arith
 
   -- and an amount that is at least n parts of the whole gets n at least
-  pub scaled-least : (n i : ℕ) → i < length xs → n * totalOf xs ≤ WHOLE * getD xs i 0 → n ≤ getD (scaledOf xs) i 0
+  pub scaled-least : (n i : ℕ) → i < length xs → n * totalOf xs ≤ MILLION * getD xs i 0 → n ≤ getD (scaledOf xs) i 0
   scaled-least n i l h =
       let b = scaled-near i l .below in
       let k : n < getD (scaledOf xs) i 0 + 1 = lt-of-mul-lt-mul-right (totalOf xs) (omega arith) in

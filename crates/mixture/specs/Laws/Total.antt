@@ -8,8 +8,9 @@ use native.Mathlib.Omega.{arith}
 use lib.Dec.{ltb}
 use lib.ListN.{getD, set, length, length-set, length-map}
 use borrow.Author.Tests.{ltb-true, ltb-false}
+use Rattle.integer.specs.Figures.{MILLION}
 use Rattle.analysis.specs.Check.{totalOf}
-use Rattle.mixture.specs.Scaling.{WHOLE, quotientOf, remainderOf, quotientsOf, remaindersOf, missingOf, greatestTo, greatestPlace, oneMore, distributed, scaledOf}
+use Rattle.mixture.specs.Scaling.{quotientOf, remainderOf, quotientsOf, remaindersOf, missingOf, largestTo, greatestPlace, oneMore, distributed, scaledOf}
 
 -- ---- sums
 
@@ -30,34 +31,34 @@ sum-has (x ∷ l) (suc i) = omega (arith, sum-has l i)
 
 -- ---- the greatest of a list
 
-pub greatest-below : (rs : List ℕ) (n : ℕ) → 0 < n → greatestTo rs n < n
-unfolding greatestTo
+pub greatest-below : (rs : List ℕ) (n : ℕ) → 0 < n → largestTo rs n < n
+unfolding largestTo
 greatest-below rs zero h = h
 greatest-below rs (suc n) h =
-    go n (ltb (getD rs (greatestTo rs n) 0) (getD rs n 0)) (λ l. greatest-below rs n l)
+    go n (ltb (getD rs (largestTo rs n) 0) (getD rs n 0)) (λ l. greatest-below rs n l)
   where
-    go : (k : ℕ) (b : Bool) → (0 < k → greatestTo rs k < k) → cond b k (greatestTo rs k) < suc k
+    go : (k : ℕ) (b : Bool) → (0 < k → largestTo rs k < k) → cond b k (largestTo rs k) < suc k
     go k true rec = omega arith
     go zero false rec = omega arith
     go (suc k) false rec = omega (arith, rec (omega arith))
 
-pub greatest-least : (rs : List ℕ) (n j : ℕ) → j < n → getD rs j 0 ≤ getD rs (greatestTo rs n) 0
-unfolding greatestTo
+pub greatest-least : (rs : List ℕ) (n j : ℕ) → j < n → getD rs j 0 ≤ getD rs (largestTo rs n) 0
+unfolding largestTo
 greatest-least rs zero j h = absurd (not-suc-le-zero h)
 greatest-least rs (suc n) j h =
-    go (ltb (getD rs (greatestTo rs n) 0) (getD rs n 0)) refl (ltb j n) refl (λ l. greatest-least rs n j l)
+    go (ltb (getD rs (largestTo rs n) 0) (getD rs n 0)) refl (ltb j n) refl (λ l. greatest-least rs n j l)
   where
-    go : (b : Bool) → ltb (getD rs (greatestTo rs n) 0) (getD rs n 0) ≡ b → (e : Bool) → ltb j n ≡ e
-        → (j < n → getD rs j 0 ≤ getD rs (greatestTo rs n) 0)
-        → getD rs j 0 ≤ getD rs (cond b n (greatestTo rs n)) 0
-    go true p true q rec = omega (arith, ltb-true (getD rs (greatestTo rs n) 0) (getD rs n 0) p, rec (ltb-true j n q))
+    go : (b : Bool) → ltb (getD rs (largestTo rs n) 0) (getD rs n 0) ≡ b → (e : Bool) → ltb j n ≡ e
+        → (j < n → getD rs j 0 ≤ getD rs (largestTo rs n) 0)
+        → getD rs j 0 ≤ getD rs (cond b n (largestTo rs n)) 0
+    go true p true q rec = omega (arith, ltb-true (getD rs (largestTo rs n) 0) (getD rs n 0) p, rec (ltb-true j n q))
     go true p false q rec =
         let e : j ≡ n = omega (arith, ltb-false j n q) in
         rw e (omega arith)
     go false p true q rec = rec (ltb-true j n q)
     go false p false q rec =
         let e : j ≡ n = omega (arith, ltb-false j n q) in
-        rw e (ltb-false (getD rs (greatestTo rs n) 0) (getD rs n 0) p)
+        rw e (ltb-false (getD rs (largestTo rs n) 0) (getD rs n 0) p)
 
 -- ---- the missing parts
 
@@ -79,16 +80,16 @@ distributed-sum (suc m) qs rs e h =
 
 -- ---- the quotients and the remainders
 
-pub quotients-sum : (xs : List ℕ) (t : ℕ) → totalOf (quotientsOf xs t) * t + totalOf (remaindersOf xs t) ≡ WHOLE * totalOf xs
+pub quotients-sum : (xs : List ℕ) (t : ℕ) → totalOf (quotientsOf xs t) * t + totalOf (remaindersOf xs t) ≡ MILLION * totalOf xs
 quotients-sum [] t = omega arith
-quotients-sum (x ∷ xs) t = omega (arith, quotients-sum xs t, div-add-mod' (WHOLE * x) t)
+quotients-sum (x ∷ xs) t = omega (arith, quotients-sum xs t, div-add-mod' (MILLION * x) t)
 
 pub scaled-length : (xs : List ℕ) → length (scaledOf xs) ≡ length xs
 unfolding scaledOf
 scaled-length xs = distributed-length _ _ _ ∙ length-map xs (quotientOf (totalOf xs))
 
 module _ (xs : List ℕ) (h : 0 < totalOf xs) where
-  pub quotients-whole : totalOf (quotientsOf xs (totalOf xs)) ≤ WHOLE
+  pub quotients-whole : totalOf (quotientsOf xs (totalOf xs)) ≤ MILLION
   quotients-whole =
       le-of-mul-le-mul-right {k = totalOf xs} (omega (arith, quotients-sum xs (totalOf xs))) h
 
@@ -96,13 +97,13 @@ module _ (xs : List ℕ) (h : 0 < totalOf xs) where
   pub remainders-sum : totalOf (remaindersOf xs (totalOf xs)) ≡ missingOf (quotientsOf xs (totalOf xs)) * totalOf xs
   remainders-sum = split _ _ _ quotients-whole (quotients-sum xs (totalOf xs))
     where
-      split : (q r t : ℕ) → q ≤ WHOLE → q * t + r ≡ WHOLE * t → r ≡ (WHOLE - q) * t
-      split q r t l e = go (WHOLE - q) (omega arith)
+      split : (q r t : ℕ) → q ≤ MILLION → q * t + r ≡ MILLION * t → r ≡ (MILLION - q) * t
+      split q r t l e = go (MILLION - q) (omega arith)
         where
-          go : (m : ℕ) → q + m ≡ WHOLE → r ≡ m * t
+          go : (m : ℕ) → q + m ≡ MILLION → r ≡ m * t
           go m f = omega (arith, ap (λ n. n * t) f)
 
-  pub scaled-sum : totalOf (scaledOf xs) ≡ WHOLE
+  pub scaled-sum : totalOf (scaledOf xs) ≡ MILLION
   unfolding scaledOf
   scaled-sum =
       omega (

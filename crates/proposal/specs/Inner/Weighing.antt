@@ -3,12 +3,13 @@ use Prim.Native.Nat.{ℕ, _+_, _*_, _≤_, _<_}
 use mathlib.Core.List.{List}
 use mathlib.Core.Bool.{cond}
 use lib.Dec.{ltb}
-use lib.IntN.{ℤ, pos, negsuc, _+ℤ_, _*ℤ_}
+use lib.IntN.{ℤ, pos, _+ℤ_, _*ℤ_}
 use lib.ListN.{getD}
 use lib.Signed.{quotZ}
+use Rattle.integer.specs.Figures.{neg, MILLION}
 use Rattle.refusal.specs.Register.{EMPTY_SYSTEM, WIDE}
 use Rattle.split.specs.Fold.{sumTo, sumToZ}
-use Rattle.split.specs.Rating.{someEmpty, spreadOf, inertNumber}
+use Rattle.split.specs.Rating.{someEmpty, spreadOf, inertNumber, PURE_METHANE}
 use Rattle.split.specs.Proposed.{ratedOf}
 use Rattle.split.specs.declared.Answer.{Answer}
 use Rattle.split.specs.declared.Answer.the-variants.{Rated, Refused}
@@ -24,7 +25,7 @@ unfoldable pub ratedBy : ℕ → List ℤ → List ℕ → ℕ → ℕ → Answe
 ratedBy limit v p k n1 =
     cond (ltb limit (spreadOf (listed v) k))
     (Refused WIDE 0)
-    (Rated (quotZ (weighedTo v p k) (pos 1000000) +ℤ inertNumber n1 +ℤ negsuc 1000002999) (spreadOf (listed v) k) 0)
+    (Rated (quotZ (weighedTo v p k) (pos MILLION) +ℤ inertNumber n1 +ℤ neg PURE_METHANE) (spreadOf (listed v) k) 0)
 
 -- the answer to cells that re-sum
 unfoldable pub weighedOf : ℕ → List ℕ → ℕ → List ℕ → ℕ → Answer
@@ -34,4 +35,4 @@ weighedOf limit ch k a n1 = cond (someEmpty ch k a) (Refused EMPTY_SYSTEM 0) (ra
 pub record Weighable (v : List ℤ) (p : List ℕ) (k : ℕ) : Type 0 where
   pub small : Small v k
   pub some : 0 < k
-  pub few : sumTo (λ s. getD p s 0) k ≤ 1000000
+  pub few : sumTo (λ s. getD p s 0) k ≤ MILLION

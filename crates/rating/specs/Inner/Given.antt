@@ -2,10 +2,10 @@
 use mathlib.Core.Path.{_≡_}
 use mathlib.Core.List.{List}
 use Prim.Native.Nat.{ℕ}
+use Rattle.split.specs.Rating.{LIMIT}
 use Rattle.split.specs.Fits.{Fit}
 use Rattle.split.specs.declared.Search.the-variants.{Balanced, Unfit}
 use Rattle.split.specs.declared.Found.{Found}
-use Rattle.rating.specs.Rate.{LIMIT}
 
 -- a search that was made; where it is balanced it has found cells that are fit
 pub record FoundFit (mix ch : List ℕ) (k : ℕ) (f : Found) : Type 0 where

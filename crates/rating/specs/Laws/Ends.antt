@@ -10,30 +10,30 @@ use lib.Dec.{ltb}
 use lib.ListN.{getD, length, length-set}
 use Rattle.refusal.specs.Register.{TOO_FEW}
 use Rattle.analysis.specs.Register.{CODES}
-use Rattle.analysis.specs.Check.{refusalOf}
+use Rattle.analysis.specs.Check.{analysisRefusal}
 use Rattle.sheet.specs.Split.{noSplit}
-use Rattle.sheet.specs.Bytes.{numberAt}
+use Rattle.sheet.specs.Bytes.{fourBytesAt}
 use Rattle.sheet.specs.Components.{amountsFrom}
 use Rattle.sheet.specs.Read.{readOf, contentOf}
 use Rattle.sheet.specs.Laws.Cases.{Whole, read-whole, read-good, amounts-back}
 use Rattle.sheet.specs.declared.Split.{Split}
 use Rattle.sheet.specs.declared.Reading.the-variants as reading
 use Rattle.sheet.specs.declared.Sheet.{Sheet}
-use Rattle.split.specs.Rating.{verdict, proposedOf, ratingOf, resums, someEmpty, spreadOf}
+use Rattle.split.specs.Rating.{verdict, proposedOf, ratingOf, resums, someEmpty, spreadOf, LIMIT}
 use Rattle.mixture.specs.Inert.{inertFirst}
 use Rattle.systems.specs.Choice.{presentCount}
-use Rattle.split.specs.Split.{cellsOf, numberAt as partialAt}
+use Rattle.split.specs.Split.{cellsOf, rowNumber as partialAt}
 use Rattle.split.specs.AnswerCases.{numberOf}
 use Rattle.split.specs.Rated.{IsRated}
 use Rattle.split.specs.Start.{startOf}
-use Rattle.split.specs.Search.{LEVEL, searchOf}
+use Rattle.split.specs.Search.{FIRST_LEVEL, searchOf}
 use Rattle.split.specs.Laws.Runs.{result-fit}
 use Rattle.split.specs.declared.Answer.{Answer}
 use Rattle.split.specs.declared.Answer.the-variants.{Rated, Refused}
 use Rattle.split.specs.declared.Search.{Search}
 use Rattle.split.specs.declared.Search.the-variants.{Balanced, Unbalanced, Unfit}
 use Rattle.rating.specs.Records.{fitsOf}
-use Rattle.rating.specs.Rate.{LIMIT, ROUNDS, FEWEST, mixOf, systemsFor, countFor, ratingRefusal, splitBy, splitAnswer, outcome, foundBy, foundOutcome, searched, searchOutcome}
+use Rattle.rating.specs.Rate.{ROUNDS, FEWEST, mixOf, systemsFor, countFor, ratingRefusal, splitBy, splitAnswer, outcome, foundBy, foundOutcome, searched, searchOutcome}
 use Rattle.rating.specs.RatedOn.{InRange, RatedOn}
 use Rattle.rating.specs.Laws.RatedOn.{on-or-few, few-by-count}
 use Rattle.rating.specs.declared.Outcome.{Outcome}
@@ -68,7 +68,7 @@ pub never-unfit : (a : List ℕ) (allowance : ℕ) → searched a allowance .sea
 unfolding searchOf
 never-unfit a allowance =
     let begun = startOf (mixOf a) (systemsFor a) (countFor a) in
-    result-fit (systemsFor a) (countFor a) LIMIT (min allowance ROUNDS) _ begun LEVEL 0
+    result-fit (systemsFor a) (countFor a) LIMIT (min allowance ROUNDS) _ begun FIRST_LEVEL 0
 
 found-ends : (ch : List ℕ) (k n1 : ℕ) (a : List ℕ) (x : Search) → (x ≡ Unfit → ⊥)
     → IsRated (foundBy ch k n1 a x .answer) ⊎ (foundBy ch k n1 a x .answer ≡ Refused 11 0)
@@ -169,7 +169,7 @@ module _ (a : List ℕ) (code : ℕ) (h : InRange a) where
 
 pub amounts-long : (n : ℕ) (s : List ℕ) (at : ℕ) (a : List ℕ) → length (amountsFrom n s at a) ≡ length a
 amounts-long zero s at a = refl
-amounts-long (suc n) s at a = amounts-long n s (at + 5) _ ∙ length-set a (getD s at 0) (numberAt s (at + 1))
+amounts-long (suc n) s at a = amounts-long n s (at + 5) _ ∙ length-set a (getD s at 0) (fourBytesAt s (at + 1))
 
 module _ (s : List ℕ) (code : ℕ) (h : readOf s code .answer ≡ reading.Read) where
   whole : Whole s
@@ -180,7 +180,7 @@ module _ (s : List ℕ) (code : ℕ) (h : readOf s code .answer ≡ reading.Read
 
   pub read-passed : InRange (readOf s code .analysis .amounts)
   read-passed =
-      ap (λ (x : Sheet). refusalOf (x .analysis .amounts)) content ∙ amounts-back (whole .n) s (whole .amounts) .1
+      ap (λ (x : Sheet). analysisRefusal (x .analysis .amounts)) content ∙ amounts-back (whole .n) s (whole .amounts) .1
 
   pub read-long : length (readOf s code .analysis .amounts) ≡ CODES
   read-long = ap (λ (x : Sheet). length (x .analysis .amounts)) content ∙ amounts-long (whole .n) s 1 _

@@ -8,7 +8,7 @@ use native.Mathlib.Omega.{arith}
 use lib.Dec.{eqb, ltb}
 use borrow.Author.Tests.{eqb-true, eqb-false, eq-eqb, ltb-true, ltb-false, lt-ltb, le-ltb}
 use Rattle.refusal.specs.Register.{NO_SYSTEM, TOO_FEW}
-use Rattle.analysis.specs.Check.{allInRange, totalOf, totalFits, refusalBy, refusalOf}
+use Rattle.analysis.specs.Check.{allInRange, totalOf, totalFits, refusalByTests, analysisRefusal}
 use Rattle.systems.specs.Choice.{presentCount}
 use Rattle.rating.specs.Rate.{FEWEST, mixOf, ratingRefusal}
 use Rattle.rating.specs.LeftOut.{mixture-number}
@@ -16,30 +16,30 @@ use Rattle.rating.specs.RatedOn.{InRange, RatedOn}
 
 module _ (a : List ℕ) where
   -- a refusal of the range test comes first
-  pub range-first : eqb (refusalOf a) 0 ≡ false → ratingRefusal a ≡ refusalOf a
+  pub range-first : eqb (analysisRefusal a) 0 ≡ false → ratingRefusal a ≡ analysisRefusal a
   unfolding ratingRefusal
   range-first e = rw e
 
   -- rated on is in range with two components present at least
   pub on-passed : RatedOn a → InRange a × (FEWEST ≤ presentCount (mixOf a))
   unfolding ratingRefusal
-  on-passed h = go (eqb (refusalOf a) 0) (ltb (presentCount (mixOf a)) FEWEST) refl refl
+  on-passed h = go (eqb (analysisRefusal a) 0) (ltb (presentCount (mixOf a)) FEWEST) refl refl
       (rw (mixture-number (mixOf a)) at h)
     where
-      go : (t u : Bool) → eqb (refusalOf a) 0 ≡ t → ltb (presentCount (mixOf a)) FEWEST ≡ u
-          → cond t (cond u TOO_FEW 0) (refusalOf a) ≡ 0 → InRange a × (FEWEST ≤ presentCount (mixOf a))
+      go : (t u : Bool) → eqb (analysisRefusal a) 0 ≡ t → ltb (presentCount (mixOf a)) FEWEST ≡ u
+          → cond t (cond u TOO_FEW 0) (analysisRefusal a) ≡ 0 → InRange a × (FEWEST ≤ presentCount (mixOf a))
       go true true p q h = absurd (omega arith)
-      go true false p q h = (eqb-true (refusalOf a) 0 p, ltb-false (presentCount (mixOf a)) FEWEST q)
-      go false u p q h = absurd (eqb-false (refusalOf a) 0 p h)
+      go true false p q h = (eqb-true (analysisRefusal a) 0 p, ltb-false (presentCount (mixOf a)) FEWEST q)
+      go false u p q h = absurd (eqb-false (analysisRefusal a) 0 p h)
 
   module _ (h : InRange a) where
     pub enough-on : FEWEST ≤ presentCount (mixOf a) → RatedOn a
     unfolding ratingRefusal
-    enough-on l = rw (eq-eqb (refusalOf a) 0 h, mixture-number (mixOf a), le-ltb (presentCount (mixOf a)) FEWEST l)
+    enough-on l = rw (eq-eqb (analysisRefusal a) 0 h, mixture-number (mixOf a), le-ltb (presentCount (mixOf a)) FEWEST l)
 
     pub too-few : presentCount (mixOf a) < FEWEST → ratingRefusal a ≡ TOO_FEW
     unfolding ratingRefusal
-    too-few l = rw (eq-eqb (refusalOf a) 0 h, mixture-number (mixOf a), lt-ltb (presentCount (mixOf a)) FEWEST l)
+    too-few l = rw (eq-eqb (analysisRefusal a) 0 h, mixture-number (mixOf a), lt-ltb (presentCount (mixOf a)) FEWEST l)
 
     -- an analysis in range is rated on or refused 16
     pub on-or-few : RatedOn a ⊎ (ratingRefusal a ≡ TOO_FEW)
@@ -65,19 +65,19 @@ module _ (a : List ℕ) where
 
 -- ---- no analysis is refused 13: 5 or 6 comes from its check, and then 16
 
-check-number : (t u : Bool) → refusalBy t u ≡ NO_SYSTEM → ⊥
+check-number : (t u : Bool) → refusalByTests t u ≡ NO_SYSTEM → ⊥
 check-number true true h = omega arith
 check-number true false h = omega arith
 check-number false u h = omega arith
 
 pub never-refused : (a : List ℕ) → ratingRefusal a ≡ NO_SYSTEM → ⊥
-unfolding refusalOf
-never-refused a h = go (eqb (refusalOf a) 0) refl
+unfolding analysisRefusal
+never-refused a h = go (eqb (analysisRefusal a) 0) refl
   where
     by : RatedOn a ⊎ (ratingRefusal a ≡ TOO_FEW) → ⊥
     by (inl e) = omega arith
     by (inr e) = omega arith
 
-    go : (b : Bool) → eqb (refusalOf a) 0 ≡ b → ⊥
-    go true e = by (on-or-few a (eqb-true (refusalOf a) 0 e))
+    go : (b : Bool) → eqb (analysisRefusal a) 0 ≡ b → ⊥
+    go true e = by (on-or-few a (eqb-true (analysisRefusal a) 0 e))
     go false e = check-number (allInRange 0 a) (totalFits (totalOf a)) (sym (range-first a e) ∙ h)

@@ -9,6 +9,7 @@ use native.Mathlib.Omega.{arith}
 use native.Mathlib.Numerals.{add-one}
 use native.Mathlib.Nat.{zero-add}
 use lib.ListN.{getD, length, drop}
+use Rattle.integer.specs.Figures.{MILLION}
 use Rattle.analysis.specs.Register.{CODES}
 use borrow.Author.Tests.{ltb-false}
 use Rattle.analysis.specs.Check as analysis
@@ -18,7 +19,7 @@ use Rattle.mixture.specs.Inert.{inertFirst}
 use Rattle.mixture.specs.Laws.Bounds.{LEAST_PARTS, simplified-length, simplified-total, simplified-or-absent, inert-greatest, tenths-positive, simplified-methane}
 use Rattle.systems.specs.Systems.{COMPONENTS, hasOf}
 use Rattle.systems.specs.Laws.Members.{countTo}
-use Rattle.systems.specs.Choice.{presentAt, presentOf, presentCount}
+use Rattle.systems.specs.Choice.{presentAt, presentOf}
 use Rattle.systems.specs.Laws.Presence.{present-is, Supply, supply}
 use Rattle.systems.specs.Chosen.{Choosable, choice-choosable, Filled, choice-filled}
 use Rattle.split.specs.Fold.{sumTo}
@@ -26,9 +27,9 @@ use Rattle.split.specs.Split.{RECORDS, systemOf, Chosen}
 use Rattle.split.specs.Laws.Sums.{totalOf}
 use Rattle.split.specs.Start.{sharersOf}
 use Rattle.split.specs.Laws.Starts.{Shared, Supplied}
-use Rattle.split.specs.Search.{LEVEL}
+use Rattle.split.specs.Search.{FIRST_LEVEL}
 use Rattle.split.specs.Laws.Finds.{SearchInput, enough-parts}
-use Rattle.rating.specs.Rate.{mixOf, systemsFor, countFor, ratingRefusal}
+use Rattle.rating.specs.Rate.{mixOf, systemsFor, countFor}
 use Rattle.rating.specs.RatedOn.{RatedOn}
 use Rattle.rating.specs.Laws.RatedOn.{on-passed}
 
@@ -78,12 +79,12 @@ module _ (a : List ℕ) (on : RatedOn a) where
       go false e = inl (omega (arith, ltb-false 0 (getD (mixOf a) c 0) e))
 
 module _ (a : List ℕ) (long : length a ≡ CODES) (on : RatedOn a) where
-  pub million : totalOf (mixOf a) ≡ 1000000
+  pub million : totalOf (mixOf a) ≡ MILLION
   million =
       sym (total-is (simplifiedOf a) (simplified-length a))
       ∙ simplified-total a (tenths-positive a long (on-passed a on .0))
 
-  pub inert-million : inertFirst a ≤ 1000000
+  pub inert-million : inertFirst a ≤ MILLION
   inert-million = inert-greatest a (tenths-positive a long (on-passed a on .0))
 
   -- methane is present; so each chosen system contains two present components, and how many systems there are follows
@@ -110,7 +111,7 @@ module _ (a : List ℕ) (long : length a ≡ CODES) (on : RatedOn a) where
       enough y (inr l) = omega (arith, choosable a on .few)
 
   -- the search can begin: its start leaves no system empty
-  pub input : SearchInput (mixOf a) (systemsFor a) (countFor a) LEVEL
+  pub input : SearchInput (mixOf a) (systemsFor a) (countFor a) FIRST_LEVEL
   input =
-      enough-parts (mixOf a) (systemsFor a) (countFor a) LEVEL (omega arith) (omega (arith, million)) (chosen a on)
+      enough-parts (mixOf a) (systemsFor a) (countFor a) FIRST_LEVEL (omega arith) (omega (arith, million)) (chosen a on)
       supplied

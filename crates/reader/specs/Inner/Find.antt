@@ -4,9 +4,9 @@ use mathlib.Core.List.{List}
 use mathlib.Core.Bool.{true, false}
 use Prim.Native.Nat.{ℕ, _+_, _*_, _<_, _≤_}
 use Rattle.analysis.specs.declared.Checked.{Checked}
-use Rattle.analysis.specs.CheckedCases.{numberOf, codeOf}
-use Rattle.analysis.specs.Check.{answerOf}
-use Rattle.sheet.specs.Bytes.{numberAt}
+use Rattle.analysis.specs.CheckedCases.{numberOf, faultOf}
+use Rattle.analysis.specs.Check.{checkedOf}
+use Rattle.sheet.specs.Bytes.{fourBytesAt}
 use Rattle.sheet.specs.Components.{COMPONENT_BYTES, zeroListed}
 use Rattle.sheet.specs.Read.{amountsRefusal, FaultIn}
 
@@ -15,9 +15,9 @@ pub record ZeroRecord (n : ℕ) (s : List ℕ) (r : ℕ) : Type 0 where
   pub within : r ≤ n
   pub none : n ≤ r → zeroListed n s 1 ≡ false
   pub some : r < n → zeroListed n s 1 ≡ true
-  pub zero-there : r < n → numberAt s (1 + COMPONENT_BYTES * r + 1) ≡ 0
+  pub zero-there : r < n → fourBytesAt s (1 + COMPONENT_BYTES * r + 1) ≡ 0
 
 -- the answer to the amounts: fixed but for the code of 5, and that is a code at fault
 pub record AmountsRefused (n : ℕ) (s : List ℕ) (r : Checked) : Type 0 where
-  pub answer : r ≡ answerOf (amountsRefusal n s) (codeOf r)
-  pub code : numberOf r ≡ 5 → FaultIn n s (codeOf r)
+  pub answer : r ≡ checkedOf (amountsRefusal n s) (faultOf r)
+  pub code : numberOf r ≡ 5 → FaultIn n s (faultOf r)

@@ -13,6 +13,7 @@ never e = let z : _≡_ {A = ℕ} 0 1 = cc in absurd (omega arith)
 
 -- a test that passes at each key of a list passes at a key that is in it
 pub each-passes : (test : ℕ → Bool) (x : ℕ) (ys : List ℕ) → each test ys ≡ true → isIn x ys ≡ true → test x ≡ true
+unfolding isIn
 each-passes test x [] t h = never h
 each-passes test x (y ∷ ys) t h = go (eqb x y) (test y) refl refl (each-passes test x ys) t h
   where

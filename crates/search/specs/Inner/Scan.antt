@@ -6,13 +6,13 @@ use mathlib.Core.Bool.{Bool, true, false, not, _&&_, cond}
 use lib.Dec.{ltb, eqb}
 use lib.IntN.{ℤ}
 use Rattle.systems.specs.Systems.{hasOf}
-use Rattle.split.specs.Split.{SYSTEMS, cellOf, systemOf, numberAt}
+use Rattle.split.specs.Split.{SYSTEMS, cellOf, systemOf, rowNumber}
 use Rattle.split.specs.Move.{componentOf, giverOf, affordsOf, canOf}
 use Rattle.split.specs.Laws.Steps.{numberWith}
 
 -- the rows' numbers where row f had d of component c less
-unfoldable pub givenOf : List ℕ → List ℕ → ℕ → ℕ → ℕ → ℕ → ℤ
-givenOf ch a d f c s = cond (eqb s f) (numberWith ch a f c (cellOf a f c - d)) (numberAt ch a s)
+unfoldable pub afterGiving : List ℕ → List ℕ → ℕ → ℕ → ℕ → ℕ → ℤ
+afterGiving ch a d f c s = cond (eqb s f) (numberWith ch a f c (cellOf a f c - d)) (rowNumber ch a s)
 
 -- move m's giver is a row that has its component and affords the stride d
 unfoldable pub givesOf : List ℕ → ℕ → List ℕ → ℕ → ℕ → Bool

@@ -6,6 +6,7 @@ use mathlib.Core.Bool.{cond}
 use lib.Dec.{ltb}
 use lib.IntN.{ℤ, pos, natAbs}
 use lib.ListN.{getD, length}
+use Rattle.integer.specs.Figures.{MILLION}
 use Rattle.formula.specs.WorkingRule.{LARGEST}
 use Rattle.systems.specs.Systems.{COMPONENTS}
 use Rattle.split.specs.Split.{SYSTEMS, CELLS}
@@ -22,8 +23,8 @@ abbrev pub UNKNOWN : ℤ
 UNKNOWN = pos 4000000000000
 
 -- the row and the component of try i
-abbrev pub rowOf : ℕ → ℕ
-rowOf i = i / COMPONENTS % SYSTEMS
+abbrev pub triedRow : ℕ → ℕ
+triedRow i = i / COMPONENTS % SYSTEMS
 
 abbrev pub columnIn : ℕ → ℕ
 columnIn i = i % COMPONENTS
@@ -34,23 +35,23 @@ triedOf a d i = cond (ltb i CELLS) (getD a i 0 - d) (getD a (i - CELLS) 0 + d)
 
 -- its row's partial number then
 unfoldable pub wantedOf : List ℕ → List ℕ → ℕ → ℕ → ℤ
-wantedOf ch a d i = numberWith ch a (rowOf i) (columnIn i) (triedOf a d i)
+wantedOf ch a d i = numberWith ch a (triedRow i) (columnIn i) (triedOf a d i)
 
 -- each number of the k rows' tries is not known or is the one wanted
 pub record Tried (ch : List ℕ) (k : ℕ) (a : List ℕ) (d : ℕ) (t : List ℤ) : Type 0 where
   pub long : length t ≡ TRIES
-  pub known : (i : ℕ) → i < TRIES → rowOf i < k → (listed t i ≡ UNKNOWN → ⊥) → (listed t i ≡ wantedOf ch a d i) × (natAbs (listed t i) ≤ LARGEST)
+  pub known : (i : ℕ) → i < TRIES → triedRow i < k → (listed t i ≡ UNKNOWN → ⊥) → (listed t i ≡ wantedOf ch a d i) × (natAbs (listed t i) ≤ LARGEST)
 
 -- try i can be worked out
 pub record Triable (ch : List ℕ) (k : ℕ) (a : List ℕ) (d i : ℕ) : Type 0 where
   pub below : i < TRIES
-  pub row : rowOf i < k
+  pub row : triedRow i < k
   pub had : i < CELLS → d ≤ getD a i 0
-  pub room : CELLS ≤ i → getD a (i - CELLS) 0 + d ≤ 1000000
-  pub workable : Workable ch a (rowOf i) (columnIn i) (triedOf a d i)
+  pub room : CELLS ≤ i → getD a (i - CELLS) 0 + d ≤ MILLION
+  pub workable : Workable ch a (triedRow i) (columnIn i) (triedOf a d i)
 
 -- u is t with row s's numbers not known
 pub record Forgot (t : List ℤ) (s : ℕ) (u : List ℤ) : Type 0 where
   pub long : length u ≡ TRIES
-  pub gone : (i : ℕ) → i < TRIES → rowOf i ≡ s → listed u i ≡ UNKNOWN
-  pub kept : (i : ℕ) → i < TRIES → (rowOf i ≡ s → ⊥) → listed u i ≡ listed t i
+  pub gone : (i : ℕ) → i < TRIES → triedRow i ≡ s → listed u i ≡ UNKNOWN
+  pub kept : (i : ℕ) → i < TRIES → (triedRow i ≡ s → ⊥) → listed u i ≡ listed t i

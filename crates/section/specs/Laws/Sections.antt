@@ -11,7 +11,7 @@ use Rattle.section.specs.declared.Section.the-variants.{Records, Torn}
 use Rattle.section.specs.Section.{endAt, tornOr, sectionAt}
 
 -- what a section that was found says of the sheet
-pub record Found (s : List ℕ) (at size count first end : ℕ) : Type 0 where
+pub record SectionFound (s : List ℕ) (at size count first end : ℕ) : Type 0 where
   pub counted : count ≡ getD s at 0
   pub begins : first ≡ at + 1
   pub ends : end ≡ endAt s at size
@@ -33,7 +33,7 @@ module _ (s : List ℕ) (at size : ℕ) where
   unfolding endAt
   section-outside h = section-torn (omega arith)
 
-  found-by : (t : Bool) {count first end : ℕ} → ltb (length s) (endAt s at size) ≡ t → tornOr t (Records (getD s at 0) (at + 1) (endAt s at size)) ≡ Records count first end → Found s at size count first end
+  found-by : (t : Bool) {count first end : ℕ} → ltb (length s) (endAt s at size) ≡ t → tornOr t (Records (getD s at 0) (at + 1) (endAt s at size)) ≡ Records count first end → SectionFound s at size count first end
   unfolding tornOr
   found-by true e h = let z : _≡_ {A = ℕ} 0 1 = cc in record { counted = omega arith; begins = omega arith; ends = omega arith; within = omega arith }
   found-by false {count} {first} {end} e h =
@@ -41,7 +41,7 @@ module _ (s : List ℕ) (at size : ℕ) where
       record { counted = cc; begins = cc; ends = ends; within = omega (arith, ltb-false (length s) (endAt s at size) e) }
 
   -- back: what records say
-  pub section-found : {count first end : ℕ} → sectionAt s at size ≡ Records count first end → Found s at size count first end
+  pub section-found : {count first end : ℕ} → sectionAt s at size ≡ Records count first end → SectionFound s at size count first end
   unfolding sectionAt
   section-found h = found-by (ltb (length s) (endAt s at size)) refl h
 

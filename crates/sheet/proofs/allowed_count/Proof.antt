@@ -6,6 +6,7 @@ use native.Mathlib.Omega.{arith}
 use lib.Dec.{eqb, ltb, leb}
 use lib.ListN.{replicate}
 use borrow.Author.Tests.{eq-eqb, ne-eqb, lt-ltb, le-ltb, leb-true}
+use Rattle.refusal.specs.Keys.{isIn}
 use Rattle.refusal.specs.Laws.Keys.{each-passes}
 use Rattle.analysis.specs.Laws.Table.{at, same, same-eq}
 use Rattle.sheet.specs.Split.{SHORTEST_SPLIT, LONGEST_SPLIT, splitCounts, allowedCount}
@@ -17,7 +18,7 @@ abbrev tested : ℕ → Bool
 tested m = cond (eqb m 0) true (cond (ltb m SHORTEST_SPLIT) false (eqb (m % 3) 0))
 
 counted : (m : ℕ) → m ≤ LONGEST_SPLIT → tested m ≡ allowedCount m
-unfolding allowedCount
+unfolding allowedCount isIn
 counted m l =
     same-eq (tested m) (allowedCount m)
     (at (λ k x. same (tested k) (allowedCount k)) (replicate (suc LONGEST_SPLIT) 0) tt m (omega arith))
@@ -30,7 +31,7 @@ low : (m : ℕ) → (m ≡ 0 → ⊥) → m < SHORTEST_SPLIT → allowedCount m 
 low m n l = sym (counted m (omega arith)) ∙ rw (ne-eqb m 0 n, lt-ltb m SHORTEST_SPLIT l)
 
 high : (m : ℕ) → LONGEST_SPLIT < m → allowedCount m ≡ false
-unfolding allowedCount
+unfolding allowedCount isIn
 high m l = go (allowedCount m) refl
   where
     go : (b : Bool) → allowedCount m ≡ b → b ≡ false

@@ -13,13 +13,13 @@ use Rattle.analysis.specs.Register.{Status, live, retired, splitsOnly, unknown,
 use Rattle.analysis.specs.Check.{greatestBy, greatestOf, inRange, allInRange}
 use Rattle.analysis.specs.Laws.Ranges.{range-greatest}
 use Rattle.sheet.specs.declared.Reading.the-variants.{Read}
-use Rattle.sheet.specs.Bytes.{number, numberAt, bytesOf}
+use Rattle.sheet.specs.Bytes.{fourBytes, fourBytesAt, bytesOf}
 use Rattle.sheet.specs.Components.{refusalBy, codeRefusal, codesReading, amountsFrom, zeroListed, countOf, componentBytes}
 use Rattle.sheet.specs.Split.{recordBytes, byteColumn, amountColumn}
 use Rattle.sheet.specs.Laws.Cases.{both-true, code-fine}
 
 -- the number of the four bytes of a number is that number
-pub number-bytes : (x : ℕ) → number (x / 16777216) (x / 65536 % 256) (x / 256 % 256) (x % 256) ≡ x
+pub number-bytes : (x : ℕ) → fourBytes (x / 16777216) (x / 65536 % 256) (x / 256 % 256) (x % 256) ≡ x
 number-bytes x = omega arith
 
 -- what stands at `at` and after it, from the list there
@@ -36,7 +36,7 @@ module _ (s : List ℕ) (at : ℕ) (l : List ℕ) (e : drop at s ≡ l) where
   rest-here i = sym (drop-drop i at s) ∙ ap (λ (m : List ℕ). drop i m) e
 
 -- the number that begins after `i` bytes
-pub number-here : (s : List ℕ) (at i : ℕ) (l : List ℕ) → drop (at + i) s ≡ l → numberAt s (at + i) ≡ number (getD l 0 0) (getD l 1 0) (getD l 2 0) (getD l 3 0)
+pub number-here : (s : List ℕ) (at i : ℕ) (l : List ℕ) → drop (at + i) s ≡ l → fourBytesAt s (at + i) ≡ fourBytes (getD l 0 0) (getD l 1 0) (getD l 2 0) (getD l 3 0)
 number-here s at i l e =
     rw (byte-here s (at + i) l e, byte-on s (at + i) l e 1, byte-on s (at + i) l e 2, byte-on s (at + i) l e 3)
 
@@ -73,7 +73,7 @@ module _ (s : List ℕ) (at k x : ℕ) (xs r : List ℕ) (e : drop at s ≡ comp
   pub code-back : getD s at 0 ≡ k
   code-back = byte-here s at _ here
 
-  pub amount-back : numberAt s (at + 1) ≡ x
+  pub amount-back : fourBytesAt s (at + 1) ≡ x
   amount-back = number-here s at 1 _ (rest-here s at _ here 1) ∙ number-bytes x
 
   pub next-back : drop (at + 5) s ≡ componentBytes (suc k) xs ++ r
@@ -145,7 +145,7 @@ amounts-filled (x ∷ xs) k ws s at r h e =
     go skip next false f =
         ap (λ (n : ℕ). amountsFrom n s at (ws ++ replicate (suc (length xs)) 0)) (some-count k x xs f)
         ∙ ap (λ (l : List ℕ). amountsFrom (countOf xs) s (at + 5) l)
-        (ap (λ (j : ℕ). set (ws ++ replicate (suc (length xs)) 0) j (numberAt s (at + 1))) (code-back s at k x xs r e f)
+        (ap (λ (j : ℕ). set (ws ++ replicate (suc (length xs)) 0) j (fourBytesAt s (at + 1))) (code-back s at k x xs r e f)
         ∙ ap (λ (y : ℕ). set (ws ++ replicate (suc (length xs)) 0) k y) (amount-back s at k x xs r e f)
         ∙ set-at ws 0 (replicate (length xs) 0) x k h
         ∙ sym (append-snoc ws x (replicate (length xs) 0)))

@@ -11,7 +11,7 @@ use borrow.Author.Tests.{eqb-false}
 use Rattle.refusal.specs.Keys.{isIn}
 use Rattle.refusal.specs.Laws.Keys.{each-passes}
 use Rattle.analysis.specs.Register.{CODES, Entry, unknown, register, keysOf, statusIn, statusOf}
-use Rattle.analysis.specs.Check.{refusalOf}
+use Rattle.analysis.specs.Check.{analysisRefusal}
 use Rattle.section.specs.declared.Section.{Section}
 use Rattle.section.specs.declared.Section.the-variants as found
 use Rattle.section.specs.Section.{endAt, sectionAt}
@@ -39,7 +39,7 @@ both-true false x h = (h, cc)
 
 -- a count that is allowed is at most the most
 pub allowed-most : (m : ℕ) → allowedCount m ≡ true → m ≤ LONGEST_SPLIT
-unfolding allowedCount
+unfolding allowedCount isIn
 allowed-most m h = leb-true m LONGEST_SPLIT (each-passes (λ x. leb x LONGEST_SPLIT) m splitCounts refl h)
 
 -- and there is room for its records
@@ -195,15 +195,15 @@ module _ (n : ℕ) (s : List ℕ) where
   unfolding amountsRefusal
   amounts-zero z = rw z
 
-  pub amounts-checked : zeroListed n s 1 ≡ false → amountsRefusal n s ≡ refusalOf (amountsOf n s)
+  pub amounts-checked : zeroListed n s 1 ≡ false → amountsRefusal n s ≡ analysisRefusal (amountsOf n s)
   unfolding amountsRefusal
   amounts-checked z = rw z
 
-  pub amounts-back : amountsRefusal n s ≡ 0 → (zeroListed n s 1 ≡ false) × (refusalOf (amountsOf n s) ≡ 0)
+  pub amounts-back : amountsRefusal n s ≡ 0 → (zeroListed n s 1 ≡ false) × (analysisRefusal (amountsOf n s) ≡ 0)
   unfolding amountsRefusal
   amounts-back h = go (zeroListed n s 1) refl h
     where
-      go : (t : Bool) → zeroListed n s 1 ≡ t → cond t 5 (refusalOf (amountsOf n s)) ≡ 0 → (zeroListed n s 1 ≡ false) × (refusalOf (amountsOf n s) ≡ 0)
+      go : (t : Bool) → zeroListed n s 1 ≡ t → cond t 5 (analysisRefusal (amountsOf n s)) ≡ 0 → (zeroListed n s 1 ≡ false) × (analysisRefusal (amountsOf n s) ≡ 0)
       go true e h = (absurd (omega arith), absurd (omega arith))
       go false e h = (e, h)
 
@@ -211,6 +211,7 @@ module _ (n : ℕ) (s : List ℕ) where
 
 -- a code that is no key of a register is unknown
 unlisted : (es : List Entry) (c : ℕ) → isIn c (keysOf es) ≡ false → statusIn es c ≡ unknown
+unfolding isIn
 unlisted [] c h = refl
 unlisted (e ∷ es) c h = go (eqb c (e .code)) h (λ t. unlisted es c t)
   where
@@ -284,24 +285,24 @@ module _ (a : List ℕ) (p : Split) where
     number-count h = rw h
 
     module _ (h : allowedCount (p .count) ≡ true) where
-      pub number-check : (refusalOf a ≡ 0 → ⊥) → writeRefusal a p size ≡ refusalOf a
+      pub number-check : (analysisRefusal a ≡ 0 → ⊥) → writeRefusal a p size ≡ analysisRefusal a
       unfolding writeRefusal
       number-check n = rw (h, ne-eqb _ _ n)
 
-      pub number-short : refusalOf a ≡ 0 → size < length (sheetOf a p) → writeRefusal a p size ≡ 14
+      pub number-short : analysisRefusal a ≡ 0 → size < length (sheetOf a p) → writeRefusal a p size ≡ 14
       unfolding writeRefusal
       number-short e l = rw (h, eq-eqb _ _ e, lt-leb _ _ l)
 
-      pub number-none : refusalOf a ≡ 0 → length (sheetOf a p) ≤ size → writeRefusal a p size ≡ 0
+      pub number-none : analysisRefusal a ≡ 0 → length (sheetOf a p) ≤ size → writeRefusal a p size ≡ 0
       unfolding writeRefusal
       number-none e l = rw (h, eq-eqb _ _ e, le-leb _ _ l)
 
-    pub number-back : writeRefusal a p size ≡ 0 → (allowedCount (p .count) ≡ true) × (refusalOf a ≡ 0) × (length (sheetOf a p) ≤ size)
+    pub number-back : writeRefusal a p size ≡ 0 → (allowedCount (p .count) ≡ true) × (analysisRefusal a ≡ 0) × (length (sheetOf a p) ≤ size)
     unfolding writeRefusal
-    number-back h = go (allowedCount (p .count)) (eqb (refusalOf a) 0) (leb (length (sheetOf a p)) size) refl refl refl h
+    number-back h = go (allowedCount (p .count)) (eqb (analysisRefusal a) 0) (leb (length (sheetOf a p)) size) refl refl refl h
       where
-        go : (t u v : Bool) → allowedCount (p .count) ≡ t → eqb (refusalOf a) 0 ≡ u → leb (length (sheetOf a p)) size ≡ v
-            → cond t (cond u (cond v 0 14) (refusalOf a)) 1 ≡ 0 → (allowedCount (p .count) ≡ true) × (refusalOf a ≡ 0) × (length (sheetOf a p) ≤ size)
+        go : (t u v : Bool) → allowedCount (p .count) ≡ t → eqb (analysisRefusal a) 0 ≡ u → leb (length (sheetOf a p)) size ≡ v
+            → cond t (cond u (cond v 0 14) (analysisRefusal a)) 1 ≡ 0 → (allowedCount (p .count) ≡ true) × (analysisRefusal a ≡ 0) × (length (sheetOf a p) ≤ size)
         go true true true e f g h = (e, eqb-true _ _ f, leb-true _ _ g)
         go true true false e f g h = absurd (omega arith)
         go true false v e f g h = absurd (eqb-false _ _ f h)

@@ -9,7 +9,7 @@ use lib.ListN.{getD}
 use Rattle.sheet.specs.Components.{COMPONENT_BYTES, codeRefusal, codesReading}
 use Rattle.sheet.specs.Sheet.{sectionsOf}
 use Rattle.sheet.specs.Read.{readBy, readOf, ReadAs, amountsRefusal, byAmounts, contentOf, withAnswer, afterCodes}
-use Rattle.sheet.specs.ReadingCases.{placeOf, codeOf}
+use Rattle.sheet.specs.ReadingCases.{placeOf, faultOf}
 use Rattle.sheet.specs.declared.Sections.{Sections}
 use Rattle.sheet.specs.declared.Sections.the-variants.{Torn, Both}
 use Rattle.sheet.specs.declared.Reading.{Reading}
@@ -57,7 +57,7 @@ read-coded s code = go (sectionsOf s)
 
 module _ (s : List ℕ) (r : Sheet) (h : ReadAs s r) (number place code : ℕ) (e : r .answer ≡ Refused number place code) where
   pub refused-answer : readOf s code .answer ≡ Refused number place code
-  refused-answer = ap (λ (x : Sheet). x .answer) (sym (h .sheet ∙ ap (readOf s) (ap codeOf e))) ∙ e
+  refused-answer = ap (λ (x : Sheet). x .answer) (sym (h .sheet ∙ ap (readOf s) (ap faultOf e))) ∙ e
 
   pub carried-code : cond (eqb number 5) (placeOf (Refused number place code)) 0 ≡ code
   carried-code = go (eqb number 5) refl (subst Coded refused-answer (read-coded s code))
@@ -70,7 +70,7 @@ module _ (s : List ℕ) (r : Sheet) (h : ReadAs s r) (number place code : ℕ) (
 
 module _ (s : List ℕ) (r : Sheet) (h : ReadAs s r) (e : r .answer ≡ Read) where
   pub read-as-is : r ≡ readOf s 0
-  read-as-is = h .sheet ∙ ap (readOf s) (ap codeOf e)
+  read-as-is = h .sheet ∙ ap (readOf s) (ap faultOf e)
 
   pub read-as-read : readOf s 0 .answer ≡ Read
   read-as-read = ap (λ (x : Sheet). x .answer) (sym read-as-is) ∙ e

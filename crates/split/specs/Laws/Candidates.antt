@@ -5,20 +5,20 @@ use mathlib.Core.Bool.{Bool, true, false, not}
 use native.Mathlib.Omega.{arith}
 use lib.Dec.{T, ltb}
 use borrow.Author.Tests.{ltb-true, ltb-false}
-use Rattle.refusal.specs.Keys.{allIn}
+use Rattle.refusal.specs.Keys.{allIn, isIn}
 use Rattle.formula.specs.WorkingRule.{sumAbs}
 use Rattle.formula.specs.Coefficients.{placeIn, keepsRule, isSystem, kept, systems}
-use Rattle.systems.specs.Systems.{COMPONENTS, candidates, memberOf, elem, Candidate}
+use Rattle.systems.specs.Systems.{COMPONENTS, candidates, memberOf, Candidate}
 use Rattle.systems.specs.Laws.Members.{candidate-le, member-none}
 use Rattle.systems.specs.Laws.Table.{eachTo, each-candidate, to-true}
 
 -- each candidate is one of the systems
 pub candidates-among : allIn candidates systems ≡ true
-unfolding kept isSystem keepsRule sumAbs placeIn
+unfolding kept isSystem keepsRule sumAbs placeIn isIn
 candidates-among = refl
 
 pub known-system : (system : ℕ) → Candidate system → isSystem system ≡ true
-unfolding isSystem keepsRule sumAbs placeIn
+unfolding isSystem keepsRule sumAbs placeIn isIn
 known-system system h = to-true (isSystem system) (each-candidate isSystem tt system h)
 
 abbrev same : Bool → Bool → Bool
@@ -32,18 +32,18 @@ same-is false true t = absurd t
 same-is false false t = refl
 
 abbrev agree : ℕ → Bool
-agree system = same (ltb (memberOf system 0) COMPONENTS) (elem system candidates)
+agree system = same (ltb (memberOf system 0) COMPONENTS) (isIn system candidates)
 
-none-above : (system : ℕ) → 9 ≤ system → (b : Bool) → elem system candidates ≡ b → false ≡ b
+none-above : (system : ℕ) → 9 ≤ system → (b : Bool) → isIn system candidates ≡ b → false ≡ b
 none-above system h true e = absurd (omega (arith, candidate-le system (record { listed = e })))
 none-above system h false e = refl
 
-pub candidate-is : (system r : ℕ) → r ≡ memberOf system 0 → ltb r COMPONENTS ≡ elem system candidates
-unfolding memberOf elem
+pub candidate-is : (system r : ℕ) → r ≡ memberOf system 0 → ltb r COMPONENTS ≡ isIn system candidates
+unfolding memberOf isIn
 candidate-is system r p = ap (λ x. ltb x COMPONENTS) p ∙ go (ltb system 9) refl
   where
-    go : (b : Bool) → ltb system 9 ≡ b → ltb (memberOf system 0) COMPONENTS ≡ elem system candidates
-    go true e = same-is (ltb (memberOf system 0) COMPONENTS) (elem system candidates) (eachTo agree 9 tt system (ltb-true system 9 e))
+    go : (b : Bool) → ltb system 9 ≡ b → ltb (memberOf system 0) COMPONENTS ≡ isIn system candidates
+    go true e = same-is (ltb (memberOf system 0) COMPONENTS) (isIn system candidates) (eachTo agree 9 tt system (ltb-true system 9 e))
     go false e =
         let h = ltb-false system 9 e in
-        ap (λ x. ltb x COMPONENTS) (member-none system 0 h) ∙ none-above system h (elem system candidates) refl
+        ap (λ x. ltb x COMPONENTS) (member-none system 0 h) ∙ none-above system h (isIn system candidates) refl

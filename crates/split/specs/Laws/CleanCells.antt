@@ -9,20 +9,20 @@ use lib.ListN.{length, List·getD-eq-default}
 use borrow.Author.Tests.{ltb-true, ltb-false}
 use Rattle.systems.specs.Systems.{COMPONENTS}
 use Rattle.split.specs.Split.{SYSTEMS, CELLS, cellOf, heldOf, Sound}
-use Rattle.split.specs.Start.{givenOf, startCell, startOf}
+use Rattle.split.specs.Start.{startAmount, startCell, startOf}
 use Rattle.split.specs.Move.{componentOf, giverOf, takerOf, movedOf}
 use Rattle.split.specs.Search.{turnOf, stepOf, runOf}
 use Rattle.split.specs.declared.Turn.the-variants.{Move}
 use Rattle.split.specs.Laws.Tables.{length-table, getD-table}
 use Rattle.split.specs.Laws.Clean.{Clean, row-held}
-use Rattle.split.specs.Laws.Tests.{Fit, Between}
+use Rattle.split.specs.Laws.Tests.{MayMove, Between}
 use Rattle.split.specs.Laws.Moves.{cell-same}
 use Rattle.split.specs.Laws.Steps.{bt, component-low}
 use Rattle.split.specs.Laws.Turns.{moves, sound-step}
 use Rattle.split.specs.Laws.Runs.{run-ind, Reached, reached-kept}
 
 pub start-clean : (mix ch : List ℕ) (k : ℕ) → Clean ch k (startOf mix ch k)
-unfolding startOf givenOf
+unfolding startOf startAmount
 start-clean mix ch k = record { none = λ s c l e. at s c l e (ltb s SYSTEMS) refl }
   where
     at : (s c : ℕ) → c < COMPONENTS → heldOf ch k s c ≡ false → (b : Bool) → ltb s SYSTEMS ≡ b → cellOf (startOf mix ch k) s c ≡ 0
@@ -30,13 +30,13 @@ start-clean mix ch k = record { none = λ s c l e. at s c l e (ltb s SYSTEMS) re
         let u = ltb-true s SYSTEMS h in
         let row : (0 + (s * COMPONENTS + c)) / COMPONENTS ≡ s = omega arith in
         let column : (0 + (s * COMPONENTS + c)) % COMPONENTS ≡ c = omega arith in
-        getD-table (startCell mix ch k) CELLS 0 (s * COMPONENTS + c) (omega arith) ∙ ap₂ (givenOf mix ch k) row column ∙ rw (e, givenOf)
+        getD-table (startCell mix ch k) CELLS 0 (s * COMPONENTS + c) (omega arith) ∙ ap₂ (startAmount mix ch k) row column ∙ rw (e, startAmount)
     at s c l e false h =
         let u = ltb-false s SYSTEMS h in
         let long : length (startOf mix ch k) ≤ s * COMPONENTS + c = rw (length-table (startCell mix ch k) CELLS 0) (omega arith) in
         List·getD-eq-default (startOf mix ch k) 0 {n = s * COMPONENTS + c} long
 
-module _ (ch : List ℕ) (k : ℕ) (a : List ℕ) (d m : ℕ) (so : Sound ch k a) (fit : Fit ch k a d m) where
+module _ (ch : List ℕ) (k : ℕ) (a : List ℕ) (d m : ℕ) (so : Sound ch k a) (fit : MayMove ch k a d m) where
   -- a cell that is not held is not one of the move's two
   other : (s c f : ℕ) → c < COMPONENTS → heldOf ch k s c ≡ false → heldOf ch k f (componentOf m) ≡ true → s * COMPONENTS + c ≡ f * COMPONENTS + componentOf m → ⊥
   other s c f l off on e =

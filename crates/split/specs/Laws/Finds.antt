@@ -9,14 +9,16 @@ use lib.Dec.{ltb, leb, eqb}
 use lib.IntN.{natAbs}
 use lib.ListN.{getD, replicate}
 use borrow.Author.Tests.{lt-ltb, le-leb, ltb-true, leb-true, eqb-false, ne-eqb, not-true}
+use Rattle.integer.specs.Figures.{MILLION}
+use Rattle.refusal.specs.Keys.{isIn}
 use Rattle.formula.specs.WorkingRule.{LARGEST}
-use Rattle.systems.specs.Systems.{COMPONENTS, candidates, elem}
+use Rattle.systems.specs.Systems.{COMPONENTS, candidates}
 use Rattle.split.specs.Fold.{sumTo}
-use Rattle.split.specs.Split.{SYSTEMS, CELLS, systemOf, partsOf, columnOf, numberAt, Chosen, Stock, Sound}
+use Rattle.split.specs.Split.{SYSTEMS, CELLS, systemOf, partsOf, columnOf, rowNumber, Chosen, Stock, Sound}
 use Rattle.split.specs.Rating.{spreadOf, someEmpty}
 use Rattle.split.specs.Start.{startOf}
 use Rattle.split.specs.Move.{imbalanceOf}
-use Rattle.split.specs.Search.{LEVEL, found, searchOf}
+use Rattle.split.specs.Search.{FIRST_LEVEL, foundOf, searchOf}
 use Rattle.split.specs.Find.{chosenFit, mixtureFit, searchFit, findOf}
 use Rattle.split.specs.declared.Search.the-variants.{Balanced, Unfit}
 use Rattle.split.specs.declared.Found.{Found}
@@ -37,20 +39,20 @@ chosen-of ch k e =
     record {
       some = ltb-true 0 k (both-left (ltb 0 k) _ e);
       most = leb-true k SYSTEMS (both-left (leb k SYSTEMS) _ p);
-      known = λ s h. record { listed = all-each (λ r. elem (systemOf ch r) candidates) k s (both-right (leb k SYSTEMS) _ p) h };
+      known = λ s h. record { listed = all-each (λ r. isIn (systemOf ch r) candidates) k s (both-right (leb k SYSTEMS) _ p) h };
     }
 
 pub chosen-fits : (ch : List ℕ) (k : ℕ) → Chosen ch k → chosenFit ch k ≡ true
 unfolding chosenFit
-chosen-fits ch k cn = rw (lt-ltb 0 k (cn .some), le-leb k SYSTEMS (cn .most)) (all-of (λ r. elem (systemOf ch r) candidates) k (λ s h. cn .known s h .listed))
+chosen-fits ch k cn = rw (lt-ltb 0 k (cn .some), le-leb k SYSTEMS (cn .most)) (all-of (λ r. isIn (systemOf ch r) candidates) k (λ s h. cn .known s h .listed))
 
-pub mixture-of : (mix : List ℕ) → mixtureFit mix ≡ true → sumTo (λ c. getD mix c 0) COMPONENTS ≤ 1000000
+pub mixture-of : (mix : List ℕ) → mixtureFit mix ≡ true → sumTo (λ c. getD mix c 0) COMPONENTS ≤ MILLION
 unfolding mixtureFit
-mixture-of mix e = leb-true (sumTo (λ c. getD mix c 0) COMPONENTS) 1000000 e
+mixture-of mix e = leb-true (sumTo (λ c. getD mix c 0) COMPONENTS) MILLION e
 
-pub mixture-fits : (mix : List ℕ) → sumTo (λ c. getD mix c 0) COMPONENTS ≤ 1000000 → mixtureFit mix ≡ true
+pub mixture-fits : (mix : List ℕ) → sumTo (λ c. getD mix c 0) COMPONENTS ≤ MILLION → mixtureFit mix ≡ true
 unfolding mixtureFit
-mixture-fits mix h = le-leb (sumTo (λ c. getD mix c 0) COMPONENTS) 1000000 h
+mixture-fits mix h = le-leb (sumTo (λ c. getD mix c 0) COMPONENTS) MILLION h
 
 -- no system is empty
 pub sound-of : (ch : List ℕ) (k : ℕ) (a : List ℕ) → Stock ch k a → someEmpty ch k a ≡ false → Sound ch k a
@@ -66,8 +68,8 @@ none-empty ch k a so = some-of (λ r. eqb (partsOf ch a r) 0) k (λ s h. ne-eqb 
 
 -- an input that the search takes
 pub record SearchInput (mix ch : List ℕ) (k level : ℕ) : Type 0 where
-  pub low : level ≤ LEVEL
-  pub few : sumTo (λ c. getD mix c 0) COMPONENTS ≤ 1000000
+  pub low : level ≤ FIRST_LEVEL
+  pub few : sumTo (λ c. getD mix c 0) COMPONENTS ≤ MILLION
   pub chosen : Chosen ch k
   pub sound : Sound ch k (startOf mix ch k)
 
@@ -75,12 +77,12 @@ module _ (mix ch : List ℕ) (k level : ℕ) where
   pub input-of : searchFit mix ch k level ≡ true → SearchInput mix ch k level
   unfolding searchFit
   input-of e =
-      let p = both-right (leb level LEVEL) _ e in
+      let p = both-right (leb level FIRST_LEVEL) _ e in
       let q = both-right (mixtureFit mix) _ p in
       let few = mixture-of mix (both-left (mixtureFit mix) _ p) in
       let cn = chosen-of ch k (both-left (chosenFit ch k) _ q) in
       record {
-        low = leb-true level LEVEL (both-left (leb level LEVEL) _ e);
+        low = leb-true level FIRST_LEVEL (both-left (leb level FIRST_LEVEL) _ e);
         few = few;
         chosen = cn;
         sound = sound-of ch k (startOf mix ch k) (start-stock mix ch k (cn .most) few cn) (not-true (someEmpty ch k (startOf mix ch k)) (both-right (chosenFit ch k) _ q));
@@ -88,10 +90,10 @@ module _ (mix ch : List ℕ) (k level : ℕ) where
 
   pub input-fits : SearchInput mix ch k level → searchFit mix ch k level ≡ true
   unfolding searchFit
-  input-fits i = rw (le-leb level LEVEL (i .low), mixture-fits mix (i .few), chosen-fits ch k (i .chosen), none-empty ch k (startOf mix ch k) (i .sound))
+  input-fits i = rw (le-leb level FIRST_LEVEL (i .low), mixture-fits mix (i .few), chosen-fits ch k (i .chosen), none-empty ch k (startOf mix ch k) (i .sound))
 
   -- it is enough that each chosen system contains a component of which there are as many parts as chosen systems
-  pub enough-parts : level ≤ LEVEL → sumTo (λ c. getD mix c 0) COMPONENTS ≤ 1000000 → Chosen ch k → ((s : ℕ) → s < k → Supplied mix ch k s) → SearchInput mix ch k level
+  pub enough-parts : level ≤ FIRST_LEVEL → sumTo (λ c. getD mix c 0) COMPONENTS ≤ MILLION → Chosen ch k → ((s : ℕ) → s < k → Supplied mix ch k s) → SearchInput mix ch k level
   enough-parts l few cn supplied = record { low = l; few = few; chosen = cn; sound = start-sound mix ch k cn few supplied }
 
   module _ (limit allowance : ℕ) where
@@ -100,7 +102,7 @@ module _ (mix ch : List ℕ) (k level : ℕ) where
     find-search e = rw (e, findOf)
 
     pub find-none : searchFit mix ch k level ≡ false
-        → found (replicate CELLS 0) Unfit ≡ findOf mix ch k limit level allowance
+        → foundOf (replicate CELLS 0) Unfit ≡ findOf mix ch k limit level allowance
     unfolding findOf
     find-none e = rw (e, findOf)
 
@@ -124,8 +126,8 @@ pub record State (mix ch : List ℕ) (k allowance : ℕ) (b : List ℕ) (r : ℕ
   pub sound : Sound ch k b
   pub clean : Clean ch k b
   pub sums : (c : ℕ) → c < COMPONENTS → Shared mix ch k c → columnOf k b c ≡ getD mix c 0
-  pub small : (s : ℕ) → natAbs (numberAt ch b s) ≤ LARGEST
-  pub falls : imbalanceOf (numberAt ch b) k + r ≤ imbalanceOf (numberAt ch (startOf mix ch k)) k
+  pub small : (s : ℕ) → natAbs (rowNumber ch b s) ≤ LARGEST
+  pub falls : imbalanceOf (rowNumber ch b) k + r ≤ imbalanceOf (rowNumber ch (startOf mix ch k)) k
   pub rounds : r ≤ allowance
 
 pub reached-state : {mix ch : List ℕ} {k limit level allowance : ℕ} {b : List ℕ} {l r : ℕ} → SearchInput mix ch k level → Reached ch k limit level allowance (startOf mix ch k) b l r → State mix ch k allowance b r
@@ -147,7 +149,7 @@ pub record Balance (mix ch : List ℕ) (k limit allowance : ℕ) (a : List ℕ) 
   pub sound : Sound ch k a
   pub clean : Clean ch k a
   pub sums : (c : ℕ) → c < COMPONENTS → Shared mix ch k c → columnOf k a c ≡ getD mix c 0
-  pub spread : s ≡ spreadOf (numberAt ch a) k
+  pub spread : s ≡ spreadOf (rowNumber ch a) k
   pub within : s ≤ limit
   pub rounds : r ≤ allowance
 

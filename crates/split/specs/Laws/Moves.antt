@@ -8,9 +8,10 @@ use lib.Dec.{eqb}
 use lib.ListN.{length, getD, set, length-set}
 use lib.Seq.{getD-set-same, getD-set-other}
 use borrow.Author.Tests.{eqb-true, eqb-false}
+use Rattle.integer.specs.Figures.{MILLION}
 use Rattle.split.specs.Fold.{sumTo}
 use Rattle.systems.specs.Systems.{COMPONENTS, memberOf, hasOf}
-use Rattle.split.specs.Split.{SYSTEMS, CELLS, cellOf, systemOf, partsOf, columnOf, numberAt, Chosen, Sound}
+use Rattle.split.specs.Split.{SYSTEMS, CELLS, cellOf, systemOf, partsOf, columnOf, rowNumber, Chosen, Sound}
 use Rattle.split.specs.Move.{shift}
 use Rattle.split.specs.Laws.Folds.{sum-same, sum-shift, sum-has}
 use Rattle.systems.specs.Laws.Members.{has-cases}
@@ -64,7 +65,7 @@ module _ (a : List ℕ) (f t c d : ℕ) (long : length a ≡ CELLS) (lf : f < SY
     pub few-same : sumTo (columnOf k after) COMPONENTS ≡ sumTo (columnOf k a) COMPONENTS
     few-same = sum-same (columnOf k after) (columnOf k a) COMPONENTS column-same
 
-    pub taken-fits : sumTo (columnOf k a) COMPONENTS ≤ 1000000 → cellOf a t c + d ≤ 1000000
+    pub taken-fits : sumTo (columnOf k a) COMPONENTS ≤ MILLION → cellOf a t c + d ≤ MILLION
     taken-fits few = omega (arith, cell-taker, cell-in k after t c kt, sum-has (columnOf k after) COMPONENTS c lc, few-same)
 
     -- the rows
@@ -107,8 +108,8 @@ module _ (a : List ℕ) (f t c d : ℕ) (long : length a ≡ CELLS) (lf : f < SY
           at (suc (suc zero)) l e = omega (arith, here (memberOf (systemOf ch f) 2) e, cell-column f (memberOf (systemOf ch f) 0) (w .low0) (λ z. w .ne20 (sym (z ∙ e))), cell-column f (memberOf (systemOf ch f) 1) (w .low1) (λ z. w .ne21 (sym (z ∙ e))))
           at (suc (suc (suc j))) l e = absurd (omega arith)
 
-      pub number-other : (s : ℕ) → s < k → (s ≡ f → ⊥) → (s ≡ t → ⊥) → numberAt ch after s ≡ numberAt ch a s
-      unfolding numberAt
+      pub number-other : (s : ℕ) → s < k → (s ≡ f → ⊥) → (s ≡ t → ⊥) → rowNumber ch after s ≡ rowNumber ch a s
+      unfolding rowNumber
       number-other s h p q =
           let w = lows s h in
           rw (cell-row s (memberOf (systemOf ch s) 0) (w .low0) p q, cell-row s (memberOf (systemOf ch s) 1) (w .low1) p q, cell-row s (memberOf (systemOf ch s) 2) (w .low2) p q)

@@ -2,6 +2,7 @@
 use Prim.Native.Nat.{ℕ, _≤_, _<_}
 use mathlib.Core.List.{List}
 use native.Mathlib.Omega.{arith}
+use Rattle.integer.specs.Figures.{MILLION}
 use Rattle.systems.specs.Systems.{COMPONENTS, memberOf}
 use Rattle.split.specs.Split.{cellOf, systemOf, partsOf, columnOf, Stock}
 use Rattle.split.specs.Laws.Folds.{sum-has, sum-three}
@@ -11,7 +12,7 @@ pub cell-in : (k : ℕ) (a : List ℕ) (s c : ℕ) → s < k → cellOf a s c �
 unfolding columnOf
 cell-in k a s c h = sum-has (λ r. cellOf a r c) k s h
 
-pub parts-few : (ch : List ℕ) (k : ℕ) (a : List ℕ) (s : ℕ) → Stock ch k a → s < k → partsOf ch a s ≤ 1000000
+pub parts-few : (ch : List ℕ) (k : ℕ) (a : List ℕ) (s : ℕ) → Stock ch k a → s < k → partsOf ch a s ≤ MILLION
 unfolding partsOf
 parts-few ch k a s st h =
     let t = three (systemOf ch s) (st .chosen .known s h) in

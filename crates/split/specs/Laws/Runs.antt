@@ -7,10 +7,10 @@ use native.Mathlib.Omega.{arith}
 use lib.Dec.{leb, ltb, eqb}
 use borrow.Author.Tests.{leb-true, ltb-true, leb-false, ltb-false, eqb-true, eqb-false}
 use Rattle.systems.specs.Systems.{COMPONENTS}
-use Rattle.split.specs.Split.{numberAt, columnOf, Sound}
+use Rattle.split.specs.Split.{rowNumber, columnOf, Sound}
 use Rattle.split.specs.Rating.{spreadOf}
 use Rattle.split.specs.Move.{MOVES, imbalanceOf, firstOf, lowersOf}
-use Rattle.split.specs.Search.{goOn, turnOf, stepOf, found, runOf, searchOf}
+use Rattle.split.specs.Search.{goOn, turnOf, stepOf, foundOf, runOf, searchOf}
 use Rattle.split.specs.declared.Turn.{Turn}
 use Rattle.split.specs.declared.Turn.the-variants.{Rate, Refuse, Move, Halve}
 use Rattle.split.specs.declared.Search.the-variants.{Balanced, Unbalanced, Unfit}
@@ -20,8 +20,8 @@ use Rattle.split.specs.Laws.Turns.{go-move, go-refuse, go-halve, turn-ra
 
 -- one induction over the turns serves every theorem
 module _ (ch : List ℕ) (k : ℕ) (limit allowance : ℕ) (P : List ℕ → ℕ → ℕ → Found → Type 0)
-    (spent : (a : List ℕ) (l r : ℕ) → P a l r (found a Unbalanced))
-    (rate : (a : List ℕ) (l r s : ℕ) → turnOf ch k limit allowance a l r ≡ Rate s → P a l r (found a (Balanced s r)))
+    (spent : (a : List ℕ) (l r : ℕ) → P a l r (foundOf a Unbalanced))
+    (rate : (a : List ℕ) (l r s : ℕ) → turnOf ch k limit allowance a l r ≡ Rate s → P a l r (foundOf a (Balanced s r)))
     (move : (a : List ℕ) (l r m : ℕ) (o : Found) → turnOf ch k limit allowance a l r ≡ Move m → P (stepOf a m l) l (r + 1) o → P a l r o)
     (halve : (a : List ℕ) (l r : ℕ) (o : Found) → turnOf ch k limit allowance a l r ≡ Halve → P a (l - 1) r o → P a l r o) where
   step : (n : ℕ) (a : List ℕ) (l r : ℕ) → ((b : List ℕ) (l′ r′ : ℕ) → P b l′ r′ (runOf ch k limit allowance n b l′ r′))
@@ -41,9 +41,9 @@ pub step-keeps : (ch : List ℕ) (k : ℕ) (limit allowance : ℕ) (a : List ℕ
 step-keeps ch k limit allowance a l r m c s t h = moved-keeps ch k a (2 ^ l) m s (moves ch k limit allowance a l r m t .fit) c h
 
 -- each move lowers the imbalance
-pub step-lowers : (ch : List ℕ) (k : ℕ) (limit allowance : ℕ) (a : List ℕ) (l r m : ℕ) → turnOf ch k limit allowance a l r ≡ Move m → imbalanceOf (numberAt ch (stepOf a m l)) k < imbalanceOf (numberAt ch a) k
+pub step-lowers : (ch : List ℕ) (k : ℕ) (limit allowance : ℕ) (a : List ℕ) (l r m : ℕ) → turnOf ch k limit allowance a l r ≡ Move m → imbalanceOf (rowNumber ch (stepOf a m l)) k < imbalanceOf (rowNumber ch a) k
 unfolding lowersOf
-step-lowers ch k limit allowance a l r m t = ltb-true (imbalanceOf (numberAt ch (stepOf a m l)) k) (imbalanceOf (numberAt ch a) k) (moves ch k limit allowance a l r m t .lowers)
+step-lowers ch k limit allowance a l r m t = ltb-true (imbalanceOf (rowNumber ch (stepOf a m l)) k) (imbalanceOf (rowNumber ch a) k) (moves ch k limit allowance a l r m t .lowers)
 
 pub record Kept (ch : List ℕ) (k : ℕ) (a b : List ℕ) : Type 0 where
   pub sound : Sound ch k b
@@ -64,7 +64,7 @@ reached-kept s (halved x t) = reached-kept s x
 
 -- the imbalance of a state that is reached has fallen with every round
 pub reached-falls : {ch : List ℕ} {k : ℕ} {limit level allowance : ℕ} {a b : List ℕ} {l r : ℕ} → Reached ch k limit level allowance a b l r
-    → imbalanceOf (numberAt ch b) k + r ≤ imbalanceOf (numberAt ch a) k
+    → imbalanceOf (rowNumber ch b) k + r ≤ imbalanceOf (rowNumber ch a) k
 reached-falls start = omega arith
 reached-falls {ch} {k} {limit} {level} {allowance} (moved {b = b} {l = l} {r = r} m x t) = omega (arith, reached-falls x, step-lowers ch k limit allowance b l r m t)
 reached-falls (halved x t) = reached-falls x
@@ -99,24 +99,24 @@ goes-rate l first s false false e f t =
     let u = go-halve l first (ltb-false first MOVES e) (eqb-false l 0 f) in
     let z : _≡_ {A = ℕ} 0 1 = cc in omega arith
 
-on-rate : (ch : List ℕ) (k : ℕ) (limit allowance : ℕ) (a : List ℕ) (l r s : ℕ) (p q : Bool) → leb (spreadOf (numberAt ch a) k) limit ≡ p → eqb r allowance ≡ q
-    → turnOf ch k limit allowance a l r ≡ Rate s → (spreadOf (numberAt ch a) k ≤ limit) × (s ≡ spreadOf (numberAt ch a) k)
+on-rate : (ch : List ℕ) (k : ℕ) (limit allowance : ℕ) (a : List ℕ) (l r s : ℕ) (p q : Bool) → leb (spreadOf (rowNumber ch a) k) limit ≡ p → eqb r allowance ≡ q
+    → turnOf ch k limit allowance a l r ≡ Rate s → (spreadOf (rowNumber ch a) k ≤ limit) × (s ≡ spreadOf (rowNumber ch a) k)
 on-rate ch k limit allowance a l r s true q e f t =
-    let h = leb-true (spreadOf (numberAt ch a) k) limit e in
+    let h = leb-true (spreadOf (rowNumber ch a) k) limit e in
     let u = turn-rate ch k limit allowance a l r h in
     (h, cc)
 on-rate ch k limit allowance a l r s false true e f t =
-    let u = turn-refuse ch k limit allowance a l r (leb-false (spreadOf (numberAt ch a) k) limit e) (eqb-true r allowance f) in
+    let u = turn-refuse ch k limit allowance a l r (leb-false (spreadOf (rowNumber ch a) k) limit e) (eqb-true r allowance f) in
     absurd (let z : _≡_ {A = ℕ} 0 1 = cc in omega arith)
 on-rate ch k limit allowance a l r s false false e f t =
-    absurd (goes-rate l (firstOf ch k a (2 ^ l)) s _ _ refl refl (turn-on ch k limit allowance a l r (leb-false (spreadOf (numberAt ch a) k) limit e) (eqb-false r allowance f) ∙ t))
+    absurd (goes-rate l (firstOf ch k a (2 ^ l)) s _ _ refl refl (turn-on ch k limit allowance a l r (leb-false (spreadOf (rowNumber ch a) k) limit e) (eqb-false r allowance f) ∙ t))
 
-pub rates : (ch : List ℕ) (k : ℕ) (limit allowance : ℕ) (a : List ℕ) (l r s : ℕ) → turnOf ch k limit allowance a l r ≡ Rate s → (spreadOf (numberAt ch a) k ≤ limit) × (s ≡ spreadOf (numberAt ch a) k)
+pub rates : (ch : List ℕ) (k : ℕ) (limit allowance : ℕ) (a : List ℕ) (l r s : ℕ) → turnOf ch k limit allowance a l r ≡ Rate s → (spreadOf (rowNumber ch a) k ≤ limit) × (s ≡ spreadOf (rowNumber ch a) k)
 rates ch k limit allowance a l r s t = on-rate ch k limit allowance a l r s _ _ refl refl t
 
 -- the split that is found has the spread that the answer says, which the limit allows
 abbrev Says : List ℕ → ℕ → ℕ → Found → Type 0
-Says ch k limit o = (s q : ℕ) → o .search ≡ Balanced s q → (s ≡ spreadOf (numberAt ch (o .cells)) k) × (s ≤ limit)
+Says ch k limit o = (s q : ℕ) → o .search ≡ Balanced s q → (s ≡ spreadOf (rowNumber ch (o .cells)) k) × (s ≤ limit)
 
 pub result-says : (ch : List ℕ) (k : ℕ) (limit allowance n : ℕ) (a : List ℕ) (l r : ℕ) → Says ch k limit (runOf ch k limit allowance n a l r)
 result-says ch k limit allowance n a l r =
@@ -155,11 +155,11 @@ result-rounds ch k limit allowance n a l r =
 
 -- a larger allowance leaves a rated result as it was
 turn-more : (ch : List ℕ) (k : ℕ) (limit few many : ℕ) (a : List ℕ) (l r : ℕ) → (r ≡ few → ⊥) → (r ≡ many → ⊥) → turnOf ch k limit many a l r ≡ turnOf ch k limit few a l r
-turn-more ch k limit few many a l r h g = go (leb (spreadOf (numberAt ch a) k) limit) refl
+turn-more ch k limit few many a l r h g = go (leb (spreadOf (rowNumber ch a) k) limit) refl
   where
-    go : (p : Bool) → leb (spreadOf (numberAt ch a) k) limit ≡ p → turnOf ch k limit many a l r ≡ turnOf ch k limit few a l r
-    go true e = let x = leb-true (spreadOf (numberAt ch a) k) limit e in sym (turn-rate ch k limit many a l r x) ∙ turn-rate ch k limit few a l r x
-    go false e = let x = leb-false (spreadOf (numberAt ch a) k) limit e in sym (turn-on ch k limit many a l r x g) ∙ turn-on ch k limit few a l r x h
+    go : (p : Bool) → leb (spreadOf (rowNumber ch a) k) limit ≡ p → turnOf ch k limit many a l r ≡ turnOf ch k limit few a l r
+    go true e = let x = leb-true (spreadOf (rowNumber ch a) k) limit e in sym (turn-rate ch k limit many a l r x) ∙ turn-rate ch k limit few a l r x
+    go false e = let x = leb-false (spreadOf (rowNumber ch a) k) limit e in sym (turn-on ch k limit many a l r x g) ∙ turn-on ch k limit few a l r x h
 
 module _ (ch : List ℕ) (k : ℕ) (limit few many : ℕ) (more : few ≤ many) where
   abbrev Same : List ℕ → ℕ → ℕ → Found → Type 0
@@ -179,7 +179,7 @@ module _ (ch : List ℕ) (k : ℕ) (limit few many : ℕ) (more : few ≤ many) 
       let u = under ch k limit few a l r t in
       run-halve ch k limit many a l r f (turn-more ch k limit few many a l r u (λ x. omega (arith, u)) ∙ t) ∙ ih s q e h f (omega (arith, v))
 
-  rate-same : (a : List ℕ) (l r w : ℕ) → turnOf ch k limit few a l r ≡ Rate w → Same a l r (found a (Balanced w r))
+  rate-same : (a : List ℕ) (l r w : ℕ) → turnOf ch k limit few a l r ≡ Rate w → Same a l r (foundOf a (Balanced w r))
   rate-same a l r w t s q e h zero g = absurd (omega arith)
   rate-same a l r w t s q e h (suc f) g =
       let z = rates ch k limit few a l r w t in

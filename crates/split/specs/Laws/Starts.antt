@@ -9,11 +9,12 @@ use native.Mathlib.Omega.{arith}
 use lib.Dec.{ltb, eqb}
 use lib.ListN.{length, getD}
 use borrow.Author.Tests.{lt-ltb, le-ltb, ltb-true, ltb-false, eqb-true, eqb-false}
+use Rattle.integer.specs.Figures.{MILLION}
 use Rattle.systems.specs.Systems.{COMPONENTS, memberOf, hasOf}
 use Rattle.systems.specs.Laws.Members.{has-cases}
 use Rattle.split.specs.Fold.{sumTo}
 use Rattle.split.specs.Split.{SYSTEMS, CELLS, cellOf, systemOf, partsOf, columnOf, heldOf, Chosen, Stock, Sound}
-use Rattle.split.specs.Start.{sharersOf, shareOf, givenOf, startCell, startOf}
+use Rattle.split.specs.Start.{sharersOf, shareOf, startAmount, startCell, startOf}
 use Rattle.split.specs.Laws.Tables.{length-table, getD-table}
 use Rattle.split.specs.Laws.Folds.{sum-le, sum-more, sum-none, sum-same, sum-has}
 
@@ -62,11 +63,11 @@ Shared mix ch k c = (getD mix c 0 ≡ 0) ⊎ (0 < sharersOf ch c k)
 module _ (mix ch : List ℕ) (k : ℕ) (most : k ≤ SYSTEMS) where
   cell-start : (s c : ℕ) → s < k → c < COMPONENTS
       → cellOf (startOf mix ch k) s c ≡ cond (hasOf (systemOf ch s) c) (shareOf (getD mix c 0) (sharersOf ch c k) (sharersOf ch c s)) 0
-  unfolding startOf givenOf heldOf
+  unfolding startOf startAmount heldOf
   cell-start s c h l =
       let row : (0 + (s * COMPONENTS + c)) / COMPONENTS ≡ s = omega arith in
       let col : (0 + (s * COMPONENTS + c)) % COMPONENTS ≡ c = omega arith in
-      getD-table (startCell mix ch k) CELLS 0 (s * COMPONENTS + c) (omega arith) ∙ ap₂ (givenOf mix ch k) row col ∙ rw (lt-ltb s k h, givenOf)
+      getD-table (startCell mix ch k) CELLS 0 (s * COMPONENTS + c) (omega arith) ∙ ap₂ (startAmount mix ch k) row col ∙ rw (lt-ltb s k h, startAmount)
 
   start-column : (c : ℕ) → c < COMPONENTS → columnOf k (startOf mix ch k) c ≡ sumTo (shareOf (getD mix c 0) (sharersOf ch c k)) (sharersOf ch c k)
   unfolding columnOf sharersOf
@@ -97,7 +98,7 @@ module _ (mix ch : List ℕ) (k : ℕ) (most : k ≤ SYSTEMS) where
   unfolding startOf
   start-long = length-table (startCell mix ch k) CELLS 0
 
-  pub start-stock : sumTo (λ c. getD mix c 0) COMPONENTS ≤ 1000000 → Chosen ch k → Stock ch k (startOf mix ch k)
+  pub start-stock : sumTo (λ c. getD mix c 0) COMPONENTS ≤ MILLION → Chosen ch k → Stock ch k (startOf mix ch k)
   start-stock mi cn = record {
     chosen = cn;
     long = start-long;
@@ -106,21 +107,21 @@ module _ (mix ch : List ℕ) (k : ℕ) (most : k ≤ SYSTEMS) where
 
 -- the code's cell
 module _ (mix ch : List ℕ) (k s c : ℕ) where
-  pub cell-past : k ≤ s → 0 ≡ givenOf mix ch k s c
-  unfolding givenOf heldOf
-  cell-past h = rw (le-ltb s k h, givenOf)
+  pub cell-past : k ≤ s → 0 ≡ startAmount mix ch k s c
+  unfolding startAmount heldOf
+  cell-past h = rw (le-ltb s k h, startAmount)
 
   module _ (h : s < k) (system : ℕ) (b : Bool) (e : system ≡ systemOf ch s) (f : b ≡ hasOf system c) where
     has-is : b ≡ hasOf (systemOf ch s) c
     has-is = f ∙ ap (λ x. hasOf x c) e
 
-    pub cell-off : b ≡ false → 0 ≡ givenOf mix ch k s c
-    unfolding givenOf heldOf
-    cell-off u = rw (lt-ltb s k h, sym has-is ∙ u, givenOf)
+    pub cell-off : b ≡ false → 0 ≡ startAmount mix ch k s c
+    unfolding startAmount heldOf
+    cell-off u = rw (lt-ltb s k h, sym has-is ∙ u, startAmount)
 
-    pub cell-on : (x n r : ℕ) → b ≡ true → x ≡ shareOf (getD mix c 0) n r → n ≡ sharersOf ch c k → r ≡ sharersOf ch c s → x ≡ givenOf mix ch k s c
-    unfolding givenOf heldOf
-    cell-on x n r u p q w = rw (lt-ltb s k h, sym has-is ∙ u, givenOf) (p ∙ ap₂ (shareOf (getD mix c 0)) q w)
+    pub cell-on : (x n r : ℕ) → b ≡ true → x ≡ shareOf (getD mix c 0) n r → n ≡ sharersOf ch c k → r ≡ sharersOf ch c s → x ≡ startAmount mix ch k s c
+    unfolding startAmount heldOf
+    cell-on x n r u p q w = rw (lt-ltb s k h, sym has-is ∙ u, startAmount) (p ∙ ap₂ (shareOf (getD mix c 0)) q w)
 
     pub some-sharer : (n : ℕ) → b ≡ true → n ≡ sharersOf ch c k → 0 < n
     unfolding sharersOf
@@ -178,7 +179,7 @@ pub record Supplied (mix ch : List ℕ) (k s : ℕ) : Type 0 where
   pub enough : k ≤ getD mix component 0
 
 -- then none is empty at the start
-pub start-sound : (mix ch : List ℕ) (k : ℕ) → Chosen ch k → sumTo (λ c. getD mix c 0) COMPONENTS ≤ 1000000
+pub start-sound : (mix ch : List ℕ) (k : ℕ) → Chosen ch k → sumTo (λ c. getD mix c 0) COMPONENTS ≤ MILLION
     → ((s : ℕ) → s < k → Supplied mix ch k s) → Sound ch k (startOf mix ch k)
 start-sound mix ch k cn few supplied = record {
   stock = start-stock mix ch k (cn .most) few cn;

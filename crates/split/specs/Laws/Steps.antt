@@ -7,13 +7,14 @@ use native.Mathlib.Omega.{arith}
 use lib.Dec.{eqb}
 use lib.IntN.{ℤ}
 use borrow.Author.Tests.{eqb-true, eqb-false}
+use Rattle.integer.specs.Figures.{MILLION}
 use Rattle.systems.specs.Systems.{COMPONENTS, memberOf}
 use Rattle.formula.specs.Partial.{partialNumber}
-use Rattle.split.specs.Split.{SYSTEMS, cellOf, systemOf, columnOf, numberAt, Sound}
+use Rattle.split.specs.Split.{SYSTEMS, cellOf, systemOf, columnOf, rowNumber, Sound}
 use Rattle.split.specs.Move.{MOVES, componentOf, giverOf, takerOf, movedOf}
 use Rattle.split.specs.Laws.Members.{Three}
 use Rattle.split.specs.Laws.Moves.{taken-fits, sound-after, number-other, column-same, cell-column, cell-giver, cell-taker}
-use Rattle.split.specs.Laws.Tests.{Fit, Between, between-true, Affords, affords-true}
+use Rattle.split.specs.Laws.Tests.{MayMove, Between, between-true, Affords, affords-true}
 
 -- row s's amount of component e where that of component c were n
 abbrev pub insteadOf : List ℕ → ℕ → ℕ → ℕ → ℕ → ℕ
@@ -37,12 +38,12 @@ module _ (a b : List ℕ) (s c n : ℕ) (w : Changed a b s c n) where
       go true z = let u : e ≡ c = eqb-true e c z in rw (z, u) (sym (w .here))
       go false z = rw z (sym (w .rest e l (eqb-false e c z)))
 
-  pub number-with : (ch : List ℕ) → Three (memberOf (systemOf ch s) 0) (memberOf (systemOf ch s) 1) (memberOf (systemOf ch s) 2) → numberWith ch a s c n ≡ numberAt ch b s
-  unfolding numberWith numberAt
+  pub number-with : (ch : List ℕ) → Three (memberOf (systemOf ch s) 0) (memberOf (systemOf ch s) 1) (memberOf (systemOf ch s) 2) → numberWith ch a s c n ≡ rowNumber ch b s
+  unfolding numberWith rowNumber
   number-with ch t =
       rw (instead-is (memberOf (systemOf ch s) 0) (t .low0), instead-is (memberOf (systemOf ch s) 1) (t .low1), instead-is (memberOf (systemOf ch s) 2) (t .low2))
 
-module _ (ch : List ℕ) (k : ℕ) (a : List ℕ) (d m : ℕ) (so : Sound ch k a) (fit : Fit ch k a d m) where
+module _ (ch : List ℕ) (k : ℕ) (a : List ℕ) (d m : ℕ) (so : Sound ch k a) (fit : MayMove ch k a d m) where
   pub bt : Between ch k m
   bt = between-true ch k m (fit .between)
 
@@ -58,7 +59,7 @@ module _ (ch : List ℕ) (k : ℕ) (a : List ℕ) (d m : ℕ) (so : Sound ch k a
   taker-low : takerOf m < SYSTEMS
   taker-low = omega arith
 
-  pub may-move : (m < MOVES) × (d ≤ cellOf a (giverOf m) (componentOf m)) × (cellOf a (takerOf m) (componentOf m) + d ≤ 1000000)
+  pub may-move : (m < MOVES) × (d ≤ cellOf a (giverOf m) (componentOf m)) × (cellOf a (takerOf m) (componentOf m) + d ≤ MILLION)
   may-move = (
     fit .below,
     af .had,
@@ -76,7 +77,7 @@ module _ (ch : List ℕ) (k : ℕ) (a : List ℕ) (d m : ℕ) (so : Sound ch k a
   moved-keeps c h = column-same a (giverOf m) (takerOf m) (componentOf m) d (so .stock .long) giver-low taker-low component-low (bt .apart) k (bt .from) (bt .to) (af .had) c h
 
   -- the other rows keep their partial numbers
-  pub rest-same : (s : ℕ) → s < k → (s ≡ giverOf m → ⊥) → (s ≡ takerOf m → ⊥) → numberAt ch (movedOf a m d) s ≡ numberAt ch a s
+  pub rest-same : (s : ℕ) → s < k → (s ≡ giverOf m → ⊥) → (s ≡ takerOf m → ⊥) → rowNumber ch (movedOf a m d) s ≡ rowNumber ch a s
   unfolding movedOf
   rest-same s h p q =
       number-other a (giverOf m) (takerOf m) (componentOf m) d (so .stock .long) giver-low taker-low component-low (bt .apart) k (bt .from) (bt .to) (af .had) ch (so .stock .chosen) s h p q

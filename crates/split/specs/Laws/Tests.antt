@@ -11,7 +11,7 @@ use Rattle.split.specs.Move.{MOVES, componentOf, giverOf, takerOf, betwe
 use Rattle.split.specs.Laws.Members.{both-left, both-right}
 
 -- a move that may be made
-pub record Fit (ch : List ℕ) (k : ℕ) (a : List ℕ) (d m : ℕ) : Type 0 where
+pub record MayMove (ch : List ℕ) (k : ℕ) (a : List ℕ) (d m : ℕ) : Type 0 where
   pub below : m < MOVES
   pub between : betweenOf ch k m ≡ true
   pub affords : affordsOf ch a d m ≡ true
@@ -79,7 +79,7 @@ module _ (ch : List ℕ) (k m : ℕ) where
           lowers = both-right (affordsOf ch a d m) _ p;
         }
 
-    pub can-fit : m < MOVES → canOf ch k a d m ≡ true → Fit ch k a d m
+    pub can-fit : m < MOVES → canOf ch k a d m ≡ true → MayMove ch k a d m
     unfolding canOf
     can-fit h e =
         let p = both-right (betweenOf ch k m) _ e in

@@ -6,14 +6,14 @@ use mathlib.Core.List.{List}
 use native.Mathlib.Omega.{arith}
 use lib.Dec.{leb, ltb, eqb}
 use borrow.Author.Tests.{le-leb, lt-leb, lt-ltb, le-ltb, eq-eqb, ne-eqb, leb-true, ltb-true, leb-false, ltb-false, eqb-true, eqb-false}
-use Rattle.split.specs.Split.{numberAt, Sound}
+use Rattle.split.specs.Split.{rowNumber, Sound}
 use Rattle.split.specs.Rating.{spreadOf}
 use Rattle.split.specs.Move.{MOVES, canOf, lowersOf, firstOf}
-use Rattle.split.specs.Search.{goOn, turnOf, stepOf, found, runOf, searchOf}
+use Rattle.split.specs.Search.{goOn, turnOf, stepOf, foundOf, runOf, searchOf}
 use Rattle.split.specs.declared.Turn.the-variants.{Rate, Refuse, Move, Halve}
 use Rattle.split.specs.declared.Search.the-variants.{Balanced, Unbalanced}
 use Rattle.split.specs.declared.Found.{Found}
-use Rattle.split.specs.Laws.Tests.{Fit, can-true, can-fit}
+use Rattle.split.specs.Laws.Tests.{MayMove, can-true, can-fit}
 use Rattle.split.specs.Laws.Steps.{sound-moved}
 use Rattle.split.specs.Laws.Folds.{first-holds}
 
@@ -32,17 +32,17 @@ unfolding goOn
 go-halve level m h e = rw (le-ltb m MOVES h, ne-eqb level 0 e, goOn)
 
 module _ (ch : List ℕ) (k : ℕ) (limit allowance : ℕ) (a : List ℕ) (level rounds : ℕ) where
-  pub turn-rate : spreadOf (numberAt ch a) k ≤ limit → Rate (spreadOf (numberAt ch a) k) ≡ turnOf ch k limit allowance a level rounds
+  pub turn-rate : spreadOf (rowNumber ch a) k ≤ limit → Rate (spreadOf (rowNumber ch a) k) ≡ turnOf ch k limit allowance a level rounds
   unfolding turnOf
-  turn-rate h = rw (le-leb (spreadOf (numberAt ch a) k) limit h, turnOf)
+  turn-rate h = rw (le-leb (spreadOf (rowNumber ch a) k) limit h, turnOf)
 
-  pub turn-refuse : limit < spreadOf (numberAt ch a) k → rounds ≡ allowance → Refuse ≡ turnOf ch k limit allowance a level rounds
+  pub turn-refuse : limit < spreadOf (rowNumber ch a) k → rounds ≡ allowance → Refuse ≡ turnOf ch k limit allowance a level rounds
   unfolding turnOf
-  turn-refuse h e = rw (lt-leb (spreadOf (numberAt ch a) k) limit h, eq-eqb rounds allowance e, turnOf)
+  turn-refuse h e = rw (lt-leb (spreadOf (rowNumber ch a) k) limit h, eq-eqb rounds allowance e, turnOf)
 
-  pub turn-on : limit < spreadOf (numberAt ch a) k → (rounds ≡ allowance → ⊥) → goOn level (firstOf ch k a (2 ^ level)) ≡ turnOf ch k limit allowance a level rounds
+  pub turn-on : limit < spreadOf (rowNumber ch a) k → (rounds ≡ allowance → ⊥) → goOn level (firstOf ch k a (2 ^ level)) ≡ turnOf ch k limit allowance a level rounds
   unfolding turnOf
-  turn-on h e = rw (lt-leb (spreadOf (numberAt ch a) k) limit h, ne-eqb rounds allowance e, turnOf)
+  turn-on h e = rw (lt-leb (spreadOf (rowNumber ch a) k) limit h, ne-eqb rounds allowance e, turnOf)
 
 -- the tests, from a turn
 
@@ -67,31 +67,31 @@ goes-halve level mv false q e f t z =
 
 module _ (ch : List ℕ) (k : ℕ) (limit allowance : ℕ) (a : List ℕ) (level rounds : ℕ) where
   -- a turn that neither rates nor refuses
-  on-move : (m : ℕ) (p q : Bool) → leb (spreadOf (numberAt ch a) k) limit ≡ p → eqb rounds allowance ≡ q → turnOf ch k limit allowance a level rounds ≡ Move m
+  on-move : (m : ℕ) (p q : Bool) → leb (spreadOf (rowNumber ch a) k) limit ≡ p → eqb rounds allowance ≡ q → turnOf ch k limit allowance a level rounds ≡ Move m
       → (rounds ≡ allowance → ⊥) × (goOn level (firstOf ch k a (2 ^ level)) ≡ Move m)
   on-move m true q e f t =
-      let u = turn-rate ch k limit allowance a level rounds (leb-true (spreadOf (numberAt ch a) k) limit e) in
+      let u = turn-rate ch k limit allowance a level rounds (leb-true (spreadOf (rowNumber ch a) k) limit e) in
       absurd (let z : _≡_ {A = ℕ} 0 1 = cc in omega arith)
   on-move m false true e f t =
-      let u = turn-refuse ch k limit allowance a level rounds (leb-false (spreadOf (numberAt ch a) k) limit e) (eqb-true rounds allowance f) in
+      let u = turn-refuse ch k limit allowance a level rounds (leb-false (spreadOf (rowNumber ch a) k) limit e) (eqb-true rounds allowance f) in
       absurd (let z : _≡_ {A = ℕ} 0 1 = cc in omega arith)
   on-move m false false e f t =
-      (eqb-false rounds allowance f, turn-on ch k limit allowance a level rounds (leb-false (spreadOf (numberAt ch a) k) limit e) (eqb-false rounds allowance f) ∙ t)
+      (eqb-false rounds allowance f, turn-on ch k limit allowance a level rounds (leb-false (spreadOf (rowNumber ch a) k) limit e) (eqb-false rounds allowance f) ∙ t)
 
-  on-halve : (p q : Bool) → leb (spreadOf (numberAt ch a) k) limit ≡ p → eqb rounds allowance ≡ q → turnOf ch k limit allowance a level rounds ≡ Halve
+  on-halve : (p q : Bool) → leb (spreadOf (rowNumber ch a) k) limit ≡ p → eqb rounds allowance ≡ q → turnOf ch k limit allowance a level rounds ≡ Halve
       → (rounds ≡ allowance → ⊥) × (goOn level (firstOf ch k a (2 ^ level)) ≡ Halve)
   on-halve true q e f t =
-      let u = turn-rate ch k limit allowance a level rounds (leb-true (spreadOf (numberAt ch a) k) limit e) in
+      let u = turn-rate ch k limit allowance a level rounds (leb-true (spreadOf (rowNumber ch a) k) limit e) in
       absurd (let z : _≡_ {A = ℕ} 0 1 = cc in omega arith)
   on-halve false true e f t =
-      let u = turn-refuse ch k limit allowance a level rounds (leb-false (spreadOf (numberAt ch a) k) limit e) (eqb-true rounds allowance f) in
+      let u = turn-refuse ch k limit allowance a level rounds (leb-false (spreadOf (rowNumber ch a) k) limit e) (eqb-true rounds allowance f) in
       absurd (let z : _≡_ {A = ℕ} 0 1 = cc in omega arith)
   on-halve false false e f t =
-      (eqb-false rounds allowance f, turn-on ch k limit allowance a level rounds (leb-false (spreadOf (numberAt ch a) k) limit e) (eqb-false rounds allowance f) ∙ t)
+      (eqb-false rounds allowance f, turn-on ch k limit allowance a level rounds (leb-false (spreadOf (rowNumber ch a) k) limit e) (eqb-false rounds allowance f) ∙ t)
 
   pub record Moves (m : ℕ) : Type 0 where
     pub unspent : rounds ≡ allowance → ⊥
-    pub fit : Fit ch k a (2 ^ level) m
+    pub fit : MayMove ch k a (2 ^ level) m
     pub lowers : lowersOf ch k a (2 ^ level) m ≡ true
 
   pub moves : (m : ℕ) → turnOf ch k limit allowance a level rounds ≡ Move m → Moves m
@@ -116,11 +116,11 @@ module _ (ch : List ℕ) (k : ℕ) (limit allowance : ℕ) (a : List ℕ) (level
   sound-step m s t = sound-moved ch k a (2 ^ level) m s (moves m t .fit)
 
   -- the run's turns
-  pub run-rate : (n s : ℕ) → turnOf ch k limit allowance a level rounds ≡ Rate s → runOf ch k limit allowance (suc n) a level rounds ≡ found a (Balanced s rounds)
+  pub run-rate : (n s : ℕ) → turnOf ch k limit allowance a level rounds ≡ Rate s → runOf ch k limit allowance (suc n) a level rounds ≡ foundOf a (Balanced s rounds)
   unfolding runOf
   run-rate n s e = rw (e, runOf)
 
-  pub run-refuse : (n : ℕ) → turnOf ch k limit allowance a level rounds ≡ Refuse → runOf ch k limit allowance (suc n) a level rounds ≡ found a (Unbalanced)
+  pub run-refuse : (n : ℕ) → turnOf ch k limit allowance a level rounds ≡ Refuse → runOf ch k limit allowance (suc n) a level rounds ≡ foundOf a (Unbalanced)
   unfolding runOf
   run-refuse n e = rw (e, runOf)
 

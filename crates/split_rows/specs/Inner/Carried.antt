@@ -4,8 +4,9 @@ use mathlib.Core.List.{List}
 use mathlib.Core.Path.{_≡_}
 use lib.IntN.{ℤ}
 use lib.ListN.{length}
+use Rattle.integer.specs.Figures.{MILLION}
 use Rattle.systems.specs.Systems.{memberOf, Candidate}
-use Rattle.split.specs.Split.{SYSTEMS, systemOf, numberAt, Sound}
+use Rattle.split.specs.Split.{SYSTEMS, systemOf, rowNumber, Sound}
 use Rattle.split.specs.Laws.Steps.{insteadOf}
 use Rattle.split_rows.specs.Rows.{listed}
 use Rattle.split_rows.specs.Inner.Small.{Small}
@@ -13,7 +14,7 @@ use Rattle.split_rows.specs.Inner.Small.{Small}
 -- v has the partial numbers of the k rows
 pub record Carried (ch : List ℕ) (k : ℕ) (a : List ℕ) (v : List ℤ) : Type 0 where
   pub long : length v ≡ SYSTEMS
-  pub are : (s : ℕ) → s < k → listed v s ≡ numberAt ch a s
+  pub are : (s : ℕ) → s < k → listed v s ≡ rowNumber ch a s
 
 -- a sound split with its partial numbers
 pub record Held (ch : List ℕ) (k : ℕ) (a : List ℕ) (v : List ℤ) : Type 0 where
@@ -30,4 +31,4 @@ pub record Workable (ch : List ℕ) (a : List ℕ) (s c n : ℕ) : Type 0 where
   pub row : s < SYSTEMS
   pub known : Candidate (systemOf ch s)
   pub some : 1 ≤ partsWith ch a s c n
-  pub few : partsWith ch a s c n ≤ 1000000
+  pub few : partsWith ch a s c n ≤ MILLION

@@ -9,6 +9,8 @@ use native.Mathlib.Numerals.{add-one}
 use mir.Syntax.{w64}
 use mir.Val.{toZ, ofZ}
 use lib.Dec.{ltb, leb, lit≤}
+use Rattle.integer.specs.Figures.{MILLION}
+use Rattle.refusal.specs.Keys.{isIn}
 use Rattle.integer.specs.Laws.Bits.{back}
 use lib.IntN.{ℤ, pos}
 use lib.ListN.{length, getD, set, length-set, replicate, length-replicate, getD-replicate}
@@ -22,11 +24,11 @@ use Rattle.ternary.specs.Answer.{isMixture, formulaOf}
 use Rattle.ternary.specs.Laws.Answer.{mixture-yes, mixture-of, formula-is, formula-12}
 use Rattle.ternary.specs.declared.Partial.{Partial}
 use Rattle.ternary.specs.declared.Partial.the-variants.{Number, Refused}
-use Rattle.systems.specs.Systems.{candidates, elem, memberOf, Candidate}
+use Rattle.systems.specs.Systems.{candidates, memberOf, Candidate}
 use Rattle.split.specs.Laws.Candidates.{known-system}
 use Rattle.split.specs.Fold.{allTo}
 use Rattle.split.specs.Laws.Folds.{all-each, all-of}
-use Rattle.split.specs.Split.{SYSTEMS, cellOf, systemOf, partsOf, numberAt, Stock, Sound}
+use Rattle.split.specs.Split.{SYSTEMS, cellOf, systemOf, partsOf, rowNumber, Stock, Sound}
 use Rattle.split.specs.Laws.Members.{both-right}
 use Rattle.split.specs.Rating.{someEmpty}
 use Rattle.split.specs.Laws.Rows.{parts-few}
@@ -104,32 +106,32 @@ module _ (system : ℕ) (a : List ℕ) (s : ℕ) where
   abbrev n3 : ℕ
   n3 = cellOf a s (memberOf system 2)
 
-  pub no-candidate : elem system candidates ≡ false → Refused 13 ≡ answerIn system a s
+  pub no-candidate : isIn system candidates ≡ false → Refused 13 ≡ answerIn system a s
   unfolding answerIn
   no-candidate e = sym (rw (e, answerIn))
 
-  pub candidate-answer : elem system candidates ≡ true → formulaOf system n1 n2 n3 ≡ answerIn system a s
+  pub candidate-answer : isIn system candidates ≡ true → formulaOf system n1 n2 n3 ≡ answerIn system a s
   unfolding answerIn
   candidate-answer e = sym (rw (e, answerIn))
 
-  pub answer-is : (w x y z : ℕ) → w ≡ system → x ≡ n1 → y ≡ n2 → z ≡ n3 → elem system candidates ≡ true
+  pub answer-is : (w x y z : ℕ) → w ≡ system → x ≡ n1 → y ≡ n2 → z ≡ n3 → isIn system candidates ≡ true
       → formulaOf w x y z ≡ answerIn system a s
   answer-is w x y z o p q r e = rw (o, p, q, r) (candidate-answer e)
 
   -- a number is that of a candidate at a mixture
   pub record Worked (x : ℤ) : Type 0 where
-    pub listed : elem system candidates ≡ true
+    pub listed : isIn system candidates ≡ true
     pub mixture : isMixture (partsIn system a s) ≡ true
     pub some : 0 < partsIn system a s
-    pub few : partsIn system a s ≤ 1000000
+    pub few : partsIn system a s ≤ MILLION
     pub value : x ≡ partialNumber system n1 n2 n3
 
   module _ (p : Partial) (q : p ≡ answerIn system a s) where
     pub worked : (x : ℤ) → p ≡ Number x → Worked x
     unfolding partsIn answerIn
-    worked x u = go (elem system candidates) (isMixture (n1 + n2 + n3)) refl refl
+    worked x u = go (isIn system candidates) (isMixture (n1 + n2 + n3)) refl refl
       where
-        go : (b m : Bool) → elem system candidates ≡ b → isMixture (n1 + n2 + n3) ≡ m → Worked x
+        go : (b m : Bool) → isIn system candidates ≡ b → isMixture (n1 + n2 + n3) ≡ m → Worked x
         go true true e f =
             let g = mixture-of (n1 + n2 + n3) f in
             let k : isSystem system ≡ true = known-system system (record { listed = e }) in
@@ -144,11 +146,11 @@ module _ (system : ℕ) (a : List ℕ) (s : ℕ) where
             let t : p ≡ Refused 13 = q ∙ sym (no-candidate e) in
             absurd (let z : _≡_ {A = ℕ} 0 1 = cc in omega arith)
 
-    pub refused : (n : ℕ) → p ≡ Refused n → (elem system candidates && isMixture (partsIn system a s)) ≡ false
+    pub refused : (n : ℕ) → p ≡ Refused n → (isIn system candidates && isMixture (partsIn system a s)) ≡ false
     unfolding partsIn answerIn
-    refused n u = go (elem system candidates) (isMixture (n1 + n2 + n3)) refl refl
+    refused n u = go (isIn system candidates) (isMixture (n1 + n2 + n3)) refl refl
       where
-        go : (b m : Bool) → elem system candidates ≡ b → isMixture (n1 + n2 + n3) ≡ m → (elem system candidates && isMixture (n1 + n2 + n3)) ≡ false
+        go : (b m : Bool) → isIn system candidates ≡ b → isMixture (n1 + n2 + n3) ≡ m → (isIn system candidates && isMixture (n1 + n2 + n3)) ≡ false
         go true true e f =
             let g = mixture-of (n1 + n2 + n3) f in
             let k : isSystem system ≡ true = known-system system (record { listed = e }) in
@@ -174,11 +176,11 @@ module _ (ch a : List ℕ) where
       found : Worked (systemOf ch s) a s x
       found = worked (systemOf ch s) a s p q x u
 
-      pub may-parts : s < SYSTEMS → Candidate (systemOf ch s) × (s < SYSTEMS) × (partsIn (systemOf ch s) a s ≤ 1000000)
+      pub may-parts : s < SYSTEMS → Candidate (systemOf ch s) × (s < SYSTEMS) × (partsIn (systemOf ch s) a s ≤ MILLION)
       may-parts l = (record { listed = found .listed }, l, found .few)
 
-      pub more-numbers : toZ w64 (ofZ w64 x) ≡ numberAt ch a s
-      unfolding numberAt
+      pub more-numbers : toZ w64 (ofZ w64 x) ≡ rowNumber ch a s
+      unfolding rowNumber
       more-numbers = rw (found .value) (back (partialNumber (systemOf ch s) (n1 (systemOf ch s) a s) (n2 (systemOf ch s) a s) (n3 (systemOf ch s) a s)) (N.le-trans (partial-small (systemOf ch s) (n1 (systemOf ch s) a s) (n2 (systemOf ch s) a s) (n3 (systemOf ch s) a s)) (lit≤ tt)))
 
       pub more-parts : (n : ℕ) → n ≡ partsIn (systemOf ch s) a s → n ≡ partsOf ch a s
@@ -211,7 +213,7 @@ module _ (ch : List ℕ) (k : ℕ) (a : List ℕ) where
       go false f = sym (rw (f, rowsOf))
       go true f = absurd (let w : 0 ≡ 1 = clash (sym e ∙ each-fit f s l) in omega arith)
 
-  pub rows-fit : k ≤ SYSTEMS → allTo (rowFit ch a) k ≡ true → (v : List ℤ) (p : List ℕ) → v ≡ upTo (pos 0) k (numberAt ch a) SYSTEMS 0 → p ≡ upTo 0 k (partsOf ch a) SYSTEMS 0
+  pub rows-fit : k ≤ SYSTEMS → allTo (rowFit ch a) k ≡ true → (v : List ℤ) (p : List ℕ) → v ≡ upTo (pos 0) k (rowNumber ch a) SYSTEMS 0 → p ≡ upTo 0 k (partsOf ch a) SYSTEMS 0
       → record { fit = true; numbers = v; parts = p } ≡ rowsOf ch k a
   unfolding rowsOf rowsFit
   rows-fit h e v p x y = sym (rw (le-leb k SYSTEMS h, e, x, y, rowsOf, rowsFit))
@@ -251,10 +253,10 @@ module _ (ch : List ℕ) (k : ℕ) (a : List ℕ) where
             record {
               stock = st;
               some = λ s l.
-                  mixture-of (partsOf ch a s) (both-right (elem (systemOf ch s) candidates) _ (each-fit is-fit s l)) .0;
+                  mixture-of (partsOf ch a s) (both-right (isIn (systemOf ch s) candidates) _ (each-fit is-fit s l)) .0;
             }
 
-        numbers-are : r .numbers ≡ upTo (pos 0) k (numberAt ch a) SYSTEMS 0
+        numbers-are : r .numbers ≡ upTo (pos 0) k (rowNumber ch a) SYSTEMS 0
         unfolding rowsOf
         numbers-are = ap (λ x. x .numbers) q ∙ rw (is-fit, rowsOf)
 
@@ -263,16 +265,16 @@ module _ (ch : List ℕ) (k : ℕ) (a : List ℕ) where
         parts-are = ap (λ x. x .parts) q ∙ rw (is-fit, rowsOf)
 
         pub numbers-long : length (r .numbers) ≡ SYSTEMS
-        numbers-long = ap length numbers-are ∙ length-up (pos 0) k (numberAt ch a) SYSTEMS 0
+        numbers-long = ap length numbers-are ∙ length-up (pos 0) k (rowNumber ch a) SYSTEMS 0
 
-        pub number-of : (s : ℕ) → s < k → listed (r .numbers) s ≡ numberAt ch a s
-        number-of s l = ap (λ v. listed v s) numbers-are ∙ up-at (pos 0) k (numberAt ch a) SYSTEMS s (omega (arith, st .chosen .most)) l
+        pub number-of : (s : ℕ) → s < k → listed (r .numbers) s ≡ rowNumber ch a s
+        number-of s l = ap (λ v. listed v s) numbers-are ∙ up-at (pos 0) k (rowNumber ch a) SYSTEMS s (omega (arith, st .chosen .most)) l
 
         pub parts-of : (s : ℕ) → s < k → getD (r .parts) s 0 ≡ partsOf ch a s
         parts-of s l = ap (λ p. getD p s 0) parts-are ∙ up-at 0 k (partsOf ch a) SYSTEMS s (omega (arith, st .chosen .most)) l
 
         pub numbers-small : Small (r .numbers) k
-        unfolding numberAt
+        unfolding rowNumber
         numbers-small = record { most = st .chosen .most; each = λ s l. rw (number-of s l) (partial-small (systemOf ch s) (cellOf a s (memberOf (systemOf ch s) 0)) (cellOf a s (memberOf (systemOf ch s) 1)) (cellOf a s (memberOf (systemOf ch s) 2))) }
 
         pub fit-held : Held ch k a (r .numbers)

@@ -28,13 +28,13 @@ unfoldable pub partOf : ℕ → ℕ → ℕ → ℕ → ℕ
 partOf here share odd rank = cond (eqb here 0) 0 (share + cond (ltb rank odd) 1 0)
 
 -- row s's part of component c
-unfoldable pub rowOf : List ℕ → ℕ → ℕ → ℕ → ℕ → ℕ
-rowOf ch c share odd s = partOf (cond (hasOf (systemOf ch s) c) 1 0) share odd (sharersOf ch c s)
+unfoldable pub sharedRow : List ℕ → ℕ → ℕ → ℕ → ℕ → ℕ
+sharedRow ch c share odd s = partOf (cond (hasOf (systemOf ch s) c) 1 0) share odd (sharersOf ch c s)
 
 -- the cells a with component c's parts in the first n rows
 unfoldable pub columnTo : List ℕ → ℕ → ℕ → ℕ → List ℕ → ℕ → List ℕ
 columnTo ch c share odd a zero = a
-columnTo ch c share odd a (suc n) = set (columnTo ch c share odd a n) (n * COMPONENTS + c) (rowOf ch c share odd n)
+columnTo ch c share odd a (suc n) = set (columnTo ch c share odd a n) (n * COMPONENTS + c) (sharedRow ch c share odd n)
 
 -- the cells a with t parts of component c shared among the k rows
 unfoldable pub sharedOf : List ℕ → ℕ → ℕ → ℕ → List ℕ → List ℕ

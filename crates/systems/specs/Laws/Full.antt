@@ -10,7 +10,8 @@ use lib.Count.{ones}
 use lib.Dec.{T, eqb, ltb, eqb→eq, ltb→lt}
 use lib.ListN.{getD, set, replicate}
 use borrow.Author.Tests.{ltb-true, ltb-false, lt-ltb, le-ltb}
-use Rattle.systems.specs.Systems.{COMPONENTS, HYDROGEN, memberOf, hasOf, elem, candidates, hydrocarbonSystems}
+use Rattle.refusal.specs.Keys.{isIn}
+use Rattle.systems.specs.Systems.{COMPONENTS, HYDROGEN, memberOf, hasOf, candidates, hydrocarbonSystems}
 use Rattle.systems.specs.Laws.Table.{of-true, every, each, none-has}
 use Rattle.systems.specs.Laws.Scores.{score-open, score-closed, better-cases}
 use Rattle.systems.specs.Fittest.{elem-here, elem-there}
@@ -28,12 +29,12 @@ ltb-suc a b = go (ltb a b) refl
 -- ---- two keys that order the systems alike choose alike
 
 module _ (k l : ℕ → ℕ) (systems : List ℕ)
-    (alike : (s t : ℕ) → elem s systems ≡ true → elem t systems ≡ true
+    (alike : (s t : ℕ) → isIn s systems ≡ true → isIn t systems ≡ true
     → ltb (k s) (k t) ≡ ltb (l s) (l t)) where
   module _ (marks : List Bool) (c : ℕ) where
     -- what can be taken is one of the systems
     abbrev Known : ℕ → Type 0
-    Known s = openOf marks c s ≡ true → elem s systems ≡ true
+    Known s = openOf marks c s ≡ true → isIn s systems ≡ true
 
     score-alike : (s t : ℕ) → Known s → Known t
         → ltb (scoreOf k marks c s) (scoreOf k marks c t) ≡ ltb (scoreOf l marks c s) (scoreOf l marks c t)
@@ -61,7 +62,7 @@ module _ (k l : ℕ → ℕ) (systems : List ℕ)
     unfolding betterOf
     better-alike b s p q = rw (score-alike b s p q, betterOf)
 
-    best-alike : (xs : List ℕ) → ((s : ℕ) → elem s xs ≡ true → elem s systems ≡ true)
+    best-alike : (xs : List ℕ) → ((s : ℕ) → isIn s xs ≡ true → isIn s systems ≡ true)
         → (b : ℕ) → Known b
         → fold (betterOf k marks c) xs b ≡ fold (betterOf l marks c) xs b
     unfolding fold
@@ -113,7 +114,7 @@ threeIn present s = eqb (presentIn present s) 3
 -- the fitness alone decides
 module _ (mix : List ℕ) (p : ℕ) (is : presentOf mix ≡ p) (systems components : List ℕ)
     (three : T (every (threeIn p) systems)) (low : T (every (λ c. ltb c COMPONENTS) components)) where
-  three-in : (s : ℕ) → elem s systems ≡ true → presentIn (presentOf mix) s ≡ 3
+  three-in : (s : ℕ) → isIn s systems ≡ true → presentIn (presentOf mix) s ≡ 3
   unfolding threeIn
   three-in s e = ap (λ m. presentIn m s) is ∙ eqb→eq (presentIn p s) 3 (each (threeIn p) systems three s e)
 

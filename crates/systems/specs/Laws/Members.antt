@@ -7,7 +7,8 @@ use native.Mathlib.Omega.{arith}
 use lib.Dec.{T, eqb, ltb, leb, eqb→eq, ltb→lt, leb→le}
 use lib.ListN.{getD, length, List·getD-eq-default}
 use borrow.Author.Tests.{eqb-true, eq-eqb}
-use Rattle.systems.specs.Systems.{COMPONENTS, HYDROGEN, hydrocarbonSystems, members, memberOf, hasOf, elem, Candidate}
+use Rattle.refusal.specs.Keys.{isIn}
+use Rattle.systems.specs.Systems.{COMPONENTS, HYDROGEN, hydrocarbonSystems, members, memberOf, hasOf, Candidate}
 use Rattle.systems.specs.Laws.Table.{each-candidate, everyTo, eachTo, of-true, beq-is}
 
 -- the number of the numbers below n that the test passes at
@@ -63,13 +64,13 @@ has-three system k = eqb→eq (countTo (hasOf system) COMPONENTS) 3 (each-candid
 
 -- those of hydrocarbons alone are the ones that lack hydrogen
 lacksHydrogen : ℕ → Bool
-lacksHydrogen system = Bool·beq (elem system hydrocarbonSystems) (not (hasOf system HYDROGEN))
+lacksHydrogen system = Bool·beq (isIn system hydrocarbonSystems) (not (hasOf system HYDROGEN))
 
 pub hydrocarbons-are : (system : ℕ) → Candidate system
-    → elem system hydrocarbonSystems ≡ not (hasOf system HYDROGEN)
-unfolding lacksHydrogen elem hasOf memberOf
+    → isIn system hydrocarbonSystems ≡ not (hasOf system HYDROGEN)
+unfolding lacksHydrogen isIn hasOf memberOf
 hydrocarbons-are system k =
-    beq-is (elem system hydrocarbonSystems) (not (hasOf system HYDROGEN)) (each-candidate lacksHydrogen tt system k)
+    beq-is (isIn system hydrocarbonSystems) (not (hasOf system HYDROGEN)) (each-candidate lacksHydrogen tt system k)
 
 -- ---- of every number: a system contains its three members, and nothing else
 

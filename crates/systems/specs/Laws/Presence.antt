@@ -11,7 +11,8 @@ use lib.Count.{ones, ones-step}
 use lib.ListN.{getD}
 use lib.Pow.{shr-shr}
 use borrow.Author.Tests.{eqb-true, eqb-false, ltb-true, ltb-false, lt-ltb, le-ltb}
-use Rattle.systems.specs.Systems.{COMPONENTS, HYDROGEN, memberOf, hasOf, elem, candidates}
+use Rattle.refusal.specs.Keys.{isIn}
+use Rattle.systems.specs.Systems.{COMPONENTS, HYDROGEN, memberOf, hasOf, candidates}
 use Rattle.systems.specs.Laws.Table.{of-true, to-true, each}
 use Rattle.systems.specs.Laws.Members.{countTo}
 use Rattle.systems.specs.Choice.{fitnessOf, allTo, maskFrom, inMask, presentAt, presentOf, presentCount, maskOf, presentIn, standingOf, candidatesFor, candidatesOf, order, keep, chooseBy, chooseOf}
@@ -184,14 +185,14 @@ unfoldable pub Every : (ℕ → Type 0) → List ℕ → Type 0
 Every P [] = 0 ≤ 0
 Every P (x ∷ xs) = P x × Every P xs
 
-pub every-elem : (P : ℕ → Type 0) (xs : List ℕ) → Every P xs → (s : ℕ) → elem s xs ≡ true → P s
-unfolding Every elem
+pub every-elem : (P : ℕ → Type 0) (xs : List ℕ) → Every P xs → (s : ℕ) → isIn s xs ≡ true → P s
+unfolding Every isIn
 every-elem P [] e s h = absurd (of-true false h)
 every-elem P (x ∷ xs) e s h = go (eqb s x) refl (every-elem P xs (e .1) s)
   where
-    go : (b : Bool) → eqb s x ≡ b → (elem s xs ≡ true → P s) → P s
+    go : (b : Bool) → eqb s x ≡ b → (isIn s xs ≡ true → P s) → P s
     go true q r = rw (eqb-true s x q) (e .0)
-    go false q r = r (rw (q, elem) at h)
+    go false q r = r (rw (q, isIn) at h)
 
 -- the choice is the one by standing, among what is offered, of the components present
 pub choose-is : (mix : List ℕ)
@@ -201,18 +202,18 @@ choose-is mix = refl
 
 -- what is offered is a candidate
 listed : ℕ → Bool
-listed s = elem s candidates
+listed s = isIn s candidates
 
-pub offered-candidate : (present s : ℕ) → elem s (candidatesOf present) ≡ true → elem s candidates ≡ true
-unfolding candidatesOf listed elem
+pub offered-candidate : (present s : ℕ) → isIn s (candidatesOf present) ≡ true → isIn s candidates ≡ true
+unfolding candidatesOf listed isIn
 offered-candidate present s = go (inMask present HYDROGEN)
   where
-    go : (hydrogen : Bool) → elem s (candidatesFor hydrogen) ≡ true → elem s candidates ≡ true
+    go : (hydrogen : Bool) → isIn s (candidatesFor hydrogen) ≡ true → isIn s candidates ≡ true
     go true e = to-true (listed s) (each listed (candidatesFor true) tt s e)
     go false e = to-true (listed s) (each listed (candidatesFor false) tt s e)
 
 -- no candidate's fitness is above that of everything
-pub fitness-le : (mix : List ℕ) (s : ℕ) → elem s candidates ≡ true → fitnessOf mix s ≤ allTo mix COMPONENTS
+pub fitness-le : (mix : List ℕ) (s : ℕ) → isIn s candidates ≡ true → fitnessOf mix s ≤ allTo mix COMPONENTS
 unfolding Every allTo fitnessOf memberOf
 fitness-le mix =
     every-elem (λ s. fitnessOf mix s ≤ allTo mix COMPONENTS) candidates (
@@ -228,7 +229,7 @@ first-decides p q k f g h l =
     omega arith
 
 -- a candidate with more of its components present goes before one with fewer
-pub standing-more : (mix : List ℕ) (s t : ℕ) → elem s candidates ≡ true
+pub standing-more : (mix : List ℕ) (s t : ℕ) → isIn s candidates ≡ true
     → presentIn (presentOf mix) s < presentIn (presentOf mix) t
     → standingOf mix s < standingOf mix t
 unfolding standingOf

@@ -8,7 +8,8 @@ use native.Mathlib.Omega.{arith}
 use lib.Ieee.Fits.{and-l, and-r}
 use lib.Dec.{T, eqb, eqb→eq}
 use borrow.Author.Tests.{eqb-true, eqb-false, not-true}
-use Rattle.systems.specs.Systems.{COMPONENTS, elem, candidates, memberOf, hasOf, Candidate}
+use Rattle.refusal.specs.Keys.{isIn}
+use Rattle.systems.specs.Systems.{COMPONENTS, candidates, memberOf, hasOf, Candidate}
 
 pub of-true : (b : Bool) → b ≡ true → T b
 of-true true e = tt
@@ -29,12 +30,12 @@ abbrev pub every : (ℕ → Bool) → List ℕ → Bool
 every f [] = true
 every f (x ∷ xs) = f x && every f xs
 
-pub each : (f : ℕ → Bool) (xs : List ℕ) → T (every f xs) → (n : ℕ) → elem n xs ≡ true → T (f n)
-unfolding elem
+pub each : (f : ℕ → Bool) (xs : List ℕ) → T (every f xs) → (n : ℕ) → isIn n xs ≡ true → T (f n)
+unfolding isIn
 each f [] t n h = absurd (of-true false h)
 each f (x ∷ xs) t n h =
     go (eqb n x) refl (λ e. rw (eqb-true n x e) (and-l (f x) (every f xs) t))
-    (λ e. each f xs (and-r (f x) (every f xs) t) n (rw (e, elem) at h))
+    (λ e. each f xs (and-r (f x) (every f xs) t) n (rw (e, isIn) at h))
   where
     go : (b : Bool) → eqb n x ≡ b → (eqb n x ≡ true → T (f n)) → (eqb n x ≡ false → T (f n)) → T (f n)
     go true e p q = p e

@@ -1,6 +1,7 @@
 -- What a ratio n / d has precomputed for the steps of the working rule. Assumes nothing.
 use mathlib.Core.Path.{_≡_}
 use Prim.Native.Nat.{ℕ, _*_, _/_, _%_, _≤_, _<_}
+use Rattle.integer.specs.Figures.{MILLION}
 
 -- nearly 2^43 * n / d
 abbrev pub scaledOf : ℕ → ℕ → ℕ
@@ -10,6 +11,6 @@ scaledOf n d = n * (9223372036854775808 / d) / 1048576
 pub record Precomputed (n d high low : ℕ) : Type 0 where
   pub n-le : n ≤ d
   pub d-pos : 0 < d
-  pub d-le : d ≤ 1000000
+  pub d-le : d ≤ MILLION
   pub high-is : high ≡ scaledOf n d / 4194304
   pub low-is : low ≡ scaledOf n d % 4194304

@@ -8,14 +8,15 @@ use lib.Dec.{T, ltb, leb, lt→ltb, le→leb, ltb→lt, leb→le}
 use lib.Ieee.Fits.{and-l, and-r}
 use borrow.Author.Tests.{ltb-false, leb-false}
 use lib.IntN.{ℤ}
+use Rattle.integer.specs.Figures.{MILLION}
 use Rattle.refusal.specs.Register.{NO_MIXTURE, NO_SYSTEM, SHARE}
 use Rattle.ternary.specs.declared.Partial.{Partial}
 use Rattle.ternary.specs.declared.Partial.the-variants.{Number, Refused}
 use Rattle.ternary.specs.PartialCases.{numberOf}
 use Rattle.formula.specs.Coefficients.{isSystem}
-use Rattle.formula.specs.Ranges.{inRange}
+use Rattle.formula.specs.Ranges.{sharesInRange}
 use Rattle.formula.specs.Partial.{partialNumber}
-use Rattle.ternary.specs.Answer.{formulaOf, isMixture, partialOf, rangedRefusalOf, refusalOf}
+use Rattle.ternary.specs.Answer.{formulaOf, isMixture, partialOf, partialRefusal, formulaRefusal}
 
 -- ---- each case of the formula's number
 
@@ -40,28 +41,28 @@ refused-13 true m p h = absurd (subst T h tt)
 refused-13 false m p h = refl
 
 -- what a mixture's sum is, and what none is
-pub mixture-yes : (d : ℕ) → 0 < d → d ≤ 1000000 → isMixture d ≡ true
-mixture-yes d h k = both (ltb 0 d) (leb d 1000000) (lt→ltb 0 d h) (le→leb d 1000000 k)
+pub mixture-yes : (d : ℕ) → 0 < d → d ≤ MILLION → isMixture d ≡ true
+mixture-yes d h k = both (ltb 0 d) (leb d MILLION) (lt→ltb 0 d h) (le→leb d MILLION k)
   where
     both : (a b : Bool) → T a → T b → a && b ≡ true
     both true true s t = refl
     both true false s t = absurd t
     both false b s t = absurd s
 
-pub mixture-of : (d : ℕ) → isMixture d ≡ true → (0 < d) × (d ≤ 1000000)
+pub mixture-of : (d : ℕ) → isMixture d ≡ true → (0 < d) × (d ≤ MILLION)
 mixture-of d e =
     let t : T (isMixture d) = subst⁻¹ T e tt in
-    (ltb→lt 0 d (and-l (ltb 0 d) (leb d 1000000) t), leb→le d 1000000 (and-r (ltb 0 d) (leb d 1000000) t))
+    (ltb→lt 0 d (and-l (ltb 0 d) (leb d MILLION) t), leb→le d MILLION (and-r (ltb 0 d) (leb d MILLION) t))
 
-pub mixture-not : (d : ℕ) → isMixture d ≡ false → (d ≡ 0) ⊎ (1000000 < d)
-mixture-not d e = at (ltb 0 d) (leb d 1000000) refl refl e
+pub mixture-not : (d : ℕ) → isMixture d ≡ false → (d ≡ 0) ⊎ (MILLION < d)
+mixture-not d e = at (ltb 0 d) (leb d MILLION) refl refl e
   where
-    at : (a b : Bool) → ltb 0 d ≡ a → leb d 1000000 ≡ b → a && b ≡ false → (d ≡ 0) ⊎ (1000000 < d)
+    at : (a b : Bool) → ltb 0 d ≡ a → leb d MILLION ≡ b → a && b ≡ false → (d ≡ 0) ⊎ (MILLION < d)
     at true true s t q = absurd (subst T q tt)
-    at true false s t q = inr (leb-false d 1000000 t)
+    at true false s t q = inr (leb-false d MILLION t)
     at false b s t q = inl (omega (arith, ltb-false 0 d s))
 
-no-mixture : (d : ℕ) → ((0 < d) × (d ≤ 1000000) → ⊥) → isMixture d ≡ false
+no-mixture : (d : ℕ) → ((0 < d) × (d ≤ MILLION) → ⊥) → isMixture d ≡ false
 no-mixture d h = at (isMixture d) refl
   where
     at : (b : Bool) → isMixture d ≡ b → b ≡ false
@@ -71,12 +72,12 @@ no-mixture d h = at (isMixture d) refl
 pub mixture-zero : (d : ℕ) → d ≡ 0 → isMixture d ≡ false
 mixture-zero d e = no-mixture d (λ m. omega arith)
 
-pub mixture-above : (d : ℕ) → 1000000 < d → isMixture d ≡ false
+pub mixture-above : (d : ℕ) → MILLION < d → isMixture d ≡ false
 mixture-above d h = no-mixture d (λ m. omega arith)
 
 module _ (system n1 n2 n3 : ℕ) where
   -- the answer's number
-  pub formula-refusal : numberOf (formulaOf system n1 n2 n3) ≡ refusalOf system (n1 + n2 + n3)
+  pub formula-refusal : numberOf (formulaOf system n1 n2 n3) ≡ formulaRefusal system (n1 + n2 + n3)
   unfolding formulaOf
   formula-refusal = numbered (isSystem system) (isMixture (n1 + n2 + n3)) (partialNumber system n1 n2 n3)
 
@@ -86,7 +87,7 @@ module _ (system n1 n2 n3 : ℕ) where
   formula-13 h = refused-13 (isSystem system) (isMixture (n1 + n2 + n3)) (Number (partialNumber system n1 n2 n3)) h
 
   -- a known system and a mixture: the number as worked out
-  pub formula-is : isSystem system ≡ true → 0 < n1 + n2 + n3 → n1 + n2 + n3 ≤ 1000000
+  pub formula-is : isSystem system ≡ true → 0 < n1 + n2 + n3 → n1 + n2 + n3 ≤ MILLION
       → formulaOf system n1 n2 n3 ≡ Number (partialNumber system n1 n2 n3)
   unfolding formulaOf
   formula-is h k l =
@@ -122,23 +123,23 @@ outside false m false p h = refl
 
 module _ (system n1 n2 n3 : ℕ) where
   -- the answer's number
-  pub partial-refusal : numberOf (partialOf system n1 n2 n3) ≡ rangedRefusalOf system n1 n2 n3
+  pub partial-refusal : numberOf (partialOf system n1 n2 n3) ≡ partialRefusal system n1 n2 n3
   unfolding partialOf
   partial-refusal =
-      ranged (isSystem system) (isMixture (n1 + n2 + n3)) (inRange system n1 n2 n3) (partialNumber system n1 n2 n3)
+      ranged (isSystem system) (isMixture (n1 + n2 + n3)) (sharesInRange system n1 n2 n3) (partialNumber system n1 n2 n3)
 
   -- within the ranges: the formula's answer
-  pub partial-inside : inRange system n1 n2 n3 ≡ true → formulaOf system n1 n2 n3 ≡ partialOf system n1 n2 n3
+  pub partial-inside : sharesInRange system n1 n2 n3 ≡ true → formulaOf system n1 n2 n3 ≡ partialOf system n1 n2 n3
   unfolding formulaOf partialOf
   partial-inside h =
-      inside (isSystem system) (isMixture (n1 + n2 + n3)) (inRange system n1 n2 n3)
+      inside (isSystem system) (isMixture (n1 + n2 + n3)) (sharesInRange system n1 n2 n3)
       (Number (partialNumber system n1 n2 n3)) h
 
   -- outside: 17, if neither 13 nor 12
-  pub partial-outside : inRange system n1 n2 n3 ≡ false
+  pub partial-outside : sharesInRange system n1 n2 n3 ≡ false
       → Refused (cond (isSystem system) (cond (isMixture (n1 + n2 + n3)) SHARE NO_MIXTURE) NO_SYSTEM)
       ≡ partialOf system n1 n2 n3
   unfolding partialOf
   partial-outside h =
-      outside (isSystem system) (isMixture (n1 + n2 + n3)) (inRange system n1 n2 n3)
+      outside (isSystem system) (isMixture (n1 + n2 + n3)) (sharesInRange system n1 n2 n3)
       (Number (partialNumber system n1 n2 n3)) h

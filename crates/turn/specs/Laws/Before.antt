@@ -5,7 +5,7 @@ use mathlib.Core.Bool.{Bool, true, false}
 use mathlib.Core.List.{List}
 use lib.Dec.{leb, eqb}
 use borrow.Author.Tests.{le-leb, lt-leb, eq-eqb, ne-eqb, leb-true, leb-false, eqb-true, eqb-false}
-use Rattle.split.specs.Split.{numberAt}
+use Rattle.split.specs.Split.{rowNumber}
 use Rattle.split.specs.Rating.{spreadOf}
 use Rattle.split.specs.Move.{firstOf}
 use Rattle.split.specs.Search.{goOn, turnOf}
@@ -31,7 +31,7 @@ module _ (spread limit rounds allowance : ℕ) where
 
 module _ (ch : List ℕ) (k limit allowance : ℕ) (a : List ℕ) (level rounds : ℕ) where
   abbrev spread : ℕ
-  spread = spreadOf (numberAt ch a) k
+  spread = spreadOf (rowNumber ch a) k
 
   abbrev next : Turn
   next = goOn level (firstOf ch k a (2 ^ level))

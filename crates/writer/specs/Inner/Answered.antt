@@ -9,13 +9,13 @@ use Rattle.analysis.specs.Check.{AtFault}
 use Rattle.sheet.specs.declared.Split.{Split}
 use Rattle.sheet.specs.declared.Written.{Written}
 use Rattle.sheet.specs.declared.Written.the-variants.{Length, Refused}
-use Rattle.sheet.specs.WrittenCases.{numberOf, codeOf}
+use Rattle.sheet.specs.WrittenCases.{numberOf, faultOf}
 use Rattle.sheet.specs.Write.{writtenOf}
 
 -- fixed but for the code of 5, and that is a code at fault
 pub record Answered (a : List ℕ) (p : Split) (size : ℕ) (r : Written) : Type 0 where
-  pub answer : r ≡ writtenOf a p size (codeOf r)
-  pub code : numberOf r ≡ 5 → AtFault a (codeOf r)
+  pub answer : r ≡ writtenOf a p size (faultOf r)
+  pub code : numberOf r ≡ 5 → AtFault a (faultOf r)
 
 -- a length, or 14 where a buffer is shorter
 unfoldable pub roomFor : ℕ → ℕ → Written

@@ -1,5 +1,5 @@
 -- `rating::records::code_of` meets its contract. Assumes nothing.
-use Rattle.rating.specs.Records.{codeOf}
+use Rattle.rating.specs.Records.{splitCode}
 use Rattle.rating.proofs.RecordCases.{code-is}
 use borrow.Author.Needs.{needs}
 use Rattle.rating.proofs.records.code_of.Statement.{statement}
@@ -15,7 +15,7 @@ cast-result : tie.Need-cast-result
 cast-result c = search needs
 
 returns : tie.Need-returns
-unfolding codeOf
+unfolding splitCode
 returns c = code-is _ tt (c .args .c) (c .pre)
 
 pub code-of-spec : {M : Type 1} → statement M

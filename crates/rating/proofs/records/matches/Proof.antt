@@ -1,7 +1,7 @@
 -- `rating::records::matches` meets its contract. Assumes nothing.
 use mathlib.Core.Path.{ap, _∙_}
 use Rattle.split.specs.Split.{componentAt}
-use Rattle.rating.specs.Records.{codeOf}
+use Rattle.rating.specs.Records.{splitCode}
 use Rattle.rating.proofs.RecordCases.{match-is}
 use Rattle.rating.proofs.records.matches.Statement.{statement}
 use Rattle.rating.proofs.records.matches.Tie as tie
@@ -15,7 +15,7 @@ code-of-requires c κs = c .component .ensures .1
 returns : tie.Need-returns
 returns c =
     let b = c .before .before in
-    match-is (b .args .found) (b .args .system) (b .args .code) _ (codeOf (componentAt (b .args .system) (b .args .j))) (c .code-of .ensures ∙ ap codeOf (c .before .component .ensures .0))
+    match-is (b .args .found) (b .args .system) (b .args .code) _ (splitCode (componentAt (b .args .system) (b .args .j))) (c .code-of .ensures ∙ ap splitCode (c .before .component .ensures .0))
 
 pub matches-spec : {M : Type 1} → statement M
 matches-spec = tie.close (tie.spec component-requires code-of-requires returns)
