@@ -33,42 +33,42 @@ use Rattle.kept.specs.Widths.{BEFORE, componentIn, cellsIn, amountsIn, r
 -- ---- the records: as in `rating/specs/Records`
 
 unfoldable pub codeBefore : List ℕ → ℕ → ℕ → ℕ
-codeBefore ch k r = cond (ltb r (3 * k)) (splitCode (componentIn BEFORE (systemOf ch (r / 3)) (r % 3))) 0
+codeBefore systems count r = cond (ltb r (3 * count)) (splitCode (componentIn BEFORE (systemOf systems (r / 3)) (r % 3))) 0
 
 unfoldable pub codesBefore : List ℕ → ℕ → List ℕ
-codesBefore ch k = table (codeBefore ch k) RECORDS 0
+codesBefore systems count = table (codeBefore systems count) RECORDS 0
 
 unfoldable pub matchesBefore : List ℕ → ℕ → List ℕ → List ℕ → ℕ → Bool
-matchesBefore ch k systems codes r =
-    (eqb (getD systems r 0) (systemAt ch k r) && eqb (getD codes r 0) (codeBefore ch k r))
+matchesBefore systems count named codes r =
+    eqb (getD named r 0) (systemAt systems count r) && eqb (getD codes r 0) (codeBefore systems count r)
 
 unfoldable pub fitsBefore : List ℕ → ℕ → ℕ → List ℕ → List ℕ → Bool
-fitsBefore ch k count systems codes = eqb count (3 * k) && allTo (matchesBefore ch k systems codes) count
+fitsBefore systems count records named codes = eqb records (3 * count) && allTo (matchesBefore systems count named codes) records
 
 -- ---- the answers, of a refusal's number (0: rated on), a choice of systems, a mixture and its inert part
 
 unfoldable pub splitWith : List ℕ → ℕ → List ℕ → ℕ → Split → Answer
-splitWith ch k mix n1 p =
-    cond (fitsBefore ch k (p .count) (p .systems) (p .codes))
-    (proposedIn BEFORE LIMIT ch k mix (cellsIn BEFORE ch k (p .amounts)) n1)
+splitWith systems count mix n1 split =
+    cond (fitsBefore systems count (split .count) (split .systems) (split .codes))
+    (proposedIn BEFORE LIMIT systems count mix (cellsIn BEFORE systems count (split .amounts)) n1)
     (Refused MISFIT 0)
 
 abbrev pub splitAnswerWith : ℕ → Choice → List ℕ → ℕ → Split → ℕ → Answer
-splitAnswerWith number choice mix n1 p code =
-    checkedBy number code (splitWith (choice .systems) (choice .count) mix n1 p)
+splitAnswerWith number choice mix n1 split code =
+    checkedBy number code (splitWith (choice .systems) (choice .count) mix n1 split)
 
 abbrev pub recordsBefore : List ℕ → ℕ → List ℕ → Split
-recordsBefore ch k a =
-    record { count = 3 * k; systems = systemsOf ch k; codes = codesBefore ch k; amounts = amountsIn BEFORE ch k a }
+recordsBefore systems count cells =
+    record { count = 3 * count; systems = systemsOf systems count; codes = codesBefore systems count; amounts = amountsIn BEFORE systems count cells }
 
 abbrev pub foundWith : List ℕ → ℕ → ℕ → List ℕ → Search → Outcome
-foundWith ch k n1 a (Balanced spread rounds) =
-    outcome (Rated (ratingIn BEFORE ch k a n1) spread rounds) (recordsBefore ch k a)
-foundWith ch k n1 a Unbalanced = outcome (Refused UNBALANCED 0) noSplit
-foundWith ch k n1 a Unfit = outcome (Refused 0 0) noSplit
+foundWith systems count n1 cells (Balanced spread rounds) =
+    outcome (Rated (ratingIn BEFORE systems count cells n1) spread rounds) (recordsBefore systems count cells)
+foundWith systems count n1 cells Unbalanced = outcome (Refused UNBALANCED 0) noSplit
+foundWith systems count n1 cells Unfit = outcome (Refused 0 0) noSplit
 
 unfoldable pub foundOutcomeWith : List ℕ → ℕ → ℕ → Found → Outcome
-foundOutcomeWith ch k n1 f = foundWith ch k n1 (f .cells) (f .search)
+foundOutcomeWith systems count n1 f = foundWith systems count n1 (f .cells) (f .search)
 
 abbrev pub searchedWith : Choice → List ℕ → ℕ → Found
 searchedWith choice mix allowance =
@@ -88,16 +88,16 @@ choiceBefore mix = choiceFrom (chooseBefore mix)
 
 -- 5 or 6, then 16 where fewer than two of the four are present
 abbrev pub refusalBefore : List ℕ → ℕ
-refusalBefore a =
-    cond (eqb (refusalIn registerBefore a) 0)
-    (cond (ltb (ones (presentTo HYDROCARBONS (simplifiedBefore a))) FEWEST) TOO_FEW 0)
-    (refusalIn registerBefore a)
+refusalBefore analysis =
+    cond (eqb (refusalIn registerBefore analysis) 0)
+    (cond (ltb (ones (presentTo HYDROCARBONS (simplifiedBefore analysis))) FEWEST) TOO_FEW 0)
+    (refusalIn registerBefore analysis)
 
 unfoldable pub splitBefore : List ℕ → Split → ℕ → Answer
-splitBefore a p code =
-    splitAnswerWith (refusalBefore a) (choiceBefore (simplifiedBefore a)) (simplifiedBefore a) (inertBefore a) p code
+splitBefore analysis split code =
+    splitAnswerWith (refusalBefore analysis) (choiceBefore (simplifiedBefore analysis)) (simplifiedBefore analysis) (inertBefore analysis) split code
 
 unfoldable pub searchBefore : List ℕ → ℕ → ℕ → Outcome
-searchBefore a allowance code =
-    searchOutcomeWith (refusalBefore a) (choiceBefore (simplifiedBefore a)) (simplifiedBefore a)
-    (inertBefore a) allowance code
+searchBefore analysis allowance code =
+    searchOutcomeWith (refusalBefore analysis) (choiceBefore (simplifiedBefore analysis)) (simplifiedBefore analysis)
+    (inertBefore analysis) allowance code

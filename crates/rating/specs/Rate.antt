@@ -38,13 +38,13 @@ ROUNDS = 4000
 -- ---- what an analysis is rated by: simplified mixture, chosen systems and their number, inert mixture
 
 abbrev pub mixOf : List ℕ → List ℕ
-mixOf a = simplifiedOf a
+mixOf analysis = simplifiedOf analysis
 
 abbrev pub systemsFor : List ℕ → List ℕ
-systemsFor a = choiceOf (simplifiedOf a) .systems
+systemsFor analysis = choiceOf (simplifiedOf analysis) .systems
 
 abbrev pub countFor : List ℕ → ℕ
-countFor a = choiceOf (simplifiedOf a) .count
+countFor analysis = choiceOf (simplifiedOf analysis) .count
 
 -- ---- a refusal of the analysis comes first; 5 carries `code`, and the others none
 
@@ -60,7 +60,7 @@ mixtureRefusal mix = cond (ltb (presentCount mix) FEWEST) TOO_FEW (cond (each is
 
 -- the number with which rating turns an analysis away: 5 or 6, then 16 or 13; 0 where it is rated on
 unfoldable pub ratingRefusal : List ℕ → ℕ
-ratingRefusal a = cond (eqb (analysisRefusal a) 0) (mixtureRefusal (mixOf a)) (analysisRefusal a)
+ratingRefusal analysis = cond (eqb (analysisRefusal analysis) 0) (mixtureRefusal (mixOf analysis)) (analysisRefusal analysis)
 
 abbrev pub checkedBy : ℕ → ℕ → Answer → Answer
 checkedBy number code rated = cond (eqb number 0) rated (Refused number (carried number code 0))
@@ -70,25 +70,26 @@ checkedBy number code rated = cond (eqb number 0) rated (Refused number (carried
 -- of chosen systems, a mixture and its inert part: 7 where its records are not those expected, else the answer to its
 -- cells
 unfoldable pub splitBy : List ℕ → ℕ → List ℕ → ℕ → Split → Answer
-splitBy ch k mix n1 p =
-    cond (fitsOf ch k (p .count) (p .systems) (p .codes))
-    (proposedOf LIMIT ch k mix (cellsOf ch k (p .amounts)) n1)
+splitBy systems count mix n1 split =
+    cond (fitsOf systems count (split .count) (split .systems) (split .codes))
+    (proposedOf LIMIT systems count mix (cellsOf systems count (split .amounts)) n1)
     (Refused MISFIT 0)
 
 -- of an analysis that is refused with a number (0: rated on) and has some choice of systems
 abbrev pub splitAnswerBy : ℕ → Choice → List ℕ → Split → ℕ → Answer
-splitAnswerBy number choice a p code =
-    checkedBy number code (splitBy (choice .systems) (choice .count) (mixOf a) (inertFirst a) p)
+splitAnswerBy number choice analysis split code =
+    checkedBy number code (splitBy (choice .systems) (choice .count) (mixOf analysis) (inertFirst analysis) split)
 
 -- of an analysis
 unfoldable pub splitAnswer : List ℕ → Split → ℕ → Answer
-splitAnswer a p code = splitAnswerBy (ratingRefusal a) (choiceOf (mixOf a)) a p code
+splitAnswer analysis split code = splitAnswerBy (ratingRefusal analysis) (choiceOf (mixOf analysis)) analysis split code
 
 -- ---- the search
 
--- the split of the cells a, as records
+-- the split of the cells, as records
 abbrev pub recordsOf : List ℕ → ℕ → List ℕ → Split
-recordsOf ch k a = record { count = 3 * k; systems = systemsOf ch k; codes = codesOf ch k; amounts = amountsOf ch k a }
+recordsOf systems count cells =
+    record { count = 3 * count; systems = systemsOf systems count; codes = codesOf systems count; amounts = amountsOf systems count cells }
 
 abbrev pub outcome : Answer → Split → Outcome
 outcome answer split = record { answer = answer; split = split }
@@ -96,40 +97,40 @@ outcome answer split = record { answer = answer; split = split }
 -- what the search came to: a rating with its split, or its refusal and no split. No search of an analysis is unfit
 -- (`Ends.never-unfit`); its line has the number 0, which is no refusal's
 abbrev pub foundBy : List ℕ → ℕ → ℕ → List ℕ → Search → Outcome
-foundBy ch k n1 a (Balanced spread rounds) = outcome (Rated (ratingOf ch k a n1) spread rounds) (recordsOf ch k a)
-foundBy ch k n1 a Unbalanced = outcome (Refused (search.numberOf Unbalanced) 0) noSplit
-foundBy ch k n1 a Unfit = outcome (Refused (search.numberOf Unfit) 0) noSplit
+foundBy systems count n1 cells (Balanced spread rounds) = outcome (Rated (ratingOf systems count cells n1) spread rounds) (recordsOf systems count cells)
+foundBy systems count n1 cells Unbalanced = outcome (Refused (search.numberOf Unbalanced) 0) noSplit
+foundBy systems count n1 cells Unfit = outcome (Refused (search.numberOf Unfit) 0) noSplit
 
 unfoldable pub foundOutcome : List ℕ → ℕ → ℕ → Found → Outcome
-foundOutcome ch k n1 f = foundBy ch k n1 (f .cells) (f .search)
+foundOutcome systems count n1 f = foundBy systems count n1 (f .cells) (f .search)
 
 -- of a choice: from the written start, at first stride 65536; an allowance above the most rounds counts as those
 abbrev pub searchedBy : Choice → List ℕ → ℕ → Found
-searchedBy choice a allowance =
+searchedBy choice analysis allowance =
     searchOf (choice .systems) (choice .count) LIMIT FIRST_LEVEL (min allowance ROUNDS)
-    (startOf (mixOf a) (choice .systems) (choice .count))
+    (startOf (mixOf analysis) (choice .systems) (choice .count))
 
 abbrev pub searched : List ℕ → ℕ → Found
-searched a allowance = searchedBy (choiceOf (mixOf a)) a allowance
+searched analysis allowance = searchedBy (choiceOf (mixOf analysis)) analysis allowance
 
 -- of an analysis that is refused with a number (0: rated on) and has some choice of systems
 abbrev pub searchOutcomeBy : ℕ → Choice → List ℕ → ℕ → ℕ → Outcome
-searchOutcomeBy number choice a allowance code =
+searchOutcomeBy number choice analysis allowance code =
     cond (eqb number 0)
-    (foundOutcome (choice .systems) (choice .count) (inertFirst a) (searchedBy choice a allowance))
+    (foundOutcome (choice .systems) (choice .count) (inertFirst analysis) (searchedBy choice analysis allowance))
     (outcome (Refused number (carried number code 0)) noSplit)
 
 -- of an analysis
 unfoldable pub searchOutcome : List ℕ → ℕ → ℕ → Outcome
-searchOutcome a allowance code = searchOutcomeBy (ratingRefusal a) (choiceOf (mixOf a)) a allowance code
+searchOutcome analysis allowance code = searchOutcomeBy (ratingRefusal analysis) (choiceOf (mixOf analysis)) analysis allowance code
 
 -- ---- a sheet: its refusal, else its split, else the search with the most rounds
 
 abbrev pub readBy : Reading → List ℕ → Split → ℕ → Outcome
-readBy (reading.Refused number place code′) a p code =
+readBy (reading.Refused number place code′) analysis split code =
     outcome (Refused number (read.placeOf (reading.Refused number place code′))) noSplit
-readBy reading.Read a p code =
-    cond (eqb (p .count) 0) (searchOutcome a ROUNDS code) (outcome (splitAnswer a p code) noSplit)
+readBy reading.Read analysis split code =
+    cond (eqb (split .count) 0) (searchOutcome analysis ROUNDS code) (outcome (splitAnswer analysis split code) noSplit)
 
 unfoldable pub sheetOutcome : List ℕ → ℕ → Outcome
-sheetOutcome s code = readBy (readOf s code .answer) (readOf s code .analysis .amounts) (readOf s code .split) code
+sheetOutcome sheet code = readBy (readOf sheet code .answer) (readOf sheet code .analysis .amounts) (readOf sheet code .split) code

@@ -17,7 +17,7 @@ use Rattle.split.specs.declared.Found.{Found}
 
 -- one or more chosen systems that there is room for, each a candidate
 unfoldable pub chosenFit : List ℕ → ℕ → Bool
-chosenFit ch k = ltb 0 k && (leb k SYSTEMS && allTo (λ s. isIn (systemOf ch s) candidates) k)
+chosenFit systems count = ltb 0 count && (leb count SYSTEMS && allTo (λ s. isIn (systemOf systems s) candidates) count)
 
 -- a mixture of a million parts at most
 unfoldable pub mixtureFit : List ℕ → Bool
@@ -25,11 +25,11 @@ mixtureFit mix = leb (sumTo (λ c. getD mix c 0) COMPONENTS) MILLION
 
 -- both, a first stride of 65536 at most, and a start that leaves no system empty
 unfoldable pub searchFit : List ℕ → List ℕ → ℕ → ℕ → Bool
-searchFit mix ch k level = leb level FIRST_LEVEL && (mixtureFit mix && (chosenFit ch k && not (someEmpty ch k (startOf mix ch k))))
+searchFit mix systems count level = leb level FIRST_LEVEL && (mixtureFit mix && (chosenFit systems count && not (someEmpty systems count (startOf mix systems count))))
 
 -- the search from the start; any other input is unfit, and finds nothing
 unfoldable pub findOf : List ℕ → List ℕ → ℕ → ℕ → ℕ → ℕ → Found
-findOf mix ch k limit level allowance =
-    cond (searchFit mix ch k level)
-    (searchOf ch k limit level allowance (startOf mix ch k))
+findOf mix systems count limit level allowance =
+    cond (searchFit mix systems count level)
+    (searchOf systems count limit level allowance (startOf mix systems count))
     (foundOf (replicate CELLS 0) Unfit)

@@ -11,9 +11,9 @@ use Rattle.split.specs.Exact.{NoneEmpty}
 
 -- each component's amounts, added, equal the mixture's
 abbrev pub Resums : List ℕ → ℕ → List ℕ → Type 0
-Resums mix k a = (c : ℕ) → c < COMPONENTS → columnOf k a c ≡ getD mix c 0
+Resums mix count cells = (c : ℕ) → c < COMPONENTS → columnOf count cells c ≡ getD mix c 0
 
-pub record Fit (limit : ℕ) (ch : List ℕ) (k : ℕ) (mix a : List ℕ) : Type 0 where
-  pub sums : Resums mix k a
-  pub some : NoneEmpty ch k a
-  pub near : EveryTwo limit (rowNumber ch a) k
+pub record Fit (limit : ℕ) (systems : List ℕ) (count : ℕ) (mix cells : List ℕ) : Type 0 where
+  pub sums : Resums mix count cells
+  pub some : NoneEmpty systems count cells
+  pub near : EveryTwo limit (rowNumber systems cells) count

@@ -14,48 +14,48 @@ use Rattle.split.specs.Split.{SYSTEMS, cellOf, systemOf, partsOf, rowNum
 unfoldable pub squareOf : ℤ → ℤ → ℕ
 squareOf x y = natAbs (quotZ x (pos 10000) -ℤ quotZ y (pos 10000)) * natAbs (quotZ x (pos 10000) -ℤ quotZ y (pos 10000))
 
--- the imbalance of k numbers: these squares, added over every pair
+-- the imbalance of the numbers: these squares, added over every pair
 unfoldable pub imbalanceOf : (ℕ → ℤ) → ℕ → ℕ
-imbalanceOf v k = sumTo (λ i. sumTo (λ j. squareOf (v i) (v j)) i) k
+imbalanceOf numbers count = sumTo (λ i. sumTo (λ j. squareOf (numbers i) (numbers j)) i) count
 
 -- moves are numbers: component, from-system, to-system, in this order of weight, so that their order is the document's
 abbrev pub MOVES : ℕ
 MOVES = COMPONENTS * (SYSTEMS * SYSTEMS)
 
 abbrev pub componentOf : ℕ → ℕ
-componentOf m = m / (SYSTEMS * SYSTEMS)
+componentOf move = move / (SYSTEMS * SYSTEMS)
 
 abbrev pub giverOf : ℕ → ℕ
-giverOf m = m / SYSTEMS % SYSTEMS
+giverOf move = move / SYSTEMS % SYSTEMS
 
 abbrev pub takerOf : ℕ → ℕ
-takerOf m = m % SYSTEMS
+takerOf move = move % SYSTEMS
 
--- d of what stands at i goes to j
+-- the stride of what stands at i goes to j
 unfoldable pub shift : List ℕ → ℕ → ℕ → ℕ → List ℕ
-shift a i j d = set (set a i (getD a i 0 - d)) j (getD a j 0 + d)
+shift cells i j stride = set (set cells i (getD cells i 0 - stride)) j (getD cells j 0 + stride)
 
 unfoldable pub movedOf : List ℕ → ℕ → ℕ → List ℕ
-movedOf a m d = shift a (giverOf m * COMPONENTS + componentOf m) (takerOf m * COMPONENTS + componentOf m) d
+movedOf cells move stride = shift cells (giverOf move * COMPONENTS + componentOf move) (takerOf move * COMPONENTS + componentOf move) stride
 
 -- both are chosen systems, they differ, and both contain the component
 unfoldable pub betweenOf : List ℕ → ℕ → ℕ → Bool
-betweenOf ch k m =
-    ltb (giverOf m) k
-    && (ltb (takerOf m) k
-    && (not (eqb (giverOf m) (takerOf m))
-    && (hasOf (systemOf ch (giverOf m)) (componentOf m) && hasOf (systemOf ch (takerOf m)) (componentOf m))))
+betweenOf systems count move =
+    ltb (giverOf move) count
+    && (ltb (takerOf move) count
+    && (not (eqb (giverOf move) (takerOf move))
+    && (hasOf (systemOf systems (giverOf move)) (componentOf move) && hasOf (systemOf systems (takerOf move)) (componentOf move))))
 
--- the giver has the stride d, and does not end empty
+-- the giver has the stride, and does not end empty
 unfoldable pub affordsOf : List ℕ → List ℕ → ℕ → ℕ → Bool
-affordsOf ch a d m = leb d (cellOf a (giverOf m) (componentOf m)) && ltb d (partsOf ch a (giverOf m))
+affordsOf systems cells stride move = leb stride (cellOf cells (giverOf move) (componentOf move)) && ltb stride (partsOf systems cells (giverOf move))
 
 unfoldable pub lowersOf : List ℕ → ℕ → List ℕ → ℕ → ℕ → Bool
-lowersOf ch k a d m = ltb (imbalanceOf (rowNumber ch (movedOf a m d)) k) (imbalanceOf (rowNumber ch a) k)
+lowersOf systems count cells stride move = ltb (imbalanceOf (rowNumber systems (movedOf cells move stride)) count) (imbalanceOf (rowNumber systems cells) count)
 
 unfoldable pub canOf : List ℕ → ℕ → List ℕ → ℕ → ℕ → Bool
-canOf ch k a d m = betweenOf ch k m && (affordsOf ch a d m && lowersOf ch k a d m)
+canOf systems count cells stride move = betweenOf systems count move && (affordsOf systems cells stride move && lowersOf systems count cells stride move)
 
 -- the first move that can be made and lowers the imbalance, or MOVES
 unfoldable pub firstOf : List ℕ → ℕ → List ℕ → ℕ → ℕ
-firstOf ch k a d = first (canOf ch k a d) MOVES 0
+firstOf systems count cells stride = first (canOf systems count cells stride) MOVES 0

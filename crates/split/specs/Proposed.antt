@@ -16,22 +16,22 @@ use Rattle.split.specs.declared.Proposed.the-variants.{Answered, Unfit}
 
 -- an inert mixture's n1, a mixture of a million parts at most, chosen systems that are candidates
 unfoldable pub proposalFit : List ℕ → List ℕ → ℕ → ℕ → Bool
-proposalFit mix ch k n1 = leb n1 MILLION && (mixtureFit mix && chosenFit ch k)
+proposalFit mix systems count n1 = leb n1 MILLION && (mixtureFit mix && chosenFit systems count)
 
 -- the answer; other input is unfit, which is no refusal
 unfoldable pub proposedAnswer : ℕ → List ℕ → ℕ → List ℕ → List ℕ → ℕ → Proposed
-proposedAnswer limit ch k mix a n1 =
-    cond (proposalFit mix ch k n1) (Answered (proposedOf limit ch k mix a n1)) Unfit
+proposedAnswer limit systems count mix cells n1 =
+    cond (proposalFit mix systems count n1) (Answered (proposedOf limit systems count mix cells n1)) Unfit
 
 -- the answer to a split that re-sums and has no empty system
 unfoldable pub ratedOf : ℕ → List ℕ → ℕ → List ℕ → ℕ → Answer
-ratedOf limit ch k a n1 =
-    cond (ltb limit (spreadOf (rowNumber ch a) k))
+ratedOf limit systems count cells n1 =
+    cond (ltb limit (spreadOf (rowNumber systems cells) count))
     (Refused WIDE 0)
-    (Rated (ratingOf ch k a n1) (spreadOf (rowNumber ch a) k) 0)
+    (Rated (ratingOf systems count cells n1) (spreadOf (rowNumber systems cells) count) 0)
 
 -- input that is answered by the rules
-pub record Proposal (mix ch : List ℕ) (k n1 : ℕ) : Type 0 where
-  pub chosen : Chosen ch k
+pub record Proposal (mix systems : List ℕ) (count n1 : ℕ) : Type 0 where
+  pub chosen : Chosen systems count
   pub few : totalOf mix ≤ MILLION
   pub inert : n1 ≤ MILLION

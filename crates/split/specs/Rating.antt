@@ -19,16 +19,16 @@ use Rattle.split.specs.declared.Answer.the-variants.{Rated, Refused}
 abbrev pub LIMIT : ℕ
 LIMIT = 500000
 
--- the spread of k numbers: the greatest less the smallest
+-- the spread of the numbers: the greatest less the smallest
 unfoldable pub spreadOf : (ℕ → ℤ) → ℕ → ℕ
-spreadOf v k = natAbs (greatestTo v k -ℤ leastTo v k)
+spreadOf numbers count = natAbs (greatestTo numbers count -ℤ leastTo numbers count)
 
 -- each partial number times its system's parts, added; the mean is that divided once
 unfoldable pub weightedOf : List ℕ → ℕ → List ℕ → ℤ
-weightedOf ch k a = sumToZ (λ s. rowNumber ch a s *ℤ pos (partsOf ch a s)) k
+weightedOf systems count cells = sumToZ (λ s. rowNumber systems cells s *ℤ pos (partsOf systems cells s)) count
 
 unfoldable pub meanOf : List ℕ → ℕ → List ℕ → ℤ
-meanOf ch k a = quotZ (weightedOf ch k a) (pos MILLION)
+meanOf systems count cells = quotZ (weightedOf systems count cells) (pos MILLION)
 
 -- the inert number: system 20 at n1 and the rest
 unfoldable pub inertNumber : ℕ → ℤ
@@ -40,15 +40,15 @@ PURE_METHANE = 1000003000
 
 -- the mean and the inert number less 100.0003
 unfoldable pub ratingOf : List ℕ → ℕ → List ℕ → ℕ → ℤ
-ratingOf ch k a n1 = meanOf ch k a +ℤ inertNumber n1 +ℤ neg PURE_METHANE
+ratingOf systems count cells n1 = meanOf systems count cells +ℤ inertNumber n1 +ℤ neg PURE_METHANE
 
 -- each component's amounts add up to the mixture's
 unfoldable pub resums : List ℕ → ℕ → List ℕ → Bool
-resums mix k a = allTo (λ c. eqb (columnOf k a c) (getD mix c 0)) COMPONENTS
+resums mix count cells = allTo (λ c. eqb (columnOf count cells c) (getD mix c 0)) COMPONENTS
 
 -- a chosen system has no parts
 unfoldable pub someEmpty : List ℕ → ℕ → List ℕ → Bool
-someEmpty ch k a = someTo (λ s. eqb (partsOf ch a s) 0) k
+someEmpty systems count cells = someTo (λ s. eqb (partsOf systems cells s) 0) count
 
 -- whether it re-sums, whether a system is empty, whether the spread is above the limit: refusals 8, 9, 10 in their order
 abbrev pub verdict : Bool → Bool → Bool → Answer → Answer
@@ -57,8 +57,8 @@ verdict true true wide rated = Refused EMPTY_SYSTEM 0
 verdict true false true rated = Refused WIDE 0
 verdict true false false rated = rated
 
--- the answer to the cells a, proposed as a split of the mixture, under a spread limit
+-- the answer to the cells, proposed as a split of the mixture, under a spread limit
 unfoldable pub proposedOf : ℕ → List ℕ → ℕ → List ℕ → List ℕ → ℕ → Answer
-proposedOf limit ch k mix a n1 =
-    verdict (resums mix k a) (someEmpty ch k a) (ltb limit (spreadOf (rowNumber ch a) k))
-    (Rated (ratingOf ch k a n1) (spreadOf (rowNumber ch a) k) 0)
+proposedOf limit systems count mix cells n1 =
+    verdict (resums mix count cells) (someEmpty systems count cells) (ltb limit (spreadOf (rowNumber systems cells) count))
+    (Rated (ratingOf systems count cells n1) (spreadOf (rowNumber systems cells) count) 0)

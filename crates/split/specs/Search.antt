@@ -16,34 +16,34 @@ use Rattle.split.specs.declared.Found.{Found}
 abbrev pub FIRST_LEVEL : ℕ
 FIRST_LEVEL = 16
 
--- what is done where the first move that lowers the imbalance is m, MOVES where there is none
+-- what is done where the first move that lowers the imbalance is `move`, MOVES where there is none
 unfoldable pub goOn : ℕ → ℕ → Turn
-goOn level m = cond (ltb m MOVES) (Move m) (cond (eqb level 0) Refuse Halve)
+goOn level move = cond (ltb move MOVES) (Move move) (cond (eqb level 0) Refuse Halve)
 
 -- before each round: spread within the limit, rated; rounds equal to the allowance, refused. The stride is 2 ^ level
 unfoldable pub turnOf : List ℕ → ℕ → ℕ → ℕ → List ℕ → ℕ → ℕ → Turn
-turnOf ch k limit allowance a level rounds =
-    cond (leb (spreadOf (rowNumber ch a) k) limit)
-    (Rate (spreadOf (rowNumber ch a) k))
-    (cond (eqb rounds allowance) Refuse (goOn level (firstOf ch k a (2 ^ level))))
+turnOf systems count limit allowance cells level rounds =
+    cond (leb (spreadOf (rowNumber systems cells) count) limit)
+    (Rate (spreadOf (rowNumber systems cells) count))
+    (cond (eqb rounds allowance) Refuse (goOn level (firstOf systems count cells (2 ^ level))))
 
 abbrev pub stepOf : List ℕ → ℕ → ℕ → List ℕ
-stepOf a m level = movedOf a m (2 ^ level)
+stepOf cells move level = movedOf cells move (2 ^ level)
 
 abbrev pub foundOf : List ℕ → Search → Found
-foundOf a x = record { cells = a; search = x }
+foundOf cells x = record { cells = cells; search = x }
 
 -- n turns at most: a move counts a round, halving the stride does not
 unfoldable pub runOf : List ℕ → ℕ → ℕ → ℕ → ℕ → List ℕ → ℕ → ℕ → Found
-runOf ch k limit allowance zero a level rounds = foundOf a Unbalanced
-runOf ch k limit allowance (suc n) a level rounds =
-    elim (turnOf ch k limit allowance a level rounds) [
-      | Rate s ↦ foundOf a (Balanced s rounds)
-      | Refuse ↦ foundOf a Unbalanced
-      | Move m ↦ runOf ch k limit allowance n (stepOf a m level) level (rounds + 1)
-      | Halve ↦ runOf ch k limit allowance n a (level - 1) rounds
+runOf systems count limit allowance zero cells level rounds = foundOf cells Unbalanced
+runOf systems count limit allowance (suc n) cells level rounds =
+    elim (turnOf systems count limit allowance cells level rounds) [
+      | Rate s ↦ foundOf cells (Balanced s rounds)
+      | Refuse ↦ foundOf cells Unbalanced
+      | Move move ↦ runOf systems count limit allowance n (stepOf cells move level) level (rounds + 1)
+      | Halve ↦ runOf systems count limit allowance n cells (level - 1) rounds
     ]
 
--- the search from the cells a: each turn counts a round or halves the stride, so there are allowance + level + 1 at most
+-- the search from the cells: each turn counts a round or halves the stride, so there are allowance + level + 1 at most
 unfoldable pub searchOf : List ℕ → ℕ → ℕ → ℕ → ℕ → List ℕ → Found
-searchOf ch k limit level allowance a = runOf ch k limit allowance (allowance + level + 1) a level 0
+searchOf systems count limit level allowance cells = runOf systems count limit allowance (allowance + level + 1) cells level 0

@@ -1,7 +1,7 @@
 -- A split: for each chosen system its amounts of the components that it contains
 -- (document 01, "The split and the rating"). Assumes nothing.
 --
--- The chosen systems are a list `ch` of system numbers, of which the first `k` count. The amounts are one list `a`
+-- The chosen systems are a list `systems` of system numbers, of which the first `count` count. The amounts are one list `cells`
 -- of cells, a row of COMPONENTS cells for each chosen system; a cell of a component that the system lacks is 0.
 use Prim.Native.Nat.{ℕ, _+_, _*_, _/_, _%_, _≤_, _<_}
 use mathlib.Core.List.{List}
@@ -27,31 +27,31 @@ RECORDS = 21
 
 -- row s's amount of component c
 abbrev pub cellOf : List ℕ → ℕ → ℕ → ℕ
-cellOf a s c = getD a (s * COMPONENTS + c) 0
+cellOf cells s c = getD cells (s * COMPONENTS + c) 0
 
 -- row s's system
 abbrev pub systemOf : List ℕ → ℕ → ℕ
-systemOf ch s = getD ch s 0
+systemOf systems s = getD systems s 0
 
 -- row s's amount of its system's jth component
 abbrev pub amountOf : List ℕ → List ℕ → ℕ → ℕ → ℕ
-amountOf ch a s j = cellOf a s (memberOf (systemOf ch s) j)
+amountOf systems cells s j = cellOf cells s (memberOf (systemOf systems s) j)
 
 -- row s's parts; a system is empty when it has none
 unfoldable pub partsOf : List ℕ → List ℕ → ℕ → ℕ
-partsOf ch a s = amountOf ch a s 0 + amountOf ch a s 1 + amountOf ch a s 2
+partsOf systems cells s = amountOf systems cells s 0 + amountOf systems cells s 1 + amountOf systems cells s 2
 
--- component c's amounts in the k rows, added
+-- component c's amounts in the rows, added
 unfoldable pub columnOf : ℕ → List ℕ → ℕ → ℕ
-columnOf k a c = sumTo (λ s. cellOf a s c) k
+columnOf count cells c = sumTo (λ s. cellOf cells s c) count
 
 -- row s's partial number, as worked out
 unfoldable pub rowNumber : List ℕ → List ℕ → ℕ → ℤ
-rowNumber ch a s = partialNumber (systemOf ch s) (amountOf ch a s 0) (amountOf ch a s 1) (amountOf ch a s 2)
+rowNumber systems cells s = partialNumber (systemOf systems s) (amountOf systems cells s 0) (amountOf systems cells s 1) (amountOf systems cells s 2)
 
--- row s is one of the k, and its system contains component c
+-- row s is one of those that count, and its system contains component c
 unfoldable pub heldOf : List ℕ → ℕ → ℕ → ℕ → Bool
-heldOf ch k s c = ltb s k && hasOf (systemOf ch s) c
+heldOf systems count s c = ltb s count && hasOf (systemOf systems s) c
 
 -- ---- the records of a split: systems rising, in each its components rising
 
@@ -63,29 +63,42 @@ rankOf system c = sumTo (λ b. cond (hasOf system b) 1 0) c
 unfoldable pub componentAt : ℕ → ℕ → ℕ
 componentAt system j = first (λ c. hasOf system c && eqb (rankOf system c) j) COMPONENTS 0
 
--- the cells of the amounts xs, given in record order
-unfoldable pub cellsOf : List ℕ → ℕ → List ℕ → List ℕ
-cellsOf ch k xs = table (λ i. cond (heldOf ch k (i / COMPONENTS) (i % COMPONENTS)) (getD xs (3 * (i / COMPONENTS) + rankOf (systemOf ch (i / COMPONENTS)) (i % COMPONENTS)) 0) 0) CELLS 0
+-- row s's amount of component c among the amounts of the records, 0 where its system lacks it
+abbrev pub recordedIn : List ℕ → ℕ → List ℕ → ℕ → ℕ → ℕ
+recordedIn systems count amounts s c =
+    cond (heldOf systems count s c) (getD amounts (3 * s + rankOf (systemOf systems s) c) 0) 0
 
--- the amounts of the cells a, in record order
+abbrev pub cellAt : List ℕ → ℕ → List ℕ → ℕ → ℕ
+cellAt systems count amounts i = recordedIn systems count amounts (i / COMPONENTS) (i % COMPONENTS)
+
+-- the cells of the records' amounts
+unfoldable pub cellsOf : List ℕ → ℕ → List ℕ → List ℕ
+cellsOf systems count amounts = table (cellAt systems count amounts) CELLS 0
+
+-- the amount of record r in the cells, 0 beyond the last record
+abbrev pub amountAt : List ℕ → ℕ → List ℕ → ℕ → ℕ
+amountAt systems count cells r =
+    cond (ltb r (3 * count)) (cellOf cells (r / 3) (componentAt (systemOf systems (r / 3)) (r % 3))) 0
+
+-- the amounts of the cells, in record order
 unfoldable pub amountsOf : List ℕ → ℕ → List ℕ → List ℕ
-amountsOf ch k a = table (λ r. cond (ltb r (3 * k)) (cellOf a (r / 3) (componentAt (systemOf ch (r / 3)) (r % 3))) 0) RECORDS 0
+amountsOf systems count cells = table (amountAt systems count cells) RECORDS 0
 
 -- ---- what holds of a split that can be worked out
 
--- k chosen systems, each a candidate
-pub record Chosen (ch : List ℕ) (k : ℕ) : Type 0 where
-  pub some : 0 < k
-  pub most : k ≤ SYSTEMS
-  pub known : (s : ℕ) → s < k → Candidate (systemOf ch s)
+-- the chosen systems, each a candidate
+pub record Chosen (systems : List ℕ) (count : ℕ) : Type 0 where
+  pub some : 0 < count
+  pub most : count ≤ SYSTEMS
+  pub known : (s : ℕ) → s < count → Candidate (systemOf systems s)
 
 -- their cells: a million parts at most
-pub record Stock (ch : List ℕ) (k : ℕ) (a : List ℕ) : Type 0 where
-  pub chosen : Chosen ch k
-  pub long : length a ≡ CELLS
-  pub few : sumTo (columnOf k a) COMPONENTS ≤ MILLION
+pub record Stock (systems : List ℕ) (count : ℕ) (cells : List ℕ) : Type 0 where
+  pub chosen : Chosen systems count
+  pub long : length cells ≡ CELLS
+  pub few : sumTo (columnOf count cells) COMPONENTS ≤ MILLION
 
 -- no system empty
-pub record Sound (ch : List ℕ) (k : ℕ) (a : List ℕ) : Type 0 where
-  pub stock : Stock ch k a
-  pub some : (s : ℕ) → s < k → 1 ≤ partsOf ch a s
+pub record Sound (systems : List ℕ) (count : ℕ) (cells : List ℕ) : Type 0 where
+  pub stock : Stock systems count cells
+  pub some : (s : ℕ) → s < count → 1 ≤ partsOf systems cells s

@@ -6,8 +6,8 @@ use Rattle.split.specs.Fold.{maxTo}
 
 -- the widest distance of two of the k numbers
 abbrev pub widest : (ℕ → ℤ) → ℕ → ℕ
-widest v k = maxTo (λ i. maxTo (λ j. natAbs (v i -ℤ v j)) i) k
+widest numbers count = maxTo (λ i. maxTo (λ j. natAbs (numbers i -ℤ numbers j)) i) count
 
 -- every two of the k numbers are at most the limit apart
 abbrev pub EveryTwo : ℕ → (ℕ → ℤ) → ℕ → Type 0
-EveryTwo limit v k = (i j : ℕ) → i < k → j < k → natAbs (v i -ℤ v j) ≤ limit
+EveryTwo limit numbers count = (i j : ℕ) → i < count → j < count → natAbs (numbers i -ℤ numbers j) ≤ limit

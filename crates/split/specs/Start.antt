@@ -10,7 +10,7 @@ use Rattle.split.specs.Split.{CELLS, systemOf, heldOf}
 
 -- how many of the first n chosen systems contain component c
 unfoldable pub sharersOf : List ℕ → ℕ → ℕ → ℕ
-sharersOf ch c n = sumTo (λ s. cond (hasOf (systemOf ch s) c) 1 0) n
+sharersOf systems c n = sumTo (λ s. cond (hasOf (systemOf systems s) c) 1 0) n
 
 -- t shared equally among n: what the one of rank r gets, odd parts to the lower ranks
 unfoldable pub shareOf : ℕ → ℕ → ℕ → ℕ
@@ -18,10 +18,10 @@ shareOf t n r = t / n + cond (ltb r (t % n)) 1 0
 
 -- row s's amount of component c
 unfoldable pub startAmount : List ℕ → List ℕ → ℕ → ℕ → ℕ → ℕ
-startAmount mix ch k s c = cond (heldOf ch k s c) (shareOf (getD mix c 0) (sharersOf ch c k) (sharersOf ch c s)) 0
+startAmount mix systems count s c = cond (heldOf systems count s c) (shareOf (getD mix c 0) (sharersOf systems c count) (sharersOf systems c s)) 0
 
 abbrev pub startCell : List ℕ → List ℕ → ℕ → ℕ → ℕ
-startCell mix ch k i = startAmount mix ch k (i / COMPONENTS) (i % COMPONENTS)
+startCell mix systems count i = startAmount mix systems count (i / COMPONENTS) (i % COMPONENTS)
 
 unfoldable pub startOf : List ℕ → List ℕ → ℕ → List ℕ
-startOf mix ch k = table (startCell mix ch k) CELLS 0
+startOf mix systems count = table (startCell mix systems count) CELLS 0

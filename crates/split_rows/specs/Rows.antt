@@ -17,26 +17,26 @@ use Rattle.split_rows.specs.declared.Rows.{Rows}
 
 -- a list of numbers as a function
 abbrev pub listed : List ℤ → ℕ → ℤ
-listed v i = getD v i (pos 0)
+listed numbers i = getD numbers i (pos 0)
 
 -- row s's parts as a row of the system
 unfoldable pub partsIn : ℕ → List ℕ → ℕ → ℕ
-partsIn system a s = cellOf a s (memberOf system 0) + cellOf a s (memberOf system 1) + cellOf a s (memberOf system 2)
+partsIn system cells s = cellOf cells s (memberOf system 0) + cellOf cells s (memberOf system 1) + cellOf cells s (memberOf system 2)
 
 -- its partial number, or why it has none
 unfoldable pub answerIn : ℕ → List ℕ → ℕ → Partial
-answerIn system a s =
+answerIn system cells s =
     cond (isIn system candidates)
-    (formulaOf system (cellOf a s (memberOf system 0)) (cellOf a s (memberOf system 1)) (cellOf a s (memberOf system 2)))
+    (formulaOf system (cellOf cells s (memberOf system 0)) (cellOf cells s (memberOf system 1)) (cellOf cells s (memberOf system 2)))
     (Refused NO_SYSTEM)
 
 -- row s has a partial number: its system is a candidate and its parts make a mixture
 unfoldable pub rowFit : List ℕ → List ℕ → ℕ → Bool
-rowFit ch a s = isIn (systemOf ch s) candidates && isMixture (partsOf ch a s)
+rowFit systems cells s = isIn (systemOf systems s) candidates && isMixture (partsOf systems cells s)
 
--- each of the k rows, for which there is room
+-- each of the rows, for which there is room
 unfoldable pub rowsFit : List ℕ → ℕ → List ℕ → Bool
-rowsFit ch k a = leb k SYSTEMS && allTo (rowFit ch a) k
+rowsFit systems count cells = leb count SYSTEMS && allTo (rowFit systems cells) count
 
 -- the values of f at i, i + 1, .., of which there are n: those below k, then the value d
 unfoldable pub upTo : {A : Type 0} → A → ℕ → (ℕ → A) → ℕ → ℕ → List A
@@ -48,7 +48,7 @@ none = record { fit = false; numbers = replicate SYSTEMS (pos 0); parts = replic
 
 -- where each row has a partial number, these and the rows' parts
 unfoldable pub rowsOf : List ℕ → ℕ → List ℕ → Rows
-rowsOf ch k a =
-    cond (rowsFit ch k a)
-    (record { fit = true; numbers = upTo (pos 0) k (rowNumber ch a) SYSTEMS 0; parts = upTo 0 k (partsOf ch a) SYSTEMS 0 })
+rowsOf systems count cells =
+    cond (rowsFit systems count cells)
+    (record { fit = true; numbers = upTo (pos 0) count (rowNumber systems cells) SYSTEMS 0; parts = upTo 0 count (partsOf systems cells) SYSTEMS 0 })
     none

@@ -9,12 +9,12 @@ use lib.ListN.{getD, length, set, length-set}
 use lib.Seq.{getD-set-same, getD-set-other}
 use borrow.Author.Tests.{eqb-true, eqb-false, eq-eqb, ne-eqb}
 use Rattle.split.specs.Fold.{table}
-use Rattle.split.specs.Split.{SYSTEMS, heldOf}
+use Rattle.split.specs.Split.{SYSTEMS, heldOf, recordedIn}
 use Rattle.split.specs.Start.{shareOf, sharersOf, startAmount}
 use Rattle.split.specs.Move.{componentOf, giverOf, takerOf, shift}
 use Rattle.split.specs.Laws.Tables.{length-table, getD-table}
 use Rattle.split.specs.Laws.Moves.{length-shift}
-use Rattle.kept.specs.Widths.{BEFORE, BLEND, recorded, cellCount, moveCount, cellIn, cellsIn, startIn, movedIn}
+use Rattle.kept.specs.Widths.{BEFORE, BLEND, cellCount, moveCount, cellIn, cellsIn, startIn, movedIn}
 use Rattle.kept.specs.Laws.Alike.{Alike}
 
 -- ---- cells by a rule of row and component
@@ -47,7 +47,7 @@ alike-by f g e = record {
 -- of the same records
 pub records-alike : (ch : List ℕ) (k : ℕ) (xs : List ℕ) → Alike (cellsIn BEFORE ch k xs) (cellsIn BLEND ch k xs)
 unfolding cellsIn
-records-alike ch k xs = alike-by (recorded ch k xs) (recorded ch k xs) (λ s c l. refl)
+records-alike ch k xs = alike-by (recordedIn ch k xs) (recordedIn ch k xs) (λ s c l. refl)
 
 -- of two mixtures with the same amounts of the components before hydrogen
 pub start-alike : (mix′ mix ch : List ℕ) (k : ℕ)

@@ -15,12 +15,12 @@ use borrow.Author.Tests.{eq-eqb}
 use Rattle.systems.specs.Systems.{hasOf}
 use Rattle.split.specs.Fold.{allTo}
 use Rattle.split.specs.Laws.Folds.{sum-same}
-use Rattle.split.specs.Split.{systemOf, heldOf, componentAt, cellsOf, amountsOf}
+use Rattle.split.specs.Split.{systemOf, heldOf, componentAt, cellsOf, amountsOf, recordedIn}
 use Rattle.split.specs.Rating.{ratingOf, proposedOf}
 use Rattle.split.specs.Start.{startOf}
 use Rattle.split.specs.Search.{searchOf}
 use Rattle.split.specs.declared.Found.{Found}
-use Rattle.kept.specs.Widths.{BEFORE, BLEND, recorded, cellIn, columnIn, componentIn, cellsIn, amountsIn, ratingIn, resumsIn, proposedIn, startIn, searchIn}
+use Rattle.kept.specs.Widths.{BEFORE, BLEND, cellIn, columnIn, componentIn, cellsIn, amountsIn, ratingIn, resumsIn, proposedIn, startIn, searchIn}
 use Rattle.kept.specs.Laws.Today.{component-today, from-records-today, records-today, rating-today, proposed-today, start-today, search-today}
 use Rattle.kept.specs.Laws.Steady.{sum-zero, all-same}
 use Rattle.kept.specs.Laws.Alike.{Without, Alike, component-same, spreads-same, empty-same, rating-same, amounts-same}
@@ -65,7 +65,7 @@ module _ (ch : List ℕ) (k : ℕ) (without : Without ch k) (mix′ mix : List �
     unfolding columnIn cellsIn
     column-none =
         sum-zero (λ s. cellIn BLEND (cellsIn BLEND ch k xs) s BEFORE) k
-        (λ s h. blend-cell (recorded ch k xs) s BEFORE (omega (arith, without .most)) (omega arith)
+        (λ s h. blend-cell (recordedIn ch k xs) s BEFORE (omega (arith, without .most)) (omega arith)
         ∙ rw (held-none s h))
 
     column-same : (c : ℕ) → c < BEFORE

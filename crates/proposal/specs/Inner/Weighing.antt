@@ -16,23 +16,23 @@ use Rattle.split.specs.declared.Answer.the-variants.{Rated, Refused}
 use Rattle.split_rows.specs.Rows.{listed}
 use Rattle.split_rows.specs.Inner.Small.{Small}
 
--- each of k numbers times its parts, added
+-- each of the numbers times its parts, added
 unfoldable pub weighedTo : List ℤ → List ℕ → ℕ → ℤ
-weighedTo v p k = sumToZ (λ s. listed v s *ℤ pos (getD p s 0)) k
+weighedTo numbers p count = sumToZ (λ s. listed numbers s *ℤ pos (getD p s 0)) count
 
 -- the answer to such numbers and parts
 unfoldable pub ratedBy : ℕ → List ℤ → List ℕ → ℕ → ℕ → Answer
-ratedBy limit v p k n1 =
-    cond (ltb limit (spreadOf (listed v) k))
+ratedBy limit numbers p count n1 =
+    cond (ltb limit (spreadOf (listed numbers) count))
     (Refused WIDE 0)
-    (Rated (quotZ (weighedTo v p k) (pos MILLION) +ℤ inertNumber n1 +ℤ neg PURE_METHANE) (spreadOf (listed v) k) 0)
+    (Rated (quotZ (weighedTo numbers p count) (pos MILLION) +ℤ inertNumber n1 +ℤ neg PURE_METHANE) (spreadOf (listed numbers) count) 0)
 
 -- the answer to cells that re-sum
 unfoldable pub weighedOf : ℕ → List ℕ → ℕ → List ℕ → ℕ → Answer
-weighedOf limit ch k a n1 = cond (someEmpty ch k a) (Refused EMPTY_SYSTEM 0) (ratedOf limit ch k a n1)
+weighedOf limit systems count cells n1 = cond (someEmpty systems count cells) (Refused EMPTY_SYSTEM 0) (ratedOf limit systems count cells n1)
 
 -- small numbers of one or more rows that have a million parts at most
-pub record Weighable (v : List ℤ) (p : List ℕ) (k : ℕ) : Type 0 where
-  pub small : Small v k
-  pub some : 0 < k
-  pub few : sumTo (λ s. getD p s 0) k ≤ MILLION
+pub record Weighable (numbers : List ℤ) (p : List ℕ) (count : ℕ) : Type 0 where
+  pub small : Small numbers count
+  pub some : 0 < count
+  pub few : sumTo (λ s. getD p s 0) count ≤ MILLION

@@ -9,7 +9,7 @@ use Rattle.split.specs.Fold.{sumTo}
 unfoldable pub markOf : ℤ → ℕ
 markOf x = natAbs (quotZ x (pos 10000) +ℤ pos 200000000)
 
--- the marks of k numbers, added, and their squares
-pub record Totalled (v : ℕ → ℤ) (k sum squares : ℕ) : Type 0 where
-  pub added : sum ≡ sumTo (λ s. markOf (v s)) k
-  pub squared : squares ≡ sumTo (λ s. markOf (v s) * markOf (v s)) k
+-- the marks of the numbers, added, and their squares
+pub record Totalled (numbers : ℕ → ℤ) (count sum squares : ℕ) : Type 0 where
+  pub added : sum ≡ sumTo (λ s. markOf (numbers s)) count
+  pub squared : squares ≡ sumTo (λ s. markOf (numbers s) * markOf (numbers s)) count

@@ -10,25 +10,25 @@ use Rattle.split.specs.Split.{SYSTEMS, cellOf, systemOf, rowNumber}
 use Rattle.split.specs.Move.{componentOf, giverOf, affordsOf, canOf}
 use Rattle.split.specs.Laws.Steps.{numberWith}
 
--- the rows' numbers where row f had d of component c less
+-- the rows' numbers where row f had a stride of component c less
 unfoldable pub afterGiving : List ℕ → List ℕ → ℕ → ℕ → ℕ → ℕ → ℤ
-afterGiving ch a d f c s = cond (eqb s f) (numberWith ch a f c (cellOf a f c - d)) (rowNumber ch a s)
+afterGiving systems cells stride f c s = cond (eqb s f) (numberWith systems cells f c (cellOf cells f c - stride)) (rowNumber systems cells s)
 
--- move m's giver is a row that has its component and affords the stride d
+-- the move's giver is a row that has its component and affords the stride
 unfoldable pub givesOf : List ℕ → ℕ → List ℕ → ℕ → ℕ → Bool
-givesOf ch k a d m =
-    (ltb (giverOf m) k && (hasOf (systemOf ch (giverOf m)) (componentOf m) && affordsOf ch a d m))
+givesOf systems count cells stride move =
+    (ltb (giverOf move) count && (hasOf (systemOf systems (giverOf move)) (componentOf move) && affordsOf systems cells stride move))
 
 -- row t is not row f, and has component c
 unfoldable pub takesOf : List ℕ → ℕ → ℕ → ℕ → Bool
-takesOf ch c f t = not (eqb f t) && hasOf (systemOf ch t) c
+takesOf systems c f t = not (eqb f t) && hasOf (systemOf systems t) c
 
 -- no move below m can be made and lowers the imbalance
-pub record Past (ch : List ℕ) (k : ℕ) (a : List ℕ) (d m : ℕ) : Type 0 where
-  pub none : (s : ℕ) → s < m → canOf ch k a d s ≡ false
+pub record Past (systems : List ℕ) (count : ℕ) (cells : List ℕ) (stride move : ℕ) : Type 0 where
+  pub none : (s : ℕ) → s < move → canOf systems count cells stride s ≡ false
 
 -- of the moves from n on with n's giver, r is the first that can be made and lowers the imbalance, or past them all
-pub record Scanned (ch : List ℕ) (k : ℕ) (a : List ℕ) (d n r : ℕ) : Type 0 where
-  pub past : Past ch k a d r
+pub record Scanned (systems : List ℕ) (count : ℕ) (cells : List ℕ) (stride n r : ℕ) : Type 0 where
+  pub past : Past systems count cells stride r
   pub most : r ≤ n + SYSTEMS
-  pub found : r < n + SYSTEMS → canOf ch k a d r ≡ true
+  pub found : r < n + SYSTEMS → canOf systems count cells stride r ≡ true

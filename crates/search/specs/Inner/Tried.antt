@@ -29,26 +29,26 @@ triedRow i = i / COMPONENTS % SYSTEMS
 abbrev pub columnIn : ℕ → ℕ
 columnIn i = i % COMPONENTS
 
--- the amount that try i of the stride d leads to
+-- the amount that try i of the stride leads to
 unfoldable pub triedOf : List ℕ → ℕ → ℕ → ℕ
-triedOf a d i = cond (ltb i CELLS) (getD a i 0 - d) (getD a (i - CELLS) 0 + d)
+triedOf cells stride i = cond (ltb i CELLS) (getD cells i 0 - stride) (getD cells (i - CELLS) 0 + stride)
 
 -- its row's partial number then
 unfoldable pub wantedOf : List ℕ → List ℕ → ℕ → ℕ → ℤ
-wantedOf ch a d i = numberWith ch a (triedRow i) (columnIn i) (triedOf a d i)
+wantedOf systems cells stride i = numberWith systems cells (triedRow i) (columnIn i) (triedOf cells stride i)
 
--- each number of the k rows' tries is not known or is the one wanted
-pub record Tried (ch : List ℕ) (k : ℕ) (a : List ℕ) (d : ℕ) (t : List ℤ) : Type 0 where
+-- each number of the rows' tries is not known or is the one wanted
+pub record Tried (systems : List ℕ) (count : ℕ) (cells : List ℕ) (stride : ℕ) (t : List ℤ) : Type 0 where
   pub long : length t ≡ TRIES
-  pub known : (i : ℕ) → i < TRIES → triedRow i < k → (listed t i ≡ UNKNOWN → ⊥) → (listed t i ≡ wantedOf ch a d i) × (natAbs (listed t i) ≤ LARGEST)
+  pub known : (i : ℕ) → i < TRIES → triedRow i < count → (listed t i ≡ UNKNOWN → ⊥) → (listed t i ≡ wantedOf systems cells stride i) × (natAbs (listed t i) ≤ LARGEST)
 
 -- try i can be worked out
-pub record Triable (ch : List ℕ) (k : ℕ) (a : List ℕ) (d i : ℕ) : Type 0 where
+pub record Triable (systems : List ℕ) (count : ℕ) (cells : List ℕ) (stride i : ℕ) : Type 0 where
   pub below : i < TRIES
-  pub row : triedRow i < k
-  pub had : i < CELLS → d ≤ getD a i 0
-  pub room : CELLS ≤ i → getD a (i - CELLS) 0 + d ≤ MILLION
-  pub workable : Workable ch a (triedRow i) (columnIn i) (triedOf a d i)
+  pub row : triedRow i < count
+  pub had : i < CELLS → stride ≤ getD cells i 0
+  pub room : CELLS ≤ i → getD cells (i - CELLS) 0 + stride ≤ MILLION
+  pub workable : Workable systems cells (triedRow i) (columnIn i) (triedOf cells stride i)
 
 -- u is t with row s's numbers not known
 pub record Forgot (t : List ℤ) (s : ℕ) (u : List ℤ) : Type 0 where

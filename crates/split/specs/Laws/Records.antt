@@ -10,7 +10,7 @@ use lib.ListN.{getD, length, List·getD-eq-default}
 use lib.Seq.{ext-getD}
 use borrow.Author.Tests.{lt-ltb, le-ltb, ltb-true, ltb-false}
 use Rattle.systems.specs.Systems.{COMPONENTS}
-use Rattle.split.specs.Split.{SYSTEMS, CELLS, RECORDS, cellOf, systemOf, heldOf, rankOf, componentAt, cellsOf, amountsOf, Chosen}
+use Rattle.split.specs.Split.{SYSTEMS, CELLS, RECORDS, cellOf, systemOf, heldOf, rankOf, componentAt, cellsOf, amountsOf, Chosen, amountAt, cellAt, recordedIn}
 use Rattle.split.specs.Laws.Tables.{length-table, getD-table}
 use Rattle.split.specs.Laws.Clean.{Clean, held-row, row-held}
 use Rattle.split.specs.Laws.Places.{rank-lt, component-rank, component-lt, component-has, rank-component}
@@ -18,37 +18,34 @@ use Rattle.split.specs.Laws.Places.{rank-lt, component-rank, component-l
 module _ (ch : List ℕ) (k : ℕ) where
   -- ---- one cell, one amount
 
-  abbrev amountIn : List ℕ → ℕ → ℕ → ℕ
-  amountIn xs s c = cond (heldOf ch k s c) (getD xs (3 * s + rankOf (systemOf ch s) c) 0) 0
-
   pub cells-length : (xs : List ℕ) → length (cellsOf ch k xs) ≡ CELLS
   unfolding cellsOf
-  cells-length xs = length-table (λ i. amountIn xs (i / COMPONENTS) (i % COMPONENTS)) CELLS 0
+  cells-length xs = length-table (cellAt ch k xs) CELLS 0
 
   pub amounts-length : (a : List ℕ) → length (amountsOf ch k a) ≡ RECORDS
   unfolding amountsOf
-  amounts-length a = length-table (λ r. cond (ltb r (3 * k)) (cellOf a (r / 3) (componentAt (systemOf ch (r / 3)) (r % 3))) 0) RECORDS 0
+  amounts-length a = length-table (amountAt ch k a) RECORDS 0
 
-  pub cells-cell : (xs : List ℕ) (s c : ℕ) → s < SYSTEMS → c < COMPONENTS → cellOf (cellsOf ch k xs) s c ≡ amountIn xs s c
+  pub cells-cell : (xs : List ℕ) (s c : ℕ) → s < SYSTEMS → c < COMPONENTS → cellOf (cellsOf ch k xs) s c ≡ recordedIn ch k xs s c
   unfolding cellsOf
   cells-cell xs s c h l =
       let row : (0 + (s * COMPONENTS + c)) / COMPONENTS ≡ s = omega arith in
       let column : (0 + (s * COMPONENTS + c)) % COMPONENTS ≡ c = omega arith in
-      getD-table (λ i. amountIn xs (i / COMPONENTS) (i % COMPONENTS)) CELLS 0 (s * COMPONENTS + c) (omega arith) ∙ ap₂ (amountIn xs) row column
+      getD-table (cellAt ch k xs) CELLS 0 (s * COMPONENTS + c) (omega arith) ∙ ap₂ (recordedIn ch k xs) row column
 
   pub amounts-at : (a : List ℕ) (s j : ℕ) → s < k → j < 3 → 3 * k ≤ RECORDS → getD (amountsOf ch k a) (3 * s + j) 0 ≡ cellOf a s (componentAt (systemOf ch s) j)
   unfolding amountsOf
   amounts-at a s j h l room =
       let row : (0 + (3 * s + j)) / 3 ≡ s = omega arith in
       let place : (0 + (3 * s + j)) % 3 ≡ j = omega arith in
-      getD-table (λ r. cond (ltb r (3 * k)) (cellOf a (r / 3) (componentAt (systemOf ch (r / 3)) (r % 3))) 0) RECORDS 0 (3 * s + j) (omega arith)
+      getD-table (amountAt ch k a) RECORDS 0 (3 * s + j) (omega arith)
       ∙ ap (λ (b : Bool). cond b (cellOf a ((0 + (3 * s + j)) / 3) (componentAt (systemOf ch ((0 + (3 * s + j)) / 3)) ((0 + (3 * s + j)) % 3))) 0) (lt-ltb (0 + (3 * s + j)) (3 * k) (omega arith))
       ∙ ap₂ (λ (s j : ℕ). cellOf a s (componentAt (systemOf ch s) j)) row place
 
   pub amounts-beyond : (a : List ℕ) (r : ℕ) → r < RECORDS → 3 * k ≤ r → getD (amountsOf ch k a) r 0 ≡ 0
   unfolding amountsOf
   amounts-beyond a r h l =
-      getD-table (λ r. cond (ltb r (3 * k)) (cellOf a (r / 3) (componentAt (systemOf ch (r / 3)) (r % 3))) 0) RECORDS 0 r h
+      getD-table (amountAt ch k a) RECORDS 0 r h
       ∙ ap (λ (b : Bool). cond b (cellOf a ((0 + r) / 3) (componentAt (systemOf ch ((0 + r) / 3)) ((0 + r) % 3))) 0) (le-ltb (0 + r) (3 * k) (omega arith))
 
   -- ---- cells made of records are clean

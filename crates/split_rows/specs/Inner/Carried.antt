@@ -11,24 +11,24 @@ use Rattle.split.specs.Laws.Steps.{insteadOf}
 use Rattle.split_rows.specs.Rows.{listed}
 use Rattle.split_rows.specs.Inner.Small.{Small}
 
--- v has the partial numbers of the k rows
-pub record Carried (ch : List ℕ) (k : ℕ) (a : List ℕ) (v : List ℤ) : Type 0 where
-  pub long : length v ≡ SYSTEMS
-  pub are : (s : ℕ) → s < k → listed v s ≡ rowNumber ch a s
+-- v has the partial numbers of the rows
+pub record Carried (systems : List ℕ) (count : ℕ) (cells : List ℕ) (numbers : List ℤ) : Type 0 where
+  pub long : length numbers ≡ SYSTEMS
+  pub are : (s : ℕ) → s < count → listed numbers s ≡ rowNumber systems cells s
 
 -- a sound split with its partial numbers
-pub record Held (ch : List ℕ) (k : ℕ) (a : List ℕ) (v : List ℤ) : Type 0 where
-  pub sound : Sound ch k a
-  pub carried : Carried ch k a v
-  pub small : Small v k
+pub record Held (systems : List ℕ) (count : ℕ) (cells : List ℕ) (numbers : List ℤ) : Type 0 where
+  pub sound : Sound systems count cells
+  pub carried : Carried systems count cells numbers
+  pub small : Small numbers count
 
 -- row s's parts where its amount of component c were n
 abbrev pub partsWith : List ℕ → List ℕ → ℕ → ℕ → ℕ → ℕ
-partsWith ch a s c n = insteadOf a s c n (memberOf (systemOf ch s) 0) + insteadOf a s c n (memberOf (systemOf ch s) 1) + insteadOf a s c n (memberOf (systemOf ch s) 2)
+partsWith systems cells s c n = insteadOf cells s c n (memberOf (systemOf systems s) 0) + insteadOf cells s c n (memberOf (systemOf systems s) 1) + insteadOf cells s c n (memberOf (systemOf systems s) 2)
 
 -- with that amount the row of a candidate can be worked out
-pub record Workable (ch : List ℕ) (a : List ℕ) (s c n : ℕ) : Type 0 where
+pub record Workable (systems : List ℕ) (cells : List ℕ) (s c n : ℕ) : Type 0 where
   pub row : s < SYSTEMS
-  pub known : Candidate (systemOf ch s)
-  pub some : 1 ≤ partsWith ch a s c n
-  pub few : partsWith ch a s c n ≤ MILLION
+  pub known : Candidate (systemOf systems s)
+  pub some : 1 ≤ partsWith systems cells s c n
+  pub few : partsWith systems cells s c n ≤ MILLION

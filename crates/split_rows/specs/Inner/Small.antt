@@ -6,7 +6,7 @@ use Rattle.formula.specs.WorkingRule.{LARGEST}
 use Rattle.split.specs.Split.{SYSTEMS}
 use Rattle.split_rows.specs.Rows.{listed}
 
--- each of the k numbers is small enough
-pub record Small (v : List ℤ) (k : ℕ) : Type 0 where
-  pub most : k ≤ SYSTEMS
-  pub each : (i : ℕ) → i < k → natAbs (listed v i) ≤ LARGEST
+-- each of the numbers is small enough
+pub record Small (numbers : List ℤ) (count : ℕ) : Type 0 where
+  pub most : count ≤ SYSTEMS
+  pub each : (i : ℕ) → i < count → natAbs (listed numbers i) ≤ LARGEST

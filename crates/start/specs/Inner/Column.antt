@@ -11,7 +11,7 @@ use Rattle.split.specs.Start.{sharersOf}
 
 -- whether cell i's system contains its component: 1, else 0
 abbrev pub containedAt : List ℕ → ℕ → ℕ
-containedAt ch i = cond (hasOf (systemOf ch (i / COMPONENTS)) (i % COMPONENTS)) 1 0
+containedAt systems i = cond (hasOf (systemOf systems (i / COMPONENTS)) (i % COMPONENTS)) 1 0
 
 -- whole rows end there, and c is a component
 pub record Cells (end c : ℕ) : Type 0 where
@@ -20,8 +20,8 @@ pub record Cells (end c : ℕ) : Type 0 where
   pub low : c < COMPONENTS
 
 -- the rows' cells of component c hold 1 where the row's system contains it, else 0
-pub record Marked (ch : List ℕ) (end c : ℕ) (a : List ℕ) : Type 0 where
-  pub mark : (s : ℕ) → s < end / COMPONENTS → getD a (s * COMPONENTS + c) 0 ≡ cond (hasOf (systemOf ch s) c) 1 0
+pub record Marked (systems : List ℕ) (end c : ℕ) (cells : List ℕ) : Type 0 where
+  pub mark : (s : ℕ) → s < end / COMPONENTS → getD cells (s * COMPONENTS + c) 0 ≡ cond (hasOf (systemOf systems s) c) 1 0
 
 -- what a row gets: nothing where it does not share, else its share, and 1 more where its rank is below the odd parts
 unfoldable pub partOf : ℕ → ℕ → ℕ → ℕ → ℕ
@@ -29,18 +29,18 @@ partOf here share odd rank = cond (eqb here 0) 0 (share + cond (ltb rank odd) 1 
 
 -- row s's part of component c
 unfoldable pub sharedRow : List ℕ → ℕ → ℕ → ℕ → ℕ → ℕ
-sharedRow ch c share odd s = partOf (cond (hasOf (systemOf ch s) c) 1 0) share odd (sharersOf ch c s)
+sharedRow systems c share odd s = partOf (cond (hasOf (systemOf systems s) c) 1 0) share odd (sharersOf systems c s)
 
--- the cells a with component c's parts in the first n rows
+-- the cells with component c's parts in the first n rows
 unfoldable pub columnTo : List ℕ → ℕ → ℕ → ℕ → List ℕ → ℕ → List ℕ
-columnTo ch c share odd a zero = a
-columnTo ch c share odd a (suc n) = set (columnTo ch c share odd a n) (n * COMPONENTS + c) (sharedRow ch c share odd n)
+columnTo systems c share odd cells zero = cells
+columnTo systems c share odd cells (suc n) = set (columnTo systems c share odd cells n) (n * COMPONENTS + c) (sharedRow systems c share odd n)
 
--- the cells a with t parts of component c shared among the k rows
+-- the cells with t parts of component c shared among the rows
 unfoldable pub sharedOf : List ℕ → ℕ → ℕ → ℕ → List ℕ → List ℕ
-sharedOf ch k c t a = columnTo ch c (t / max 1 (sharersOf ch c k)) (t % max 1 (sharersOf ch c k)) a k
+sharedOf systems count c t cells = columnTo systems c (t / max 1 (sharersOf systems c count)) (t % max 1 (sharersOf systems c count)) cells count
 
 -- the same of the first n components of a mixture
 unfoldable pub sharedTo : List ℕ → List ℕ → ℕ → List ℕ → ℕ → List ℕ
-sharedTo mix ch k a zero = a
-sharedTo mix ch k a (suc n) = sharedOf ch k n (getD mix n 0) (sharedTo mix ch k a n)
+sharedTo mix systems count cells zero = cells
+sharedTo mix systems count cells (suc n) = sharedOf systems count n (getD mix n 0) (sharedTo mix systems count cells n)
