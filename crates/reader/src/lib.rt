@@ -114,7 +114,7 @@ fn codes(s: &[u8], n: usize) -> Reading
         let refusal = code_refusal(c, p);
         if refusal != 0 {
             return Reading::Refused {
-                fourBytes: refusal,
+                number: refusal,
                 place,
                 code: 0,
             };
@@ -191,11 +191,11 @@ fn refused(answer: Reading) -> Sheet
 }
 
 // The same of a refusal's number, place and code.
-fn refused_with(fourBytes: u32, place: u32, code: u32) -> Sheet
-    ensures { λ r. ⌜ r ≡ refusedSheet (Reading.Refused fourBytes place code) ⌝ }
+fn refused_with(number: u32, place: u32, code: u32) -> Sheet
+    ensures { λ r. ⌜ r ≡ refusedSheet (Reading.Refused number place code) ⌝ }
 {
     refused(Reading::Refused {
-        fourBytes,
+        number,
         place,
         code,
     })
@@ -212,7 +212,7 @@ fn amounts_refused(s: &[u8], n: usize, a: Analysis) -> Checked
         let x = amount_at(s, at + 1);
         if x == 0 {
             return Checked::Refused {
-                fourBytes: OUT_OF_RANGE,
+                number: OUT_OF_RANGE,
                 code: s[at] as u32,
             };
         }
@@ -245,7 +245,7 @@ pub fn read(s: &[u8]) -> Sheet
     };
     let checked = amounts_refused(s, n, a);
     match checked {
-        Checked::Refused { fourBytes, code } => refused_with(fourBytes, 0, code),
+        Checked::Refused { number, code } => refused_with(number, 0, code),
         Checked::InRange => {
             let split = split_at(s, first, m);
             Sheet {
