@@ -11,7 +11,8 @@ use borrow.Author.Tests.{le-leb, lt-leb, eq-eqb, ne-eqb, eqb-false}
 use Rattle.analysis.specs.Register.{CODES}
 use Rattle.analysis.specs.declared.Checked.{Checked}
 use Rattle.analysis.specs.declared.Checked.the-variants.{InRange, Refused}
-use Rattle.analysis.specs.Check.{inRange, allInRange, totalOf, totalFits, refusalByTests, analysisRefusal, AtFault, checkedOf, Checking, Fault}
+use Rattle.analysis.specs.Check.{inRange, allInRange, totalOf, totalFits, refusalByTests, analysisRefusal}
+use Rattle.analysis.specs.Check.{AtFault, checkedOf, Checking, Fault}
 use Rattle.analysis.specs.CheckedCases.{numberOf, faultOf}
 use Rattle.analysis.specs.Laws.Ranges.{answer-number}
 
@@ -69,21 +70,26 @@ walk-none a l =
       small = omega arith;
     }
 
-module _ (a : List ℕ) (fault sum code next : ℕ) (w : Walked a fault sum code) (h : 0 < code) (s : (next ≡ sum + getD a (code - 1) 0) × (next ≤ sum + 4294967295)) where
+module _ (a : List ℕ) (fault sum code next : ℕ) (w : Walked a fault sum code) (h : 0 < code)
+    (s : (next ≡ sum + getD a (code - 1) 0) × (next ≤ sum + 4294967295)) where
   go-total : (k : ℕ) → code ≡ suc k → next ≡ sum + getD a k 0 → next ≡ totalOf (drop k a)
-  go-total k e f = rw (drop-cons a k 0 (omega (arith, w .long, w .most))) (omega (arith, w .total, ap (λ n. totalOf (drop n a)) e))
+  go-total k e f =
+      rw (drop-cons a k 0 (omega (arith, w .long, w .most))) (omega (arith, w .total, ap (λ n. totalOf (drop n a)) e))
 
   go-total-here : next ≡ totalOf (drop (code - 1) a)
   go-total-here = go-total (code - 1) (omega arith) (s .0)
 
-  all-next : (k : ℕ) (b : Bool) → code ≡ suc k → inRange k (getD a k 0) ≡ b → allInRange k (drop k a) ≡ cond b (allInRange code (drop code a)) false
+  all-next : (k : ℕ) (b : Bool) → code ≡ suc k → inRange k (getD a k 0) ≡ b
+      → allInRange k (drop k a) ≡ cond b (allInRange code (drop code a)) false
   all-next k true e f = rw (drop-cons a k 0 (omega (arith, w .long, w .most)), f, e)
   all-next k false e f = rw (drop-cons a k 0 (omega (arith, w .long, w .most)), f)
 
-  pub walk-next : (found : ℕ) → found ≡ cond (inRange (code - 1) (getD a (code - 1) 0)) fault (code - 1) → Walked a found next (code - 1)
+  pub walk-next : (found : ℕ) → found ≡ cond (inRange (code - 1) (getD a (code - 1) 0)) fault (code - 1)
+      → Walked a found next (code - 1)
   walk-next found e = go (inRange (code - 1) (getD a (code - 1) 0)) refl e
     where
-      go : (b : Bool) → inRange (code - 1) (getD a (code - 1) 0) ≡ b → found ≡ cond b fault (code - 1) → Walked a found next (code - 1)
+      go : (b : Bool) → inRange (code - 1) (getD a (code - 1) 0) ≡ b → found ≡ cond b fault (code - 1)
+          → Walked a found next (code - 1)
       go true f g =
           rw g
           (record {
@@ -101,7 +107,9 @@ module _ (a : List ℕ) (fault sum code next : ℕ) (w : Walked a fault sum code
             long = w .long;
             most = omega (arith, w .most);
             within = omega (arith, w .most);
-            ranges = ne-eqb (code - 1) CODES (λ z. omega (arith, w .most)) ∙ sym (all-next (code - 1) false (omega arith) f);
+            ranges =
+                ne-eqb (code - 1) CODES (λ z. omega (arith, w .most))
+                ∙ sym (all-next (code - 1) false (omega arith) f);
             at-fault = λ _. f;
             total = go-total-here;
             small = omega (arith, w .small, w .most, s .1);
@@ -114,14 +122,16 @@ five false u h = refl
 five true true h = absurd (omega arith)
 five true false h = absurd (omega arith)
 
-own-code : (r : Checked) (n fault : ℕ) (b c : Bool) → eqb n 0 ≡ b → eqb n 5 ≡ c → r ≡ checkedOf n fault → r ≡ checkedOf n (faultOf r)
+own-code : (r : Checked) (n fault : ℕ) (b c : Bool) → eqb n 0 ≡ b → eqb n 5 ≡ c → r ≡ checkedOf n fault
+    → r ≡ checkedOf n (faultOf r)
 own-code r n fault true c p q e = rw p (rw p at e)
 own-code r n fault false true p q e =
     let f : r ≡ Refused n fault = rw (p, q) at e in
     rw (p, q) (f ∙ ap (Refused n) (sym (ap faultOf f)))
 own-code r n fault false false p q e = rw (p, q) (rw (p, q) at e)
 
-module _ (a : List ℕ) (fault sum code : ℕ) (r : Checked) (z : code ≤ 0) (w : Walked a fault sum code) (e : r ≡ checkedOf (refusalByTests (eqb fault CODES) (totalFits sum)) fault) where
+module _ (a : List ℕ) (fault sum code : ℕ) (r : Checked) (z : code ≤ 0) (w : Walked a fault sum code)
+    (e : r ≡ checkedOf (refusalByTests (eqb fault CODES) (totalFits sum)) fault) where
   found : Fault a fault
   found =
       let y : code ≡ 0 = omega arith in
@@ -137,10 +147,13 @@ module _ (a : List ℕ) (fault sum code : ℕ) (r : Checked) (z : code ≤ 0) (w
   checking =
       let f : r ≡ checkedOf (analysisRefusal a) fault = e ∙ ap (λ n. checkedOf n fault) number in
       record {
-        answer = own-code r (analysisRefusal a) fault (eqb (analysisRefusal a) 0) (eqb (analysisRefusal a) 5) refl refl f;
+        answer =
+            own-code r (analysisRefusal a) fault (eqb (analysisRefusal a) 0) (eqb (analysisRefusal a) 5) refl refl f;
         code = λ k.
             let h : analysisRefusal a ≡ 5 = sym (ap numberOf f ∙ answer-number (analysisRefusal a) fault) ∙ k in
-            let g : fault < CODES = let x = eqb-false fault CODES (five (eqb fault CODES) (totalFits sum) (number ∙ h)) in let y = found .within in omega (arith, x) in
+            let g : fault < CODES = let x =
+                eqb-false fault CODES (five (eqb fault CODES) (totalFits sum) (number ∙ h)) in
+                let y = found .within in omega (arith, x) in
             let d : faultOf r ≡ fault = ap faultOf (rw h at f) in
             rw d (found .fault g);
       }

@@ -11,6 +11,7 @@ pub partial-done : (x : Partial) (n : ℤ) → x ≡ partial.Number n → (old a
     → (reply 0 0 ≡ partialReply x) × (after ≡ partialIn x old)
 partial-done x n e old after h = (sym (ap partialReply e), h ∙ sym (ap (λ (y : Partial). partialIn y old) e))
 
-pub partial-refused : (x : Partial) (number : ℕ) → x ≡ partial.Refused number → (o : Reply) → o ≡ reply number 0 → (old : ℤ)
+pub partial-refused : (x : Partial) (number : ℕ) → x ≡ partial.Refused number → (o : Reply) → o ≡ reply number 0
+    → (old : ℤ)
     → (o ≡ partialReply x) × (old ≡ partialIn x old)
 partial-refused x number e o q old = (q ∙ sym (ap partialReply e), sym (ap (λ (y : Partial). partialIn y old) e))

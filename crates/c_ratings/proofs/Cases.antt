@@ -49,7 +49,8 @@ code-kept (Refused number place) = refl
 same-code : (x : Answer) (r : Reply) → r ≡ replyOf x → codeIn r ≡ faultOf x
 same-code x r e = ap codeIn e ∙ code-kept x
 
-pub fault-at : (x : Answer) (r : Reply) → r ≡ replyOf x → (P : ℕ → Type 0) → (numberOf x ≡ 5 → P (faultOf x)) → r .number ≡ 5 → P (codeIn r)
+pub fault-at : (x : Answer) (r : Reply) → r ≡ replyOf x → (P : ℕ → Type 0) → (numberOf x ≡ 5 → P (faultOf x))
+    → r .number ≡ 5 → P (codeIn r)
 fault-at x r e P p z = subst P (sym (same-code x r e)) (p (sym (ap (λ (y : Reply). y .number) e) ∙ z))
 
 -- `f` gives the answer for a code with 5
@@ -64,7 +65,8 @@ module _ (f : ℕ → Answer) (x : Answer) (h : x ≡ f (faultOf x)) (r : Reply)
   figures-are after before g = g ∙ ap (λ (y : Answer). figuresOf y before) answered
 
 -- the same with a split: the reply and each buffer after a call, beside what it held
-abbrev Put : Outcome → Reply → (figures₀ figures : List ℤ) (count₀ count : ℕ) (systems₀ systems codes₀ codes parts₀ parts : List ℕ)
+abbrev Put : Outcome → Reply → (figures₀ figures : List ℤ) (count₀ count : ℕ)
+    (systems₀ systems codes₀ codes parts₀ parts : List ℕ)
     → Type 0
 Put x r figures₀ figures count₀ count systems₀ systems codes₀ codes parts₀ parts =
     (r ≡ replyOf (x .answer))
@@ -74,7 +76,9 @@ Put x r figures₀ figures count₀ count systems₀ systems codes₀ codes part
     × (codes ≡ bufferOf (x .answer) (x .split .codes) codes₀)
     × (parts ≡ bufferOf (x .answer) (x .split .amounts) parts₀)
 
-module _ (f : ℕ → Outcome) (x : Outcome) (h : x ≡ f (faultOf (x .answer))) (r : Reply) (figures₀ figures : List ℤ) (count₀ count : ℕ) (systems₀ systems codes₀ codes parts₀ parts : List ℕ) (p : Put x r figures₀ figures count₀ count systems₀ systems codes₀ codes parts₀ parts) where
+module _ (f : ℕ → Outcome) (x : Outcome) (h : x ≡ f (faultOf (x .answer))) (r : Reply) (figures₀ figures : List ℤ)
+    (count₀ count : ℕ) (systems₀ systems codes₀ codes parts₀ parts : List ℕ)
+    (p : Put x r figures₀ figures count₀ count systems₀ systems codes₀ codes parts₀ parts) where
   pub put-is : Put (f (codeIn r)) r figures₀ figures count₀ count systems₀ systems codes₀ codes parts₀ parts
   put-is =
       subst (λ (y : Outcome). Put y r figures₀ figures count₀ count systems₀ systems codes₀ codes parts₀ parts)

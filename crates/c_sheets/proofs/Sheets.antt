@@ -36,7 +36,8 @@ carries false n len c = go (eqb n 5)
 
 -- the writer's promise, of the split that it was given
 pub written-by : (a : List ℕ) (p q : Split) (b : List ℕ) (r : Written) (left : List ℕ) → p ≡ q
-    → r ≡ writtenOf a p (length b) (write.faultOf r) → left ≡ leftOf a p b → (write.numberOf r ≡ 5 → AtFault a (write.faultOf r))
+    → r ≡ writtenOf a p (length b) (write.faultOf r) → left ≡ leftOf a p b
+    → (write.numberOf r ≡ 5 → AtFault a (write.faultOf r))
     → WrittenAs a q b r left
 written-by a p q b r left e x y z =
     subst (λ (s : Split). WrittenAs a s b r left) e (record { answer = x; buffer = y; code = z })
@@ -46,19 +47,25 @@ module _ (a : List ℕ) (p : Split) (b : List ℕ) (r : Written) (left : List �
   unfolding writtenOf
   coded =
       ap write.faultOf (w .answer)
-      ∙ carries (eqb (writeRefusal a p (length b)) 0) (writeRefusal a p (length b)) (length (sheetOf a p)) (write.faultOf r)
+      ∙ carries (eqb (writeRefusal a p (length b)) 0) (writeRefusal a p (length b)) (length (sheetOf a p))
+      (write.faultOf r)
       ∙ sym (ap (λ (x : Written). cond (eqb (write.numberOf x) 5) (write.faultOf r) 0) (w .answer))
 
   pub written-done : (n : ℕ) → r ≡ Length n → (old : ℕ)
-      → ((reply 0 0 ≡ writtenReply (writtenOf a p (size b) 0)) × (left ≡ leftOf a p b) × (n ≡ writtenLength (writtenOf a p (size b) 0) old))
+      → ((reply 0 0 ≡ writtenReply (writtenOf a p (size b) 0)) × (left ≡ leftOf a p b)
+      × (n ≡ writtenLength (writtenOf a p (size b) 0) old))
       × (_≡_ {A = ℕ} 0 5 → AtFault a 0)
   written-done n e old =
-      let f : writtenOf a p (length b) 0 ≡ Length n = ap (writtenOf a p (length b)) (sym (ap write.faultOf e)) ∙ sym (w .answer) ∙ e in
-      ((sym (ap writtenReply f), w .buffer, sym (ap (λ (x : Written). writtenLength x old) f)), λ (z : _≡_ {A = ℕ} 0 5). absurd (omega (arith, z)))
+      let f : writtenOf a p (length b) 0 ≡ Length n = ap (writtenOf a p (length b)) (sym (ap write.faultOf e))
+          ∙ sym (w .answer) ∙ e in
+      ((sym (ap writtenReply f), w .buffer, sym (ap (λ (x : Written). writtenLength x old) f)),
+      λ (z : _≡_ {A = ℕ} 0 5). absurd (omega (arith, z)))
 
   module _ (number code : ℕ) (e : r ≡ Refused number code) where
     same : write.faultOf r ≡ codeIn (reply number code)
-    same = ap write.faultOf e ∙ subst (λ (x : Written). write.faultOf x ≡ cond (eqb (write.numberOf x) 5) (write.faultOf x) 0) e coded
+    same =
+        ap write.faultOf e ∙ subst (λ (x : Written). write.faultOf x ≡ cond (eqb (write.numberOf x) 5)
+        (write.faultOf x) 0) e coded
 
     answer-back : writtenOf a p (length b) (codeIn (reply number code)) ≡ Refused number code
     answer-back = ap (writtenOf a p (length b)) (sym same) ∙ sym (w .answer) ∙ e
@@ -69,7 +76,8 @@ module _ (a : List ℕ) (p : Split) (b : List ℕ) (r : Written) (left : List �
       answer-then = ap (λ (x : Reply). writtenOf a p (length b) (codeIn x)) q ∙ answer-back
 
       pub written-refused : (old : ℕ)
-          → ((o ≡ writtenReply (writtenOf a p (size b) (codeIn o))) × (left ≡ leftOf a p b) × (old ≡ writtenLength (writtenOf a p (size b) (codeIn o)) old))
+          → ((o ≡ writtenReply (writtenOf a p (size b) (codeIn o))) × (left ≡ leftOf a p b)
+          × (old ≡ writtenLength (writtenOf a p (size b) (codeIn o)) old))
           × (o .number ≡ 5 → AtFault a (codeIn o))
       written-refused old = (
         (q ∙ sym (ap writtenReply answer-then), w .buffer, sym (ap (λ (x : Written). writtenLength x old) answer-then)),
@@ -80,11 +88,13 @@ module _ (a : List ℕ) (p : Split) (b : List ℕ) (r : Written) (left : List �
 
 -- ---- reading
 
-module _ (s : List ℕ) (r : Sheet) (h : ReadAs s r) (number place code : ℕ) (e : r .answer ≡ reading.Refused number place code) where
+module _ (s : List ℕ) (r : Sheet) (h : ReadAs s r) (number place code : ℕ)
+    (e : r .answer ≡ reading.Refused number place code) where
   same-code : codeIn (reply number (read.placeOf (reading.Refused number place code))) ≡ code
   same-code = carried-code s r h number place code e
 
-  read-back : readOf s (codeIn (reply number (read.placeOf (reading.Refused number place code)))) .answer ≡ reading.Refused number place code
+  read-back : readOf s (codeIn (reply number (read.placeOf (reading.Refused number place code)))) .answer
+      ≡ reading.Refused number place code
   read-back = ap (λ (c : ℕ). readOf s c .answer) same-code ∙ refused-answer s r h number place code e
 
   -- of the reply to a refused sheet
@@ -101,7 +111,8 @@ module _ (s : List ℕ) (r : Sheet) (h : ReadAs s r) (number place code : ℕ) (
     pub read-fault : o .number ≡ 5 → FaultIn (getD s 0 0) s (codeIn o)
     read-fault z =
         subst⁻¹ (λ (c : ℕ). FaultIn (getD s 0 0) s c) (ap codeIn q ∙ same-code)
-        (subst (FaultIn (getD s 0 0) s) (ap read.faultOf e) (h .code (ap read.numberOf e ∙ ap (λ (x : Reply). x .number) (sym q) ∙ z)))
+        (subst (FaultIn (getD s 0 0) s) (ap read.faultOf e)
+        (h .code (ap read.numberOf e ∙ ap (λ (x : Reply). x .number) (sym q) ∙ z)))
 
 module _ (s : List ℕ) (r : Sheet) (h : ReadAs s r) (e : r .answer ≡ reading.Read) where
   pub whole : r ≡ readOf s 0

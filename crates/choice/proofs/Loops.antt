@@ -1,4 +1,5 @@
--- A loop over a list is its fold: from what is known so far, the fold of what is left comes to the fold of the whole. Assumes nothing.
+-- A loop over a list is its fold: from what is known so far, the fold of what is left comes to the fold of the whole.
+-- Assumes nothing.
 use Prim.Native.Nat.{ℕ, _+_, _≤_, _<_}
 use mathlib.Core.Path.{_≡_}
 use mathlib.Core.List.{List}

@@ -27,10 +27,12 @@ pub offered-past : (hy : Bool) → getD (candidatesFor hy) (length (candidatesFo
 offered-past true = refl
 offered-past false = refl
 
-pub offered-is : (hy b : Bool) (n : ℕ) → n ≡ length (candidatesFor b) → hy ≡ b → (n ≡ length (candidatesFor hy)) × (n < KEYS)
+pub offered-is : (hy b : Bool) (n : ℕ) → n ≡ length (candidatesFor b) → hy ≡ b → (n ≡ length (candidatesFor hy))
+    × (n < KEYS)
 offered-is hy b n e f = rw f (e, omega (arith, e, offered-few b))
 
-pub candidate-is : (table : ℕ) (hy b : Bool) → T (agree (numberAt table) (λ i. getD (candidatesFor b) i 0) (length (candidatesFor b))) → hy ≡ b
+pub candidate-is : (table : ℕ) (hy b : Bool)
+    → T (agree (numberAt table) (λ i. getD (candidatesFor b) i 0) (length (candidatesFor b))) → hy ≡ b
     → (i : ℕ) → i < length (candidatesFor hy) → numberAt table i ≡ getD (candidatesFor hy) i 0
 candidate-is table hy b t e i h =
     rw e (agree-at (numberAt table) (λ i. getD (candidatesFor b) i 0) (length (candidatesFor b)) t i (rw e at h))
@@ -46,7 +48,8 @@ low-all false = tt
 pub candidate-lt : (hy : Bool) (i : ℕ) → i ≤ length (candidatesFor hy) → getD (candidatesFor hy) i 0 < NUMBERS
 unfolding low
 candidate-lt hy i h =
-    let l = leb→le (getD (candidatesFor hy) i 0 + 1) NUMBERS (eachTo (low hy) KEYS (low-all hy) i (omega (arith, offered-few hy))) in
+    let l = leb→le (getD (candidatesFor hy) i 0 + 1) NUMBERS
+        (eachTo (low hy) KEYS (low-all hy) i (omega (arith, offered-few hy))) in
     omega arith
 
 -- the candidates differ, and from 0, which stands for none
@@ -61,11 +64,14 @@ unfolding apart apartAt
 apart-all true = tt
 apart-all false = tt
 
-pub candidates-apart : (hy : Bool) (i j : ℕ) → i ≤ length (candidatesFor hy) → j ≤ length (candidatesFor hy) → (i ≡ j → ⊥) → getD (candidatesFor hy) i 0 ≡ getD (candidatesFor hy) j 0 → ⊥
+pub candidates-apart : (hy : Bool) (i j : ℕ) → i ≤ length (candidatesFor hy) → j ≤ length (candidatesFor hy)
+    → (i ≡ j → ⊥) → getD (candidatesFor hy) i 0 ≡ getD (candidatesFor hy) j 0 → ⊥
 unfolding apart apartAt
 candidates-apart hy i j h l n e =
-    go (eqb i j) (eqb (getD (candidatesFor hy) i 0) (getD (candidatesFor hy) j 0)) (ne-eqb i j n) (eq-eqb (getD (candidatesFor hy) i 0) (getD (candidatesFor hy) j 0) e)
-    (eachTo (apartAt hy i) (length (candidatesFor hy) + 1) (eachTo (apart hy) (length (candidatesFor hy) + 1) (apart-all hy) i (omega arith)) j (omega arith))
+    go (eqb i j) (eqb (getD (candidatesFor hy) i 0) (getD (candidatesFor hy) j 0)) (ne-eqb i j n)
+        (eq-eqb (getD (candidatesFor hy) i 0) (getD (candidatesFor hy) j 0) e)
+    (eachTo (apartAt hy i) (length (candidatesFor hy) + 1)
+    (eachTo (apart hy) (length (candidatesFor hy) + 1) (apart-all hy) i (omega arith)) j (omega arith))
   where
     go : (a b : Bool) → a ≡ false → b ≡ true → T (a || not b) → ⊥
     go true b p q t = of-true false (sym p)
@@ -77,7 +83,8 @@ candidates-apart hy i j h l n e =
 abbrev pub weightAt : ℕ → ℕ → ℕ
 weightAt table c = table / 2 ^ (c * 8) % 256
 
-pub weight-is : (table : ℕ) → T (agree (weightAt table) (λ c. getD weights c 0) COMPONENTS) → (c : ℕ) → c < COMPONENTS → weightAt table c ≡ getD weights c 0
+pub weight-is : (table : ℕ) → T (agree (weightAt table) (λ c. getD weights c 0) COMPONENTS) → (c : ℕ) → c < COMPONENTS
+    → weightAt table c ≡ getD weights c 0
 weight-is table t = agree-at (weightAt table) (λ c. getD weights c 0) COMPONENTS t
 
 light : ℕ → Bool
@@ -88,10 +95,12 @@ pub weighted-le : (c x : ℕ) → c < COMPONENTS → x ≤ 4294967295 → getD w
 unfolding light
 weighted-le c x h l = mul-le-mul (leb→le (getD weights c 0) 100 (eachTo light COMPONENTS tt c h)) l
 
-pub weighted-fits : (table : ℕ) → T (agree (weightAt table) (λ c. getD weights c 0) COMPONENTS) → (c x : ℕ) → c < COMPONENTS → x ≤ 4294967295 → weightAt table c * x < 2 ^ 64
+pub weighted-fits : (table : ℕ) → T (agree (weightAt table) (λ c. getD weights c 0) COMPONENTS) → (c x : ℕ)
+    → c < COMPONENTS → x ≤ 4294967295 → weightAt table c * x < 2 ^ 64
 weighted-fits table t c x h l = rw (weight-is table t c h) (omega (arith, weighted-le c x h l))
 
-pub weigh-is : (table : ℕ) → T (agree (weightAt table) (λ c. getD weights c 0) COMPONENTS) → (c x : ℕ) → c < COMPONENTS → x ≤ 4294967295
+pub weigh-is : (table : ℕ) → T (agree (weightAt table) (λ c. getD weights c 0) COMPONENTS) → (c x : ℕ)
+    → c < COMPONENTS → x ≤ 4294967295
     → (weightAt table c * x ≡ getD weights c 0 * x) × (weightAt table c * x ≤ 429496729500)
 weigh-is table t c x h l = rw (weight-is table t c h) (refl, weighted-le c x h l)
 
@@ -107,7 +116,8 @@ weighted-out b w e = rw e (refl, omega arith)
 abbrev pub digitAt : ℕ → ℕ → ℕ
 digitAt table i = table / 2 ^ (i * 3) % 8
 
-pub order-is : (table : ℕ) → T (agree (digitAt table) (λ i. getD order i 0) COMPONENTS) → (i : ℕ) → i < COMPONENTS → digitAt table i ≡ getD order i 0
+pub order-is : (table : ℕ) → T (agree (digitAt table) (λ i. getD order i 0) COMPONENTS) → (i : ℕ) → i < COMPONENTS
+    → digitAt table i ≡ getD order i 0
 order-is table t = agree-at (digitAt table) (λ i. getD order i 0) COMPONENTS t
 
 known : ℕ → Bool

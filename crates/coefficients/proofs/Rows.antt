@@ -31,11 +31,13 @@ beyond s h = above s 21 printed tt h
 
 pub none-beyond : (s : ℕ) → 21 ≤ s → false ≡ isSystem s
 unfolding isSystem isIn
-none-beyond s h = sym (ap (λ (b : Bool). b && keepsRule (getD tables (placeIn printed s) [])) (not-in s printed (beyond s h)))
+none-beyond s h =
+    sym (ap (λ (b : Bool). b && keepsRule (getD tables (placeIn printed s) [])) (not-in s printed (beyond s h)))
 
 -- ---- a system's row of the table
 
-pub row-of : (k p : ℕ) → getD tables p [] ≡ tableOf k → (t : List (List ℤ)) (s : ℕ) → t ≡ tables → s ≡ k → getD t p [] ≡ tableOf s
+pub row-of : (k p : ℕ) → getD tables p [] ≡ tableOf k → (t : List (List ℤ)) (s : ℕ) → t ≡ tables → s ≡ k
+    → getD t p [] ≡ tableOf s
 row-of k p here t s e h = ap (λ u. getD u p []) e ∙ here ∙ ap tableOf (sym h)
 
 -- the systems, from the highest down
@@ -50,7 +52,9 @@ unfolding isSystem keepsRule sumAbs placeIn isIn
 no-system s a = at (isSystem s) refl
   where
     listed : isSystem s ≡ true → T (among s)
-    listed e = each among printed tt s (is-true (isIn s printed) (and-l (isIn s printed) (keepsRule (getD tables (placeIn printed s) [])) (subst⁻¹ T e tt)))
+    listed e =
+        each among printed tt s (is-true (isIn s printed)
+        (and-l (isIn s printed) (keepsRule (getD tables (placeIn printed s) [])) (subst⁻¹ T e tt)))
 
     at : (b : Bool) → isSystem s ≡ b → b ≡ false
     at true e = absurd (subst T (ap (λ (b : Bool). cond b (isIn s all) true) e ∙ not-in s all a) (listed e))
@@ -68,14 +72,17 @@ pub ranges-run : (p lo k : ℕ) → values (λ _. getD ranges p []) lo k ≡ val
 ranges-run p lo k c t s e h l = ap (λ u. getD u p []) e ∙ agree (λ _. getD ranges p []) rangesOf lo k c s h l
 
 -- at 20
-pub ranges-20 : (p : ℕ) → getD ranges p [] ≡ rangesOf 20 → (t : List (List ℕ)) (s : ℕ) → t ≡ ranges → s ≡ 20 → getD t p [] ≡ rangesOf s
+pub ranges-20 : (p : ℕ) → getD ranges p [] ≡ rangesOf 20 → (t : List (List ℕ)) (s : ℕ) → t ≡ ranges → s ≡ 20
+    → getD t p [] ≡ rangesOf s
 ranges-20 p here t s e h = ap (λ u. getD u p []) e ∙ here ∙ ap rangesOf (sym h)
 
 -- at 19 and above 20
-pub ranges-19 : (p : ℕ) → getD ranges p [] ≡ full → (t : List (List ℕ)) (s : ℕ) → t ≡ ranges → 19 ≤ s → (s ≡ 20 → ⊥) → getD t p [] ≡ rangesOf s
+pub ranges-19 : (p : ℕ) → getD ranges p [] ≡ full → (t : List (List ℕ)) (s : ℕ) → t ≡ ranges → 19 ≤ s → (s ≡ 20 → ⊥)
+    → getD t p [] ≡ rangesOf s
 unfolding rangesOf placeIn
 ranges-19 p here t s q h n = ap (λ u. getD u p []) q ∙ here ∙ at (eqb s 19) refl
   where
     at : (b : Bool) → eqb s 19 ≡ b → full ≡ rangesOf s
     at true e = ap rangesOf (sym (eqb-true s 19 e))
-    at false e = sym (ap (λ (p : ℕ). getD ranges p full) (no-place s printed (beyond s (omega (arith, n, eqb-false s 19 e)))))
+    at false e =
+        sym (ap (λ (p : ℕ). getD ranges p full) (no-place s printed (beyond s (omega (arith, n, eqb-false s 19 e)))))

@@ -57,7 +57,8 @@ use Rattle.rating.specs.Laws.RatedOn.{on-exactly-when, too-few}
 use Rattle.rating.specs.Laws.Ready.{choosable, chosen, room, filled, million, inert-million}
 use Rattle.rating.specs.Laws.Ends.{read-passed, split-ends, split-few-exactly-when, search-few-exactly-when}
 use Rattle.rating.specs.declared.Outcome.{Outcome}
-use Rattle.demand.specs.Laws.Answers.{expected-fit, fits-expected, expected-fits, split-by-records, split-fits, split-rated, found-back}
+use Rattle.demand.specs.Laws.Answers.{expected-fit, fits-expected, expected-fits, split-by-records}
+use Rattle.demand.specs.Laws.Answers.{split-fits, split-rated, found-back}
 use Rattle.demand.specs.Laws.Sheets.{accepted-ends, read-own, read-few, sheet-ends}
 use Rattle.demand.specs.RatedSheets.{analysisIn, splitRated, sheet-split}
 

@@ -30,7 +30,8 @@ same-found a long passed few many le s r is =
     let u = find-search (mixOf a) (systemsFor a) (countFor a) FIRST_LEVEL LIMIT (min few ROUNDS) fits in
     let v = find-search (mixOf a) (systemsFor a) (countFor a) FIRST_LEVEL LIMIT (min many ROUNDS) fits in
     v
-    ∙ find-larger (mixOf a) (systemsFor a) (countFor a) LIMIT FIRST_LEVEL (min few ROUNDS) (min many ROUNDS) (omega arith)
+    ∙ find-larger (mixOf a) (systemsFor a) (countFor a) LIMIT FIRST_LEVEL (min few ROUNDS) (min many ROUNDS)
+    (omega arith)
     s r (ap (λ (f : Found). f .search) (sym u) ∙ is) ∙ sym u
 
 pub larger-allowance : (a : List ℕ) → length a ≡ CODES → (few many code : ℕ) → few ≤ many → (w : ℤ) (s r : ℕ)

@@ -48,11 +48,15 @@ chosen = ap chooseOf (marked .0) ∙ choice
 cells : List ℕ → List ℕ → List ℕ
 cells m l = startOf m (paddedOf l) (length l)
 
-started : (s : ℕ) → cellOf (startOf (mixOf tableA1) (systemsFor tableA1) (countFor tableA1)) s 0 ≡ cellOf (cells mix (4 ∷ 7 ∷ 8 ∷ [])) s 0
+started : (s : ℕ) → cellOf (startOf (mixOf tableA1) (systemsFor tableA1) (countFor tableA1)) s 0 ≡ cellOf
+    (cells mix (4 ∷ 7 ∷ 8 ∷ [])) s 0
 unfolding mix cells
-started s = ap (λ (m : List ℕ). cellOf (startOf m (paddedOf (chooseOf m)) (length (chooseOf m))) s 0) (marked .0) ∙ ap (λ (l : List ℕ). cellOf (startOf mix (paddedOf l) (length l)) s 0) choice
+started s =
+    ap (λ (m : List ℕ). cellOf (startOf m (paddedOf (chooseOf m)) (length (chooseOf m))) s 0) (marked .0)
+    ∙ ap (λ (l : List ℕ). cellOf (startOf mix (paddedOf l) (length l)) s 0) choice
 
-start : (cellOf (cells mix (4 ∷ 7 ∷ 8 ∷ [])) 0 0 ≡ 326410) × (cellOf (cells mix (4 ∷ 7 ∷ 8 ∷ [])) 1 0 ≡ 326410) × (cellOf (cells mix (4 ∷ 7 ∷ 8 ∷ [])) 2 0 ≡ 326409)
+start : (cellOf (cells mix (4 ∷ 7 ∷ 8 ∷ [])) 0 0 ≡ 326410) × (cellOf (cells mix (4 ∷ 7 ∷ 8 ∷ [])) 1 0 ≡ 326410)
+    × (cellOf (cells mix (4 ∷ 7 ∷ 8 ∷ [])) 2 0 ≡ 326409)
 unfolding mix cells startOf table paddedOf startAmount heldOf hasOf memberOf shareOf sharersOf sumTo
 start = (refl, refl, refl)
 

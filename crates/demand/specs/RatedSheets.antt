@@ -1,4 +1,5 @@
--- A rated sheet's rating is that of a split of its analysis: the one it has, or the one that the search found. Assumes nothing.
+-- A rated sheet's rating is that of a split of its analysis: the one it has, or the one that the search found.
+-- Assumes nothing.
 use mathlib.Core.Path.{_≡_, refl, sym, subst}
 use mathlib.Core.Bool.{Bool, true, false, cond}
 use mathlib.Core.List.{List}
@@ -38,7 +39,8 @@ sheet-split s code w d r is = go (readOf s code .answer) refl is
 
     by : (length a ≡ CODES) → (t : Bool)
         → cond t (searchOutcome a ROUNDS code) (outcome (splitAnswer a p code) noSplit) .answer ≡ Rated w d r
-        → splitAnswer a (cond t (cond t (searchOutcome a ROUNDS code) (outcome (splitAnswer a p code) noSplit) .split) p) code ≡ Rated w d 0
+        → splitAnswer a (cond t (cond t (searchOutcome a ROUNDS code) (outcome (splitAnswer a p code) noSplit) .split)
+        p) code ≡ Rated w d 0
     by long true e = found-back a long ROUNDS code code w d r e
     by long false e = rated-zero a p code w d r e
 

@@ -13,7 +13,8 @@ use Rattle.whole_number.specs.Whole.{wholeNumber}
 use Rattle.split.specs.declared.Answer.{Answer}
 use Rattle.split.specs.declared.Answer.the-variants.{Rated, Refused}
 use Rattle.display.specs.Decimal.{digitsOf, figureOf}
-use Rattle.display.specs.Line.{RATED, REFUSED, SPACE, NEWLINE, RATING_BYTES, WHOLE_BYTES, LINE, fieldsOf, joined, lineOf, lineIn}
+use Rattle.display.specs.Line.{RATED, REFUSED, SPACE, NEWLINE, RATING_BYTES, WHOLE_BYTES, LINE, fieldsOf}
+use Rattle.display.specs.Line.{joined, lineOf, lineIn}
 use Rattle.display.specs.Longest.{rating-length, whole-length, no-longer}
 use Rattle.display.specs.Inner.Put.{Counts, Put, countsBytes, ratingBytes}
 use Rattle.display.proofs.Runs.{then, put-as}
@@ -31,10 +32,12 @@ module _ (z : ℤ) (f : SFits w64 z) where
 
 module _ (x : Answer) (z : ℤ) (spread rounds : ℕ) (e : x ≡ Rated z spread rounds) (f : SFits w64 z) where
   pub rated-room : Fits w64 spread → Fits w32 rounds → length (lineOf x) ≤ LINE
-  rated-room g h = subst (λ (y : Answer). length (lineOf y) ≤ LINE) (sym e) (no-longer (Rated z spread rounds) (f, g, h))
+  rated-room g h =
+      subst (λ (y : Answer). length (lineOf y) ≤ LINE) (sym e) (no-longer (Rated z spread rounds) (f, g, h))
 
   pub rated-put : {b c d g : List ℕ} {m n k : ℕ} → Put b 0 RATED c m
-      → Put c m (ratingBytes (toZ w64 (ofZ w64 z))) d n → Put d n (countsBytes spread rounds) g k → Put b 0 (joined (fieldsOf x)) g k
+      → Put c m (ratingBytes (toZ w64 (ofZ w64 z))) d n → Put d n (countsBytes spread rounds) g k
+      → Put b 0 (joined (fieldsOf x)) g k
   rated-put p q r = put-as (joint ∙ sym (ap (λ (y : Answer). joined (fieldsOf y)) e)) (then p (then (put-as back q) r))
     where
       back : ratingBytes (toZ w64 (ofZ w64 z)) ≡ ratingBytes z
@@ -49,17 +52,21 @@ module _ (x : Answer) (number place : ℕ) (e : x ≡ Refused number place) wher
   pub refused-room : Fits w32 number → Fits w32 place → length (lineOf x) ≤ LINE
   refused-room f g = subst (λ (y : Answer). length (lineOf y) ≤ LINE) (sym e) (no-longer (Refused number place) (f, g))
 
-  pub refused-put : {b c d : List ℕ} {m n : ℕ} → Put b 0 REFUSED c m → Put c m (SPACE ∷ digitsOf number) d n → Put b 0 (joined (fieldsOf x)) d n
+  pub refused-put : {b c d : List ℕ} {m n : ℕ} → Put b 0 REFUSED c m → Put c m (SPACE ∷ digitsOf number) d n
+      → Put b 0 (joined (fieldsOf x)) d n
   refused-put p q = put-as (sym (ap (λ (y : Answer). joined (fieldsOf y)) e)) (then p q)
 
 -- the fields and byte 0A are the line, and the rest of the buffer is as it was
-pub line-put : (x : Answer) {b c d : List ℕ} {m n : ℕ} → length c ≡ LINE → length (lineOf x) ≤ LINE → Put b 0 (joined (fieldsOf x)) c m
+pub line-put : (x : Answer) {b c d : List ℕ} {m n : ℕ} → length c ≡ LINE → length (lineOf x) ≤ LINE
+    → Put b 0 (joined (fieldsOf x)) c m
     → Put c m (NEWLINE ∷ []) d n → (n ≡ length (lineOf x)) × (Counts n d × (d ≡ lineIn x b))
 line-put x {b} {c} {d} {m} {n} l h p q =
     let r = then p q in
-    let k : length (lineOf x) ≤ length b = omega (arith, ap length (p .stored), length-sets b 0 (joined (fieldsOf x))) in
+    let k : length (lineOf x) ≤ length b = omega (arith, ap length (p .stored), length-sets b 0 (joined (fieldsOf x)))
+        in
     let z : 0 + length (lineOf x) ≡ length (lineOf x) = omega arith in
     let e = r .ended ∙ z in
-    let f : d ≡ lineIn x b = r .stored ∙ sets-eq (lineOf x) b 0 (omega arith) ∙ ap (λ (i : ℕ). lineOf x ++ drop i b) z in
+    let f : d ≡ lineIn x b = r .stored ∙ sets-eq (lineOf x) b 0 (omega arith)
+        ∙ ap (λ (i : ℕ). lineOf x ++ drop i b) z in
     let g : n ≤ length d = omega (arith, ap length f, length-append (lineOf x) (drop (length (lineOf x)) b)) in
     (e, ((g, sym (length-take-le n d g)), f))

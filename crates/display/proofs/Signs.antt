@@ -34,5 +34,6 @@ module _ (z : ℤ) (f : SFits w64 z) (k : ℕ) (e : k ≡ natAbs (toZ w64 (ofZ w
   not-below h = unsigned z (rw (toZ-ofZ w64 z f) at h) ∙ rw size-is
 
 -- a rating's bits and those of its whole number
-pub whole-held : (z w : ℤ) → SFits w64 z → SFits w64 w → w ≡ wholeNumber (toZ w64 (ofZ w64 z)) → toZ w64 (ofZ w64 w) ≡ wholeNumber z
+pub whole-held : (z w : ℤ) → SFits w64 z → SFits w64 w → w ≡ wholeNumber (toZ w64 (ofZ w64 z))
+    → toZ w64 (ofZ w64 w) ≡ wholeNumber z
 whole-held z w f g e = toZ-ofZ w64 w g ∙ e ∙ ap wholeNumber (toZ-ofZ w64 z f)

@@ -1,4 +1,5 @@
--- A partial number of a system at three amounts (000 A.3.4; document 01, "A partial number"): as worked out, and exactly. Assumes nothing.
+-- A partial number of a system at three amounts (000 A.3.4; document 01, "A partial number"): as worked out, and
+-- exactly. Assumes nothing.
 use Prim.Native.Nat.{ℕ, _+_, _^_}
 use lib.IntN.{ℤ}
 use Rattle.integer.specs.Fraction.{Fraction}
@@ -11,4 +12,5 @@ partialNumber system n1 n2 n3 = worked n1 n2 (n1 + n2 + n3) (rowsOf (coeffOf sys
 
 -- the exact value, over the seventh power of the amounts' sum
 unfoldable pub exactNumber : ℕ → ℕ → ℕ → ℕ → Fraction
-exactNumber system n1 n2 n3 = record { num = exact n1 n2 (n1 + n2 + n3) (rowsOf (coeffOf system)); den = (n1 + n2 + n3) ^ 7 }
+exactNumber system n1 n2 n3 =
+    record { num = exact n1 n2 (n1 + n2 + n3) (rowsOf (coeffOf system)); den = (n1 + n2 + n3) ^ 7 }

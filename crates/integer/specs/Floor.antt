@@ -1,4 +1,5 @@
--- Rounding down: the quotient by a natural number whose remainder is from 0 to below the divisor, also of negative numbers. Assumes nothing.
+-- Rounding down: the quotient by a natural number whose remainder is from 0 to below the divisor, also of negative
+-- numbers. Assumes nothing.
 use Prim.Native.Nat.{ℕ, _-_, _/_, _%_}
 use lib.IntN.{ℤ, pos, negsuc}
 

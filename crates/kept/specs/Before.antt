@@ -33,7 +33,8 @@ use Rattle.kept.specs.Widths.{BEFORE, componentIn, cellsIn, amountsIn, r
 -- ---- the records: as in `rating/specs/Records`
 
 unfoldable pub codeBefore : List ℕ → ℕ → ℕ → ℕ
-codeBefore systems count r = cond (ltb r (3 * count)) (splitCode (componentIn BEFORE (systemOf systems (r / 3)) (r % 3))) 0
+codeBefore systems count r =
+    cond (ltb r (3 * count)) (splitCode (componentIn BEFORE (systemOf systems (r / 3)) (r % 3))) 0
 
 unfoldable pub codesBefore : List ℕ → ℕ → List ℕ
 codesBefore systems count = table (codeBefore systems count) RECORDS 0
@@ -43,7 +44,8 @@ matchesBefore systems count named codes r =
     eqb (getD named r 0) (systemAt systems count r) && eqb (getD codes r 0) (codeBefore systems count r)
 
 unfoldable pub fitsBefore : List ℕ → ℕ → ℕ → List ℕ → List ℕ → Bool
-fitsBefore systems count records named codes = eqb records (3 * count) && allTo (matchesBefore systems count named codes) records
+fitsBefore systems count records named codes =
+    eqb records (3 * count) && allTo (matchesBefore systems count named codes) records
 
 -- ---- the answers, of a refusal's number (0: rated on), a choice of systems, a mixture and its inert part
 
@@ -59,7 +61,8 @@ splitAnswerWith number choice mix n1 split code =
 
 abbrev pub recordsBefore : List ℕ → ℕ → List ℕ → Split
 recordsBefore systems count cells =
-    record { count = 3 * count; systems = systemsOf systems count; codes = codesBefore systems count; amounts = amountsIn BEFORE systems count cells }
+    record { count = 3 * count; systems = systemsOf systems count; codes = codesBefore systems count;
+        amounts = amountsIn BEFORE systems count cells }
 
 abbrev pub foundWith : List ℕ → ℕ → ℕ → List ℕ → Search → Outcome
 foundWith systems count n1 cells (Balanced spread rounds) =
@@ -95,7 +98,8 @@ refusalBefore analysis =
 
 unfoldable pub splitBefore : List ℕ → Split → ℕ → Answer
 splitBefore analysis split code =
-    splitAnswerWith (refusalBefore analysis) (choiceBefore (simplifiedBefore analysis)) (simplifiedBefore analysis) (inertBefore analysis) split code
+    splitAnswerWith (refusalBefore analysis) (choiceBefore (simplifiedBefore analysis)) (simplifiedBefore analysis)
+        (inertBefore analysis) split code
 
 unfoldable pub searchBefore : List ℕ → ℕ → ℕ → Outcome
 searchBefore analysis allowance code =

@@ -56,7 +56,9 @@ module _ (w : ℕ) where
   columnIn count cells c = sumTo (λ s. cellIn cells s c) count
 
   unfoldable pub numberIn : List ℕ → List ℕ → ℕ → ℤ
-  numberIn systems cells s = partialNumber (systemOf systems s) (amountIn systems cells s 0) (amountIn systems cells s 1) (amountIn systems cells s 2)
+  numberIn systems cells s =
+      partialNumber (systemOf systems s) (amountIn systems cells s 0) (amountIn systems cells s 1)
+      (amountIn systems cells s 2)
 
   -- ---- Split: the records
 
@@ -68,7 +70,8 @@ module _ (w : ℕ) where
 
   unfoldable pub amountsIn : List ℕ → ℕ → List ℕ → List ℕ
   amountsIn systems count cells =
-      table (λ r. cond (ltb r (3 * count)) (cellIn cells (r / 3) (componentIn (systemOf systems (r / 3)) (r % 3))) 0) RECORDS 0
+      table (λ r. cond (ltb r (3 * count)) (cellIn cells (r / 3) (componentIn (systemOf systems (r / 3)) (r % 3))) 0)
+          RECORDS 0
 
   -- ---- Rating
 
@@ -89,7 +92,8 @@ module _ (w : ℕ) where
 
   unfoldable pub proposedIn : ℕ → List ℕ → ℕ → List ℕ → List ℕ → ℕ → Answer
   proposedIn limit systems count mix cells n1 =
-      verdict (resumsIn mix count cells) (someEmptyIn systems count cells) (ltb limit (spreadOf (numberIn systems cells) count))
+      verdict (resumsIn mix count cells) (someEmptyIn systems count cells)
+          (ltb limit (spreadOf (numberIn systems cells) count))
       (Rated (ratingIn systems count cells n1) (spreadOf (numberIn systems cells) count) 0)
 
   -- ---- Start
@@ -100,16 +104,22 @@ module _ (w : ℕ) where
   -- ---- Move
 
   unfoldable pub movedIn : List ℕ → ℕ → ℕ → List ℕ
-  movedIn cells move stride = shift cells (giverOf move * w + componentOf move) (takerOf move * w + componentOf move) stride
+  movedIn cells move stride =
+      shift cells (giverOf move * w + componentOf move) (takerOf move * w + componentOf move) stride
 
   unfoldable pub affordsIn : List ℕ → List ℕ → ℕ → ℕ → Bool
-  affordsIn systems cells stride move = leb stride (cellIn cells (giverOf move) (componentOf move)) && ltb stride (partsIn systems cells (giverOf move))
+  affordsIn systems cells stride move =
+      leb stride (cellIn cells (giverOf move) (componentOf move)) && ltb stride (partsIn systems cells (giverOf move))
 
   unfoldable pub lowersIn : List ℕ → ℕ → List ℕ → ℕ → ℕ → Bool
-  lowersIn systems count cells stride move = ltb (imbalanceOf (numberIn systems (movedIn cells move stride)) count) (imbalanceOf (numberIn systems cells) count)
+  lowersIn systems count cells stride move =
+      ltb (imbalanceOf (numberIn systems (movedIn cells move stride)) count)
+      (imbalanceOf (numberIn systems cells) count)
 
   unfoldable pub canIn : List ℕ → ℕ → List ℕ → ℕ → ℕ → Bool
-  canIn systems count cells stride move = betweenOf systems count move && (affordsIn systems cells stride move && lowersIn systems count cells stride move)
+  canIn systems count cells stride move =
+      betweenOf systems count move && (affordsIn systems cells stride move
+      && lowersIn systems count cells stride move)
 
   unfoldable pub firstIn : List ℕ → ℕ → List ℕ → ℕ → ℕ
   firstIn systems count cells stride = first (canIn systems count cells stride) moveCount 0
@@ -140,4 +150,5 @@ module _ (w : ℕ) where
       ]
 
   unfoldable pub searchIn : List ℕ → ℕ → ℕ → ℕ → ℕ → List ℕ → Found
-  searchIn systems count limit level allowance cells = runIn systems count limit allowance (allowance + level + 1) cells level 0
+  searchIn systems count limit level allowance cells =
+      runIn systems count limit allowance (allowance + level + 1) cells level 0

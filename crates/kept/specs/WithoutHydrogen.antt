@@ -28,7 +28,8 @@ use Rattle.mixture.specs.Inert.{inertFirst}
 use Rattle.systems.specs.Systems.{HYDROGEN, hasOf}
 use Rattle.systems.specs.Laws.Members.{hydrocarbons-are}
 use Rattle.systems.specs.Choice.{presentTo, presentCount, choiceFrom, choiceOf}
-use Rattle.systems.specs.Without.{HYDROCARBONS, present-before, candidates-before, choose-before, present-same, before-same}
+use Rattle.systems.specs.Without.{HYDROCARBONS, present-before, candidates-before, choose-before, present-same}
+use Rattle.systems.specs.Without.{before-same}
 use Rattle.split.specs.Split.{RECORDS, systemOf}
 use Rattle.split.specs.Search.{FIRST_LEVEL}
 use Rattle.split.specs.declared.Answer.{Answer}
@@ -37,7 +38,9 @@ use Rattle.split.specs.declared.Search.{Search}
 use Rattle.split.specs.declared.Search.the-variants.{Balanced, Unbalanced, Unfit}
 use Rattle.split.specs.declared.Found.{Found}
 use Rattle.rating.specs.Records.{splitCode, systemAt, codeAt, codesOf, systemsOf, matchesAt, fitsOf}
-use Rattle.rating.specs.Rate.{ROUNDS, mixOf, systemsFor, countFor, ratingRefusal, checkedBy, splitBy, splitAnswer, outcome, recordsOf, foundBy, foundOutcome, searchOutcomeBy, searchOutcome, sheetOutcome}
+use Rattle.rating.specs.Rate.{ROUNDS, mixOf, systemsFor, countFor, ratingRefusal, checkedBy, splitBy, splitAnswer}
+use Rattle.rating.specs.Rate.{outcome, recordsOf, foundBy, foundOutcome, searchOutcomeBy, searchOutcome}
+use Rattle.rating.specs.Rate.{sheetOutcome}
 use Rattle.rating.specs.LeftOut.{mixture-number}
 use Rattle.rating.specs.RatedOn.{RatedOn}
 use Rattle.rating.specs.Laws.Ready.{choosable, chosen}
@@ -54,7 +57,9 @@ use Rattle.kept.specs.Widths.{BEFORE}
 use Rattle.kept.specs.Laws.Steady.{all-same, table-same}
 use Rattle.kept.specs.Laws.Alike.{Without}
 use Rattle.kept.specs.Laws.WidthKept.{NoHydrogen, component-kept, proposed-kept, search-kept, KeptSearch}
-use Rattle.kept.specs.Before.{codeBefore, codesBefore, matchesBefore, fitsBefore, splitWith, recordsBefore, foundWith, foundOutcomeWith, searchOutcomeWith, choiceBefore, refusalBefore, splitBefore, searchBefore}
+use Rattle.kept.specs.Before.{codeBefore, codesBefore, matchesBefore, fitsBefore, splitWith, recordsBefore}
+use Rattle.kept.specs.Before.{foundWith, foundOutcomeWith, searchOutcomeWith, choiceBefore, refusalBefore}
+use Rattle.kept.specs.Before.{splitBefore, searchBefore}
 
 -- ---- chosen systems without hydrogen: the records are the same
 

@@ -18,8 +18,10 @@ use Rattle.mixture.specs.Answers.{mixtureOf, inertN1}
 pub refusal-none : (a : List ℕ) (r : Checked) → Checking a r → r ≡ InRange → analysisRefusal a ≡ 0
 refusal-none a r h e = sym (checked-number a r h) ∙ ap numberOf e
 
-pub refusal-some : (a : List ℕ) (r : Checked) (number code : ℕ) → Checking a r → r ≡ Refused number code → eqb (analysisRefusal a) 0 ≡ false
-refusal-some a r number code h e = go (analysisRefusal a) (faultOf r) (eqb (analysisRefusal a) 0) refl (sym (h .answer) ∙ e)
+pub refusal-some : (a : List ℕ) (r : Checked) (number code : ℕ) → Checking a r → r ≡ Refused number code
+    → eqb (analysisRefusal a) 0 ≡ false
+refusal-some a r number code h e =
+    go (analysisRefusal a) (faultOf r) (eqb (analysisRefusal a) 0) refl (sym (h .answer) ∙ e)
   where
     go : (n k : ℕ) (b : Bool) → eqb n 0 ≡ b → checkedOf n k ≡ Refused number code → b ≡ false
     go n k true q f =

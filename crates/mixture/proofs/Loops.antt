@@ -12,7 +12,8 @@ use lib.Seq.{take-all, ext-getD, getD-set-same, getD-set-other}
 use borrow.Author.Tests.{eqb-true, eqb-false, ne-eqb, lt-ltb, le-ltb}
 use Rattle.integer.specs.Figures.{MILLION}
 use Rattle.analysis.specs.Check.{totalOf}
-use Rattle.mixture.specs.Scaling.{quotientOf, remainderOf, quotientsOf, remaindersOf, missingOf, largestTo, greatestPlace, distributed, scaledOf}
+use Rattle.mixture.specs.Scaling.{quotientOf, remainderOf, quotientsOf, remaindersOf, missingOf, largestTo}
+use Rattle.mixture.specs.Scaling.{greatestPlace, distributed, scaledOf}
 use Rattle.mixture.specs.Laws.Share.{getD-map}
 use Rattle.mixture.specs.Laws.Total.{sum-set, quotients-whole}
 use Rattle.mixture.specs.Simplification.{COMPONENTS, butaneOf, tenthsOf}
@@ -21,7 +22,8 @@ use Rattle.mixture.specs.Inner.Limits.{MOST_PARTS, Limited}
 
 -- ---- amounts up to the limit
 
-limited-next : (x : ℕ) (xs : List ℕ) → x ≤ MOST_PARTS → ((i : ℕ) → getD xs i 0 ≤ MOST_PARTS) → (i : ℕ) → getD (x ∷ xs) i 0 ≤ MOST_PARTS
+limited-next : (x : ℕ) (xs : List ℕ) → x ≤ MOST_PARTS → ((i : ℕ) → getD xs i 0 ≤ MOST_PARTS) → (i : ℕ)
+    → getD (x ∷ xs) i 0 ≤ MOST_PARTS
 limited-next x xs h rest zero = h
 limited-next x xs h rest (suc i) = rest i
 
@@ -30,7 +32,8 @@ abbrev Tenfold : List ℕ → ℕ → ℕ → Type 0
 Tenfold a code x = (x ≡ 10 * getD a code 0) × (x ≤ 42949672950)
 
 -- the components, one by one
-pub tenths-each : (a : List ℕ) (w x y z u : ℕ) → Tenfold a 1 w → Tenfold a 2 x → Tenfold a 3 y → (z ≡ butaneOf a) × (z ≤ MOST_PARTS)
+pub tenths-each : (a : List ℕ) (w x y z u : ℕ) → Tenfold a 1 w → Tenfold a 2 x → Tenfold a 3 y → (z ≡ butaneOf a)
+    × (z ≤ MOST_PARTS)
     → Tenfold a 15 u → ((w ∷ x ∷ y ∷ z ∷ u ∷ []) ≡ tenthsOf a) × Limited (w ∷ x ∷ y ∷ z ∷ u ∷ [])
 unfolding tenthsOf
 tenths-each a w x y z u hw hx hy hz hu = (
@@ -83,7 +86,8 @@ pub record Butane (a : List ℕ) (t code : ℕ) : Type 0 where
 pub butane-none : (a : List ℕ) → Butane a 0 4
 butane-none a = record { first = omega arith; last = omega arith; same = refl; small = omega arith; few = omega arith }
 
-pub butane-next : (a : List ℕ) (code t f w : ℕ) → code < 11 → (f ≡ factorOf code) × (f ≤ 53) → (w ≡ f * getD a code 0) × (w ≤ f * 4294967295) → Butane a t code → Butane a (t + w) (code + 1)
+pub butane-next : (a : List ℕ) (code t f w : ℕ) → code < 11 → (f ≡ factorOf code) × (f ≤ 53) → (w ≡ f * getD a code 0)
+    × (w ≤ f * 4294967295) → Butane a t code → Butane a (t + w) (code + 1)
 butane-next a code t f w h g d b =
     record {
       first = omega (arith, b .first);
@@ -110,7 +114,8 @@ sum-take [] i h = absurd (not-suc-le-zero h)
 sum-take (x ∷ l) zero h = omega arith
 sum-take (x ∷ l) (suc i) h = omega (arith, sum-take l i (omega arith))
 
-pub sum-next : (l : List ℕ) (i t : ℕ) → i < length l → t ≡ totalOf (take i l) → t + getD l i 0 ≡ totalOf (take (i + 1) l)
+pub sum-next : (l : List ℕ) (i t : ℕ) → i < length l → t ≡ totalOf (take i l)
+    → t + getD l i 0 ≡ totalOf (take (i + 1) l)
 sum-next l i t h e = ap (λ n. n + getD l i 0) e ∙ rw (add-one i) (sum-take l i h)
 
 pub sum-part : (l : List ℕ) (i : ℕ) → totalOf (take i l) ≤ totalOf l
@@ -141,7 +146,8 @@ pub record Filled (n : ℕ) (f : ℕ → ℕ) (l : List ℕ) (i : ℕ) : Type 0 
   pub most : i ≤ n
   pub there : (k : ℕ) → k < i → getD l k 0 ≡ f k
 
-pub fill-next : (n : ℕ) (f : ℕ → ℕ) (l : List ℕ) (i v : ℕ) → i < n → v ≡ f i → Filled n f l i → Filled n f (set l i v) (i + 1)
+pub fill-next : (n : ℕ) (f : ℕ → ℕ) (l : List ℕ) (i v : ℕ) → i < n → v ≡ f i → Filled n f l i
+    → Filled n f (set l i v) (i + 1)
 fill-next n f l i v h e w =
     record { size = length-set l i v ∙ w .size; most = omega arith; there = λ k m. at k m (eqb k i) refl }
   where
@@ -154,7 +160,8 @@ fill-next n f l i v h e w =
         getD-set-other l i k v 0 z ∙ w .there k (omega (arith, z))
 
 -- the filled list is the map
-pub fill-map : (n : ℕ) (f : ℕ → ℕ) (xs l : List ℕ) (i : ℕ) → length xs ≡ n → n ≤ i → Filled n (λ k. f (getD xs k 0)) l i → l ≡ map f xs
+pub fill-map : (n : ℕ) (f : ℕ → ℕ) (xs l : List ℕ) (i : ℕ) → length xs ≡ n → n ≤ i
+    → Filled n (λ k. f (getD xs k 0)) l i → l ≡ map f xs
 fill-map n f xs l i e h w =
     ext-getD 0 l (map f xs) (w .size ∙ sym e ∙ sym (length-map xs f))
     (λ k m. w .there k (omega (arith, w .size)) ∙ sym (getD-map f xs k (omega (arith, w .size))))
@@ -181,7 +188,8 @@ shared-none t xs =
       left = refl;
     }
 
-module _ (t : ℕ) (xs q r : List ℕ) (m i : ℕ) (l : Limited xs) (e : t ≡ totalOf xs) (p : 0 < t) (w : Shared t xs q r m i) where
+module _ (t : ℕ) (xs q r : List ℕ) (m i : ℕ) (l : Limited xs) (e : t ≡ totalOf xs) (p : 0 < t)
+    (w : Shared t xs q r m i) where
   fits : totalOf (quotientsOf xs t) ≤ MILLION
   fits = rw e (quotients-whole xs (rw e at p))
 
@@ -197,7 +205,8 @@ module _ (t : ℕ) (xs q r : List ℕ) (m i : ℕ) (l : Limited xs) (e : t ≡ t
     pub share-left : share ≤ m
     share-left = part .0
 
-    pub shared-next : (rest : ℕ) → rest ≡ remainderOf t (getD xs i 0) → Shared t xs (set q i share) (set r i rest) (m - share) (i + 1)
+    pub shared-next : (rest : ℕ) → rest ≡ remainderOf t (getD xs i 0)
+        → Shared t xs (set q i share) (set r i rest) (m - share) (i + 1)
     shared-next rest g =
         record {
           quotients = fill-next COMPONENTS _ q i share h f (w .quotients);
@@ -250,16 +259,19 @@ module _ (rs : List ℕ) (p v i : ℕ) (h : i < COMPONENTS) (g : Greatest rs p v
     where
       here : i ≡ largestTo rs (i + 1)
       here =
-          let t : ltb (getD rs (largestTo rs i) 0) (getD rs i 0) ≡ true = lt-ltb (getD rs (largestTo rs i) 0) (getD rs i 0) (rw (g .value, g .place) at l) in
+          let t : ltb (getD rs (largestTo rs i) 0) (getD rs i 0) ≡ true = lt-ltb (getD rs (largestTo rs i) 0)
+              (getD rs i 0) (rw (g .value, g .place) at l) in
           rw (add-one i) (rw (t, largestTo))
 
   pub greatest-there : getD rs i 0 ≤ v → Greatest rs p v (i + 1)
   unfolding largestTo
-  greatest-there l = record { some = omega arith; most = omega arith; place = there; below = g .below; value = g .value }
+  greatest-there l =
+      record { some = omega arith; most = omega arith; place = there; below = g .below; value = g .value }
     where
       there : p ≡ largestTo rs (i + 1)
       there =
-          let t : ltb (getD rs (largestTo rs i) 0) (getD rs i 0) ≡ false = le-ltb (getD rs (largestTo rs i) 0) (getD rs i 0) (rw (g .value, g .place) at l) in
+          let t : ltb (getD rs (largestTo rs i) 0) (getD rs i 0) ≡ false = le-ltb (getD rs (largestTo rs i) 0)
+              (getD rs i 0) (rw (g .value, g .place) at l) in
           rw (add-one i) (rw (t, largestTo) (g .place))
 
 -- ---- the missing parts
@@ -270,7 +282,8 @@ pub record Distributing (n w m₀ : ℕ) (q₀ r₀ : List ℕ) (m : ℕ) (q r :
   pub fits : totalOf q + m ≤ w
   pub same : distributed m q r ≡ distributed m₀ q₀ r₀
 
-pub distributing-next : (n w m₀ : ℕ) (q₀ r₀ : List ℕ) (m : ℕ) (q r : List ℕ) (p : ℕ) → 0 < m → p < n → p ≡ greatestPlace r
+pub distributing-next : (n w m₀ : ℕ) (q₀ r₀ : List ℕ) (m : ℕ) (q r : List ℕ) (p : ℕ) → 0 < m → p < n
+    → p ≡ greatestPlace r
     → Distributing n w m₀ q₀ r₀ m q r → Distributing n w m₀ q₀ r₀ (m - 1) (set q p (getD q p 0 + 1)) (set r p 0)
 unfolding distributed
 distributing-next n w m₀ q₀ r₀ m q r p h k e s =

@@ -12,7 +12,8 @@ use lib.Seq.{getD-set-same, getD-set-other}
 use borrow.Author.Tests.{eqb-true, eqb-false, ltb-true, ltb-false}
 use Rattle.integer.specs.Figures.{MILLION}
 use Rattle.analysis.specs.Check.{totalOf}
-use Rattle.mixture.specs.Scaling.{quotientOf, remainderOf, quotientsOf, remaindersOf, missingOf, largestTo, greatestPlace, oneMore, distributed, scaledOf}
+use Rattle.mixture.specs.Scaling.{quotientOf, remainderOf, quotientsOf, remaindersOf, missingOf, largestTo}
+use Rattle.mixture.specs.Scaling.{greatestPlace, oneMore, distributed, scaledOf}
 use Rattle.mixture.specs.Laws.Total.{sum-set, sum-filled, greatest-below, greatest-least, remainders-sum}
 use Rattle.mixture.specs.Laws.Share.{getD-map, greatest-positive, scaled-near}
 
@@ -26,7 +27,8 @@ greatest-first : (rs : List ℕ) (n j : ℕ) → j < largestTo rs n → getD rs 
 unfolding largestTo
 greatest-first rs zero j h = absurd (not-suc-le-zero h)
 greatest-first rs (suc n) j h =
-    go (ltb (getD rs (largestTo rs n) 0) (getD rs n 0)) refl h (λ l. greatest-first rs n j l) (λ l. greatest-least rs n j l)
+    go (ltb (getD rs (largestTo rs n) 0) (getD rs n 0)) refl h (λ l. greatest-first rs n j l)
+        (λ l. greatest-least rs n j l)
   where
     go : (b : Bool) → ltb (getD rs (largestTo rs n) 0) (getD rs n 0) ≡ b → j < cond b n (largestTo rs n)
         → (j < largestTo rs n → getD rs j 0 < getD rs (largestTo rs n) 0)
@@ -39,7 +41,8 @@ greatest-before : (rs : List ℕ) (j : ℕ) → j < length rs → (j ≡ greates
 greatest-before rs j l z =
     record { no-less = greatest-least rs (length rs) j l; equal = λ e. after e (ltb (greatestPlace rs) j) refl }
   where
-    after : getD rs j 0 ≡ getD rs (greatestPlace rs) 0 → (b : Bool) → ltb (greatestPlace rs) j ≡ b → greatestPlace rs < j
+    after : getD rs j 0 ≡ getD rs (greatestPlace rs) 0 → (b : Bool) → ltb (greatestPlace rs) j ≡ b
+        → greatestPlace rs < j
     after e true q = ltb-true (greatestPlace rs) j q
     after e false q =
         let k : j < greatestPlace rs = omega (arith, ltb-false (greatestPlace rs) j q, z) in
@@ -76,7 +79,8 @@ module _ (t n : ℕ) (h : 0 < t) where
         at i u true e =
             let z : i ≡ greatestPlace rs = eqb-true i (greatestPlace rs) e in
             rw z (rw (getD-set-same rs (greatestPlace rs) 0 0 place) h)
-        at i u false e = rw (getD-set-other rs (greatestPlace rs) i 0 0 (eqb-false i (greatestPlace rs) e)) (w .small i u)
+        at i u false e =
+            rw (getD-set-other rs (greatestPlace rs) i 0 0 (eqb-false i (greatestPlace rs) e)) (w .small i u)
 
   -- a component with remainder 0 gets no more
   none-more : (m : ℕ) (qs rs : List ℕ) → Left m qs rs → (i : ℕ) → getD rs i 0 ≡ 0
@@ -91,26 +95,35 @@ module _ (t n : ℕ) (h : 0 < t) where
 
   -- one that gets more comes before one that does not
   more-before : (m : ℕ) (qs rs : List ℕ) → Left m qs rs → (i j : ℕ) → j < n
-      → (getD (distributed m qs rs) i 0 ≡ getD qs i 0 → ⊥) → getD (distributed m qs rs) j 0 ≡ getD qs j 0 → Before rs i j
+      → (getD (distributed m qs rs) i 0 ≡ getD qs i 0 → ⊥) → getD (distributed m qs rs) j 0 ≡ getD qs j 0
+      → Before rs i j
   unfolding distributed
   more-before zero qs rs w i j lj a b = absurd (a refl)
   more-before (suc m) qs rs w i j lj a b =
-      go (eqb i (greatestPlace rs)) refl (more-before m (oneMore qs (greatestPlace rs)) (set rs (greatestPlace rs) 0) (left-next m qs rs w) i j lj)
+      go (eqb i (greatestPlace rs)) refl
+          (more-before m (oneMore qs (greatestPlace rs)) (set rs (greatestPlace rs) 0) (left-next m qs rs w) i j lj)
     where
-      served : getD (distributed m (oneMore qs (greatestPlace rs)) (set rs (greatestPlace rs) 0)) (greatestPlace rs) 0 ≡ getD qs (greatestPlace rs) 0 + 1
+      served : getD (distributed m (oneMore qs (greatestPlace rs)) (set rs (greatestPlace rs) 0))
+          (greatestPlace rs) 0 ≡ getD qs (greatestPlace rs) 0 + 1
       served =
-          none-more m (oneMore qs (greatestPlace rs)) (set rs (greatestPlace rs) 0) (left-next m qs rs w) (greatestPlace rs)
+          none-more m (oneMore qs (greatestPlace rs)) (set rs (greatestPlace rs) 0) (left-next m qs rs w)
+              (greatestPlace rs)
           (getD-set-same rs (greatestPlace rs) 0 0 (place m qs rs w))
-          ∙ getD-set-same qs (greatestPlace rs) (getD qs (greatestPlace rs) 0 + 1) 0 (omega (arith, place m qs rs w, w .quotients, w .remainders))
+          ∙ getD-set-same qs (greatestPlace rs) (getD qs (greatestPlace rs) 0 + 1) 0
+          (omega (arith, place m qs rs w, w .quotients, w .remainders))
 
       other : j ≡ greatestPlace rs → ⊥
       other q =
           omega
-          (arith, served, b, ap (λ k. getD (distributed m (oneMore qs (greatestPlace rs)) (set rs (greatestPlace rs) 0)) k 0) q, ap (λ k. getD qs k 0) q)
+          (arith, served, b, ap (λ k. getD
+          (distributed m (oneMore qs (greatestPlace rs)) (set rs (greatestPlace rs) 0)) k 0) q,
+          ap (λ k. getD qs k 0) q)
 
       go : (e : Bool) → eqb i (greatestPlace rs) ≡ e
-          → ((getD (distributed m (oneMore qs (greatestPlace rs)) (set rs (greatestPlace rs) 0)) i 0 ≡ getD (oneMore qs (greatestPlace rs)) i 0 → ⊥)
-          → getD (distributed m (oneMore qs (greatestPlace rs)) (set rs (greatestPlace rs) 0)) j 0 ≡ getD (oneMore qs (greatestPlace rs)) j 0
+          → ((getD (distributed m (oneMore qs (greatestPlace rs)) (set rs (greatestPlace rs) 0)) i 0 ≡ getD
+          (oneMore qs (greatestPlace rs)) i 0 → ⊥)
+          → getD (distributed m (oneMore qs (greatestPlace rs)) (set rs (greatestPlace rs) 0)) j 0 ≡ getD
+          (oneMore qs (greatestPlace rs)) j 0
           → Before (set rs (greatestPlace rs) 0) i j)
           → Before rs i j
       go true e rec =
@@ -119,7 +132,8 @@ module _ (t n : ℕ) (h : 0 < t) where
       go false e rec =
           let p = greatestPlace rs in
           let z = eqb-false i p e in
-          let y = rec (λ f. a (f ∙ getD-set-other qs p i (getD qs p 0 + 1) 0 z)) (b ∙ sym (getD-set-other qs p j (getD qs p 0 + 1) 0 other)) in
+          let y = rec (λ f. a (f ∙ getD-set-other qs p i (getD qs p 0 + 1) 0 z))
+              (b ∙ sym (getD-set-other qs p j (getD qs p 0 + 1) 0 other)) in
           let ei = getD-set-other rs p i 0 0 z in
           let ej = getD-set-other rs p j 0 0 other in
           record { no-less = omega (arith, y .no-less); equal = λ f. y .equal (ej ∙ f ∙ sym ei) }
@@ -127,12 +141,16 @@ module _ (t n : ℕ) (h : 0 < t) where
 module _ (xs : List ℕ) (h : 0 < totalOf xs) where
   -- each amount is its quotient or one part more
   pub scaled-rounded : (i : ℕ) → i < length xs
-      → (quotientOf (totalOf xs) (getD xs i 0) ≤ getD (scaledOf xs) i 0) × (getD (scaledOf xs) i 0 ≤ quotientOf (totalOf xs) (getD xs i 0) + 1)
+      → (quotientOf (totalOf xs) (getD xs i 0) ≤ getD (scaledOf xs) i 0)
+      × (getD (scaledOf xs) i 0 ≤ quotientOf (totalOf xs) (getD xs i 0) + 1)
   scaled-rounded i l =
-      go (getD (scaledOf xs) i 0) (quotientOf (totalOf xs) (getD xs i 0)) (remainderOf (totalOf xs) (getD xs i 0)) (MILLION * getD xs i 0)
-      (div-add-mod' (MILLION * getD xs i 0) (totalOf xs)) (mod-lt (MILLION * getD xs i 0) h) (scaled-near xs h i l .above) (scaled-near xs h i l .below)
+      go (getD (scaledOf xs) i 0) (quotientOf (totalOf xs) (getD xs i 0)) (remainderOf (totalOf xs) (getD xs i 0))
+          (MILLION * getD xs i 0)
+      (div-add-mod' (MILLION * getD xs i 0) (totalOf xs)) (mod-lt (MILLION * getD xs i 0) h)
+      (scaled-near xs h i l .above) (scaled-near xs h i l .below)
     where
-      go : (s q r x : ℕ) → q * totalOf xs + r ≡ x → r < totalOf xs → s * totalOf xs < x + totalOf xs → x < s * totalOf xs + totalOf xs
+      go : (s q r x : ℕ) → q * totalOf xs + r ≡ x → r < totalOf xs → s * totalOf xs < x + totalOf xs
+          → x < s * totalOf xs + totalOf xs
           → (q ≤ s) × (s ≤ q + 1)
       go s q r x e k u v =
           let a : q < s + 1 = lt-of-mul-lt-mul-right (totalOf xs) (omega arith) in

@@ -36,7 +36,8 @@ sumZ-same f g (suc n) h = ap₂ _+ℤ_ (sumZ-same f g n (λ i l. h i (omega arit
 
 -- ---- cells that re-sum, from their rows
 
-module _ (limit : ℕ) (ch : List ℕ) (k : ℕ) (a : List ℕ) (n1 : ℕ) (st : Stock ch k a) (r : Rows) (q : r ≡ rowsOf ch k a) where
+module _ (limit : ℕ) (ch : List ℕ) (k : ℕ) (a : List ℕ) (n1 : ℕ) (st : Stock ch k a) (r : Rows)
+    (q : r ≡ rowsOf ch k a) where
   pub empty-weighed : r .fit ≡ false → Refused 9 0 ≡ weighedOf limit ch k a n1
   unfolding weighedOf
   empty-weighed e = sym (rw (unfit-empty ch k a r q st e, weighedOf))
@@ -57,7 +58,10 @@ module _ (limit : ℕ) (ch : List ℕ) (k : ℕ) (a : List ℕ) (n1 : ℕ) (st :
 
     weighed-same : weighedTo (r .numbers) (r .parts) k ≡ weightedOf ch k a
     unfolding weighedTo weightedOf
-    weighed-same = sumZ-same (λ s. listed (r .numbers) s *ℤ pos (getD (r .parts) s 0)) (λ s. rowNumber ch a s *ℤ pos (partsOf ch a s)) k (λ s l. ap₂ (λ x n. x *ℤ pos n) (held .carried .are s l) (parts-of ch k a r q st e s l))
+    weighed-same =
+        sumZ-same (λ s. listed (r .numbers) s *ℤ pos (getD (r .parts) s 0))
+        (λ s. rowNumber ch a s *ℤ pos (partsOf ch a s)) k
+        (λ s l. ap₂ (λ x n. x *ℤ pos n) (held .carried .are s l) (parts-of ch k a r q st e s l))
 
     spread-same : spreadOf (listed (r .numbers)) k ≡ spreadOf (rowNumber ch a) k
     unfolding spreadOf
@@ -68,7 +72,9 @@ module _ (limit : ℕ) (ch : List ℕ) (k : ℕ) (a : List ℕ) (n1 : ℕ) (st :
 
     rated-same : ratedBy limit (r .numbers) (r .parts) k n1 ≡ ratedOf limit ch k a n1
     unfolding ratedBy ratedOf ratingOf meanOf
-    rated-same = ap₂ (λ (s : ℕ) (w : ℤ). cond (ltb limit s) (Refused 10 0) (Rated (quotZ w (pos MILLION) +ℤ inertNumber n1 +ℤ neg PURE_METHANE) s 0)) spread-same weighed-same
+    rated-same =
+        ap₂ (λ (s : ℕ) (w : ℤ). cond (ltb limit s) (Refused 10 0)
+        (Rated (quotZ w (pos MILLION) +ℤ inertNumber n1 +ℤ neg PURE_METHANE) s 0)) spread-same weighed-same
 
     pub rated-weighed : (x : Answer) → x ≡ ratedBy limit (r .numbers) (r .parts) k n1 → x ≡ weighedOf limit ch k a n1
     unfolding weighedOf
@@ -96,7 +102,8 @@ module _ (mix ch : List ℕ) (k n1 : ℕ) (b : Bool) (p : b ≡ proposalFit mix 
     proposal = proposal-of mix ch k n1 (sym p ∙ not-false b l)
 
     module _ (a : List ℕ) (d : Bool) (q : d ≡ resums mix k a) where
-      pub unsummed : (limit : ℕ) → not d ≡ true → (x : Answer) → x ≡ Refused 8 0 → Answered x ≡ proposedAnswer limit ch k mix a n1
+      pub unsummed : (limit : ℕ) → not d ≡ true → (x : Answer) → x ≡ Refused 8 0
+          → Answered x ≡ proposedAnswer limit ch k mix a n1
       unsummed limit h x u = ap Answered u ∙ sym (answer-unsummed mix ch k n1 limit a proposal (sym q ∙ not-true d h))
 
       module _ (y : not d ≡ false) where
@@ -104,12 +111,16 @@ module _ (mix ch : List ℕ) (k n1 : ℕ) (b : Bool) (p : b ≡ proposalFit mix 
         yes = sym q ∙ not-false d y
 
         pub stock : length a ≡ CELLS → Stock ch k a
-        stock long = record { chosen = proposal .chosen; long = long; few = rw (resummed mix k a (resums-yes mix k a yes)) (proposal .few) }
+        stock long =
+            record { chosen = proposal .chosen; long = long; few = rw (resummed mix k a (resums-yes mix k a yes))
+            (proposal .few) }
 
-        pub answered : (limit : ℕ) (x : Answer) → x ≡ weighedOf limit ch k a n1 → Answered x ≡ proposedAnswer limit ch k mix a n1
+        pub answered : (limit : ℕ) (x : Answer) → x ≡ weighedOf limit ch k a n1
+            → Answered x ≡ proposedAnswer limit ch k mix a n1
         unfolding weighedOf
         answered limit x u = ap Answered u ∙ go (someEmpty ch k a) refl
           where
-            go : (e : Bool) → someEmpty ch k a ≡ e → Answered (weighedOf limit ch k a n1) ≡ proposedAnswer limit ch k mix a n1
+            go : (e : Bool) → someEmpty ch k a ≡ e
+                → Answered (weighedOf limit ch k a n1) ≡ proposedAnswer limit ch k mix a n1
             go true e = rw (e, weighedOf) (sym (answer-empty mix ch k n1 limit a proposal yes e))
             go false e = rw (e, weighedOf) (sym (answer-rated mix ch k n1 limit a proposal yes e))

@@ -61,9 +61,11 @@ module _ (v : List ℤ) (p : List ℕ) (k : ℕ) (w : Weighable v p k) where
         times-small (listed v s) (partAt s) (w .small .each s (omega arith)),
       )
 
-  module _ (s : ℕ) (sum x : ℤ) (n : ℕ) (so : WeighedTo v p k s sum) (l : s < k) (ex : x ≡ listed v s) (ep : n ≡ partAt s) where
+  module _ (s : ℕ) (sum x : ℤ) (n : ℕ) (so : WeighedTo v p k s sum) (l : s < k) (ex : x ≡ listed v s)
+      (ep : n ≡ partAt s) where
     pub weigh-asks : (natAbs x ≤ LARGEST) × (natAbs sum + LARGEST * n ≤ LARGEST * MILLION)
-    weigh-asks = (rw ex (w .small .each s l), rw (so .is, ep) (omega (arith, weighed-small s (so .within), next-few s l)))
+    weigh-asks =
+        (rw ex (w .small .each s l), rw (so .is, ep) (omega (arith, weighed-small s (so .within), next-few s l)))
 
     pub weighed-more : (r : ℤ) → r ≡ sum +ℤ x *ℤ pos n → WeighedTo v p k (s + 1) r
     unfolding weighedTo sumToZ
@@ -72,7 +74,8 @@ module _ (v : List ℤ) (p : List ℕ) (k : ℕ) (w : Weighable v p k) where
       is = e ∙ ap₂ _+ℤ_ (so .is) (ap₂ (λ (y : ℤ) (n : ℕ). y *ℤ pos n) ex ep) ∙ ap (weighedTo v p) (sym (add-one s));
     }
 
-  pub weighed-all : (s : ℕ) (sum : ℤ) → WeighedTo v p k s sum → k ≤ s → (sum ≡ weighedTo v p k) × (natAbs sum ≤ LARGEST * MILLION)
+  pub weighed-all : (s : ℕ) (sum : ℤ) → WeighedTo v p k s sum → k ≤ s → (sum ≡ weighedTo v p k)
+      × (natAbs sum ≤ LARGEST * MILLION)
   weighed-all s sum so l =
       let q : s ≡ k = omega (arith, so .within) in
       let e : sum ≡ weighedTo v p k = so .is ∙ ap (weighedTo v p) q in
@@ -88,9 +91,11 @@ module _ (limit : ℕ) (v : List ℤ) (p : List ℕ) (k n1 s : ℕ) (e : s ≡ s
   unfolding ratedBy
   wide-answer h = sym (rw (width true (lt-ltb limit s h), ratedBy))
 
-  pub rated-answer : s ≤ limit → (sum inert r : ℤ) → sum ≡ weighedTo v p k → inert ≡ inertNumber n1 → r ≡ quotZ sum (pos MILLION) +ℤ inert +ℤ neg PURE_METHANE
+  pub rated-answer : s ≤ limit → (sum inert r : ℤ) → sum ≡ weighedTo v p k → inert ≡ inertNumber n1
+      → r ≡ quotZ sum (pos MILLION) +ℤ inert +ℤ neg PURE_METHANE
       → Rated r s 0 ≡ ratedBy limit v p k n1
   unfolding ratedBy
   rated-answer h sum inert r es ei er =
-      ap₂ (λ (x : ℤ) (y : ℕ). Rated x y 0) (er ∙ ap₂ (λ (x y : ℤ). quotZ x (pos MILLION) +ℤ y +ℤ neg PURE_METHANE) es ei) e
+      ap₂ (λ (x : ℤ) (y : ℕ). Rated x y 0)
+          (er ∙ ap₂ (λ (x y : ℤ). quotZ x (pos MILLION) +ℤ y +ℤ neg PURE_METHANE) es ei) e
       ∙ sym (rw (width false (le-ltb limit s h), ratedBy))

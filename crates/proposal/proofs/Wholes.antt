@@ -1,4 +1,5 @@
--- The signed arithmetic of a rating: each result fits 64 bits, and what is read back from the bits is the number itself.
+-- The signed arithmetic of a rating: each result fits 64 bits, and what is read back from the bits is the number
+-- itself.
 use mathlib.Core.Path.{_≡_, refl, ap, ap₂, _∙_, subst⁻¹}
 use Prim.Native.Nat.{ℕ, _+_, _*_, _-_, _^_, _≤_, _<_}
 use native.Mathlib.Nat as N
@@ -24,7 +25,8 @@ use Rattle.integer.specs.Laws.Ring.{natAbs-*, natAbs-+, natAbs--, natAbs-quot}
 
 -- ---- one more partial number, times its parts
 
-module _ (s v : ℤ) (p : ℕ) (fs : SFits w64 s) (fv : SFits w64 v) (v≤ : natAbs v ≤ LARGEST) (room : natAbs s + LARGEST * p ≤ LARGEST * MILLION) where
+module _ (s v : ℤ) (p : ℕ) (fs : SFits w64 s) (fv : SFits w64 v) (v≤ : natAbs v ≤ LARGEST)
+    (room : natAbs s + LARGEST * p ≤ LARGEST * MILLION) where
   product-le : natAbs (v *ℤ pos p) ≤ LARGEST * p
   product-le = rw (natAbs-* v (pos p)) (N.mul-le-mul-right p v≤)
 
@@ -44,7 +46,9 @@ module _ (s v : ℤ) (p : ℕ) (fs : SFits w64 s) (fv : SFits w64 v) (v≤ : nat
   product-is = ap₂ _*ℤ_ (toZ-ofZ w64 v fv) (toZ-pos w64 p few)
 
   sum-is : toZ w64 (ofZ w64 s) +ℤ toZ w64 (ofZ w64 (toZ w64 (ofZ w64 v) *ℤ toZ w64 p)) ≡ s +ℤ v *ℤ pos p
-  sum-is = ap₂ _+ℤ_ (toZ-ofZ w64 s fs) (ap (λ (z : ℤ). toZ w64 (ofZ w64 z)) product-is ∙ toZ-ofZ w64 (v *ℤ pos p) product-fits)
+  sum-is =
+      ap₂ _+ℤ_ (toZ-ofZ w64 s fs) (ap (λ (z : ℤ). toZ w64 (ofZ w64 z)) product-is
+      ∙ toZ-ofZ w64 (v *ℤ pos p) product-fits)
 
   pub weigh-mul : SFits w64 (toZ w64 (ofZ w64 v) *ℤ toZ w64 p)
   weigh-mul = subst⁻¹ (SFits w64) product-is product-fits
@@ -52,12 +56,14 @@ module _ (s v : ℤ) (p : ℕ) (fs : SFits w64 s) (fv : SFits w64 v) (v≤ : nat
   pub weigh-add : SFits w64 (toZ w64 (ofZ w64 s) +ℤ toZ w64 (ofZ w64 (toZ w64 (ofZ w64 v) *ℤ toZ w64 p)))
   weigh-add = subst⁻¹ (SFits w64) sum-is sum-fits
 
-  pub weigh-is : toZ w64 (ofZ w64 (toZ w64 (ofZ w64 s) +ℤ toZ w64 (ofZ w64 (toZ w64 (ofZ w64 v) *ℤ toZ w64 p)))) ≡ s +ℤ v *ℤ pos p
+  pub weigh-is : toZ w64 (ofZ w64 (toZ w64 (ofZ w64 s) +ℤ toZ w64 (ofZ w64 (toZ w64 (ofZ w64 v) *ℤ toZ w64 p)))) ≡ s
+      +ℤ v *ℤ pos p
   weigh-is = ap (λ (z : ℤ). toZ w64 (ofZ w64 z)) sum-is ∙ toZ-ofZ w64 (s +ℤ v *ℤ pos p) sum-fits
 
 -- ---- the rating
 
-module _ (s n : ℤ) (fs : SFits w64 s) (fn : SFits w64 n) (s≤ : natAbs s ≤ LARGEST * MILLION) (n≤ : natAbs n ≤ LARGEST) where
+module _ (s n : ℤ) (fs : SFits w64 s) (fn : SFits w64 n) (s≤ : natAbs s ≤ LARGEST * MILLION)
+    (n≤ : natAbs n ≤ LARGEST) where
   mean-le : natAbs (quotZ s (pos MILLION)) ≤ 2000000000000000000
   mean-le = rw (natAbs-quot s MILLION) (N.le-trans (N.div-le-self (natAbs s) MILLION) s≤)
 
@@ -71,16 +77,24 @@ module _ (s n : ℤ) (fs : SFits w64 s) (fn : SFits w64 n) (s≤ : natAbs s ≤ 
   with-fits = sfits-small (quotZ s (pos MILLION) +ℤ n) (omega (arith, with-le))
 
   rating-fits : SFits w64 (quotZ s (pos MILLION) +ℤ n -ℤ pos 1000003000)
-  rating-fits = sfits-small (quotZ s (pos MILLION) +ℤ n -ℤ pos 1000003000) (omega (arith, with-le, natAbs-- (quotZ s (pos MILLION) +ℤ n) (pos 1000003000)))
+  rating-fits =
+      sfits-small (quotZ s (pos MILLION) +ℤ n -ℤ pos 1000003000)
+      (omega (arith, with-le, natAbs-- (quotZ s (pos MILLION) +ℤ n) (pos 1000003000)))
 
   mean-is : quotZ (toZ w64 (ofZ w64 s)) (pos MILLION) ≡ quotZ s (pos MILLION)
   mean-is = ap (λ (z : ℤ). quotZ z (pos MILLION)) (toZ-ofZ w64 s fs)
 
-  with-is : toZ w64 (ofZ w64 (quotZ (toZ w64 (ofZ w64 s)) (pos MILLION))) +ℤ toZ w64 (ofZ w64 n) ≡ quotZ s (pos MILLION) +ℤ n
-  with-is = ap₂ _+ℤ_ (ap (λ (z : ℤ). toZ w64 (ofZ w64 z)) mean-is ∙ toZ-ofZ w64 (quotZ s (pos MILLION)) mean-fits) (toZ-ofZ w64 n fn)
+  with-is : toZ w64 (ofZ w64 (quotZ (toZ w64 (ofZ w64 s)) (pos MILLION))) +ℤ toZ w64 (ofZ w64 n) ≡ quotZ s
+      (pos MILLION) +ℤ n
+  with-is =
+      ap₂ _+ℤ_ (ap (λ (z : ℤ). toZ w64 (ofZ w64 z)) mean-is ∙ toZ-ofZ w64 (quotZ s (pos MILLION)) mean-fits)
+      (toZ-ofZ w64 n fn)
 
-  rated-is : toZ w64 (ofZ w64 (toZ w64 (ofZ w64 (quotZ (toZ w64 (ofZ w64 s)) (pos MILLION))) +ℤ toZ w64 (ofZ w64 n))) -ℤ pos 1000003000 ≡ quotZ s (pos MILLION) +ℤ n -ℤ pos 1000003000
-  rated-is = ap (λ (z : ℤ). z -ℤ pos 1000003000) (ap (λ (z : ℤ). toZ w64 (ofZ w64 z)) with-is ∙ toZ-ofZ w64 (quotZ s (pos MILLION) +ℤ n) with-fits)
+  rated-is : toZ w64 (ofZ w64 (toZ w64 (ofZ w64 (quotZ (toZ w64 (ofZ w64 s)) (pos MILLION))) +ℤ toZ w64 (ofZ w64 n)))
+      -ℤ pos 1000003000 ≡ quotZ s (pos MILLION) +ℤ n -ℤ pos 1000003000
+  rated-is =
+      ap (λ (z : ℤ). z -ℤ pos 1000003000) (ap (λ (z : ℤ). toZ w64 (ofZ w64 z)) with-is
+      ∙ toZ-ofZ w64 (quotZ s (pos MILLION) +ℤ n) with-fits)
 
   pub rating-div : SFits w64 (quotZ (toZ w64 (ofZ w64 s)) (pos MILLION))
   rating-div = subst⁻¹ (SFits w64) mean-is mean-fits
@@ -88,11 +102,17 @@ module _ (s n : ℤ) (fs : SFits w64 s) (fn : SFits w64 n) (s≤ : natAbs s ≤ 
   pub rating-add : SFits w64 (toZ w64 (ofZ w64 (quotZ (toZ w64 (ofZ w64 s)) (pos MILLION))) +ℤ toZ w64 (ofZ w64 n))
   rating-add = subst⁻¹ (SFits w64) with-is with-fits
 
-  pub rating-sub : SFits w64 (toZ w64 (ofZ w64 (toZ w64 (ofZ w64 (quotZ (toZ w64 (ofZ w64 s)) (pos MILLION))) +ℤ toZ w64 (ofZ w64 n))) -ℤ pos 1000003000)
+  pub rating-sub : SFits w64 (toZ w64
+      (ofZ w64 (toZ w64 (ofZ w64 (quotZ (toZ w64 (ofZ w64 s)) (pos MILLION))) +ℤ toZ w64 (ofZ w64 n))) -ℤ pos
+      1000003000)
   rating-sub = subst⁻¹ (SFits w64) rated-is rating-fits
 
-  pub rating-is : toZ w64 (ofZ w64 (toZ w64 (ofZ w64 (toZ w64 (ofZ w64 (quotZ (toZ w64 (ofZ w64 s)) (pos MILLION))) +ℤ toZ w64 (ofZ w64 n))) -ℤ pos 1000003000)) ≡ quotZ s (pos MILLION) +ℤ n +ℤ neg PURE_METHANE
-  rating-is = ap (λ (z : ℤ). toZ w64 (ofZ w64 z)) rated-is ∙ toZ-ofZ w64 (quotZ s (pos MILLION) +ℤ n -ℤ pos 1000003000) rating-fits
+  pub rating-is : toZ w64 (ofZ w64
+      (toZ w64 (ofZ w64 (toZ w64 (ofZ w64 (quotZ (toZ w64 (ofZ w64 s)) (pos MILLION))) +ℤ toZ w64 (ofZ w64 n))) -ℤ pos
+      1000003000)) ≡ quotZ s (pos MILLION) +ℤ n +ℤ neg PURE_METHANE
+  rating-is =
+      ap (λ (z : ℤ). toZ w64 (ofZ w64 z)) rated-is
+      ∙ toZ-ofZ w64 (quotZ s (pos MILLION) +ℤ n -ℤ pos 1000003000) rating-fits
 
 -- ---- the inert number is answered, and is small
 
@@ -101,11 +121,13 @@ module _ (n1 : ℕ) (p : Partial) (q : p ≡ formulaOf 20 n1 (MILLION - n1) 0) (
   unfolding inertNumber isSystem keepsRule sumAbs placeIn isIn
   answer-is = q ∙ formula-is 20 n1 (MILLION - n1) 0 refl (omega arith) (omega arith)
 
-  pub inert-ok : (x : ℤ) → p ≡ Number x → (toZ w64 (ofZ w64 x) ≡ inertNumber n1) × (natAbs (toZ w64 (ofZ w64 x)) ≤ LARGEST)
+  pub inert-ok : (x : ℤ) → p ≡ Number x → (toZ w64 (ofZ w64 x) ≡ inertNumber n1)
+      × (natAbs (toZ w64 (ofZ w64 x)) ≤ LARGEST)
   inert-ok x u =
       let t : p ≡ Number (inertNumber n1) = answer-is in
       let v : x ≡ inertNumber n1 = cc in
-      rw (v, toZ-ofZ w64 (inertNumber n1) (sfits-small (inertNumber n1) (omega (arith, inert-small n1)))) (refl, inert-small n1)
+      rw (v, toZ-ofZ w64 (inertNumber n1) (sfits-small (inertNumber n1) (omega (arith, inert-small n1))))
+          (refl, inert-small n1)
 
   pub inert-never : (n : ℕ) → p ≡ Refused n → (pos 0 ≡ inertNumber n1) × (0 ≤ LARGEST)
   inert-never n u =

@@ -1,4 +1,5 @@
--- What the public calls meet: the check's answer, the values of an analysis in range, what the search found. Assumes nothing.
+-- What the public calls meet: the check's answer, the values of an analysis in range, what the search found. Assumes
+-- nothing.
 use mathlib.Core.Path.{_≡_, refl, sym, ap, ap₂, _∙_, subst}
 use mathlib.Core.Bool.{Bool, true, false, cond}
 use mathlib.Core.List.{List}
@@ -46,7 +47,8 @@ use Rattle.split.specs.declared.Proposed.{Proposed}
 use Rattle.split.specs.declared.Proposed.the-variants.{Answered, Unfit}
 use Rattle.split.specs.declared.Found.{Found}
 use Rattle.rating.specs.Records.{fitsOf}
-use Rattle.rating.specs.Rate.{ROUNDS, FEWEST, mixOf, systemsFor, countFor, ratingRefusal, splitBy, splitAnswer, outcome, recordsOf, foundBy, foundOutcome, searched, searchOutcome}
+use Rattle.rating.specs.Rate.{ROUNDS, FEWEST, mixOf, systemsFor, countFor, ratingRefusal, splitBy}
+use Rattle.rating.specs.Rate.{splitAnswer, outcome, recordsOf, foundBy, foundOutcome, searched, searchOutcome}
 use Rattle.split.specs.Accuracy.{fit-few}
 use Rattle.split.specs.PutBack.{balance-fit}
 use Rattle.split.specs.Laws.Size.{rating-small}
@@ -67,7 +69,8 @@ isIn (checked.Refused number code) = false
 -- an analysis that is turned away: the refusal is its own, and 5 carries a code at fault
 pub record TurnedAway (a : List ℕ) (number code : ℕ) : Type 0 where
   pub some : eqb (ratingRefusal a) 0 ≡ false
-  pub same : Refused number code ≡ Refused (ratingRefusal a) (cond (eqb (ratingRefusal a) 5) (faultOf (Refused number code)) 0)
+  pub same : Refused number code ≡ Refused (ratingRefusal a)
+      (cond (eqb (ratingRefusal a) 5) (faultOf (Refused number code)) 0)
   pub fault : number ≡ 5 → AtFault a (faultOf (Refused number code))
 
 module _ (a : List ℕ) (x : Checked) (h : Checking a x) where
@@ -81,13 +84,16 @@ module _ (a : List ℕ) (x : Checked) (h : Checking a x) where
       carried = ap check.faultOf e
 
       by : (f : Bool) → eqb (analysisRefusal a) 5 ≡ f → number ≡ analysisRefusal a → code ≡ cond f (check.faultOf x) 0
-          → Refused number code ≡ Refused (analysisRefusal a) (cond (eqb (analysisRefusal a) 5) (faultOf (Refused number code)) 0)
+          → Refused number code ≡ Refused (analysisRefusal a)
+          (cond (eqb (analysisRefusal a) 5) (faultOf (Refused number code)) 0)
       by true q n c =
           let five : eqb number 5 ≡ true = ap (λ (k : ℕ). eqb k 5) n ∙ q in
           ap (λ (k : ℕ). Refused k code) n ∙ rw (q, five)
       by false q n c = ap₂ Refused n c ∙ rw q
 
-      go : (b : Bool) → eqb (analysisRefusal a) 0 ≡ b → x ≡ cond b checked.InRange (checked.Refused (analysisRefusal a) (cond (eqb (analysisRefusal a) 5) (check.faultOf x) 0)) → TurnedAway a number code
+      go : (b : Bool) → eqb (analysisRefusal a) 0 ≡ b
+          → x ≡ cond b checked.InRange (checked.Refused (analysisRefusal a)
+          (cond (eqb (analysisRefusal a) 5) (check.faultOf x) 0)) → TurnedAway a number code
       go true q r = absurd (differ (isIn x) (ap isIn r) (ap isIn e))
       go false q r =
           let same : checked.Refused number code ≡ checked.Refused (analysisRefusal a) (cond (eqb (analysisRefusal a) 5) (check.faultOf x) 0) = sym e ∙ r in
@@ -106,17 +112,22 @@ few-away a h l =
     let f = too-few a h l in
     record { some = rw f; same = rw f; fault = λ z. absurd (omega arith) }
 
-pub split-away : (a : List ℕ) (p : Split) (number code : ℕ) → TurnedAway a number code → Refused number code ≡ splitAnswer a p (faultOf (Refused number code))
+pub split-away : (a : List ℕ) (p : Split) (number code : ℕ) → TurnedAway a number code
+    → Refused number code ≡ splitAnswer a p (faultOf (Refused number code))
 unfolding splitAnswer
 split-away a p number code t =
     t .same
-    ∙ sym (ap (λ (b : Bool). cond b (splitBy (systemsFor a) (countFor a) (mixOf a) (inertFirst a) p) (Refused (ratingRefusal a) (cond (eqb (ratingRefusal a) 5) (faultOf (Refused number code)) 0))) (t .some))
+    ∙ sym (ap (λ (b : Bool). cond b (splitBy (systemsFor a) (countFor a) (mixOf a) (inertFirst a) p)
+    (Refused (ratingRefusal a) (cond (eqb (ratingRefusal a) 5) (faultOf (Refused number code)) 0))) (t .some))
 
-pub search-away : (a : List ℕ) (allowance number code : ℕ) → TurnedAway a number code → outcome (Refused number code) noSplit ≡ searchOutcome a allowance (faultOf (Refused number code))
+pub search-away : (a : List ℕ) (allowance number code : ℕ) → TurnedAway a number code
+    → outcome (Refused number code) noSplit ≡ searchOutcome a allowance (faultOf (Refused number code))
 unfolding searchOutcome
 search-away a allowance number code t =
     ap (λ (x : Answer). outcome x noSplit) (t .same)
-    ∙ sym (ap (λ (b : Bool). cond b (foundOutcome (systemsFor a) (countFor a) (inertFirst a) (searched a allowance)) (outcome (Refused (ratingRefusal a) (cond (eqb (ratingRefusal a) 5) (faultOf (Refused number code)) 0)) noSplit)) (t .some))
+    ∙ sym (ap (λ (b : Bool). cond b (foundOutcome (systemsFor a) (countFor a) (inertFirst a) (searched a allowance))
+    (outcome (Refused (ratingRefusal a) (cond (eqb (ratingRefusal a) 5) (faultOf (Refused number code)) 0)) noSplit))
+    (t .some))
 
 -- ---- an analysis in range
 
@@ -135,7 +146,8 @@ module _ (a : List ℕ) (long : length a ≡ CODES) (passed : analysisRefusal a 
     pub count-enough : FEWEST ≤ count → RatedOn a
     count-enough l = enough-on a passed (omega (arith, present-is))
 
-  module _ (on : RatedOn a) (mix : List ℕ) (choice : Choice) (n1 : ℕ) (m : mix ≡ mixtureOf a) (c : choice ≡ choiceOf mix) (n : n1 ≡ inertN1 a) where
+  module _ (on : RatedOn a) (mix : List ℕ) (choice : Choice) (n1 : ℕ) (m : mix ≡ mixtureOf a)
+      (c : choice ≡ choiceOf mix) (n : n1 ≡ inertN1 a) where
     mix-is : mix ≡ mixOf a
     mix-is = m ∙ mixture-in
 
@@ -153,26 +165,36 @@ module _ (a : List ℕ) (long : length a ≡ CODES) (passed : analysisRefusal a 
     pub given-room : 3 * choice .count ≤ RECORDS
     given-room = rw choice-is (room a on)
 
-    pub split-in : (p : Split) (r : Answer) → r ≡ splitBy (choice .systems) (choice .count) mix n1 p → r ≡ splitAnswer a p (faultOf r)
+    pub split-in : (p : Split) (r : Answer) → r ≡ splitBy (choice .systems) (choice .count) mix n1 p
+        → r ≡ splitAnswer a p (faultOf r)
     unfolding splitAnswer
     split-in p r e = e ∙ rw (choice-is, mix-is, inert-is, on)
 
     -- the search, of which the guarded one is the same
-    module _ (allowance most : ℕ) (l : most ≡ min allowance 4000) (found : Found) (f : found ≡ findOf mix (choice .systems) (choice .count) 500000 16 most) where
+    module _ (allowance most : ℕ) (l : most ≡ min allowance 4000) (found : Found)
+        (f : found ≡ findOf mix (choice .systems) (choice .count) 500000 16 most) where
       found-is : found ≡ searched a allowance
       found-is =
           f ∙ rw (choice-is, mix-is, l)
-          (sym (find-search (mixOf a) (systemsFor a) (countFor a) FIRST_LEVEL LIMIT (min allowance ROUNDS) (input-fits (mixOf a) (systemsFor a) (countFor a) FIRST_LEVEL (input a long on))))
+          (sym (find-search (mixOf a) (systemsFor a) (countFor a) FIRST_LEVEL LIMIT (min allowance ROUNDS)
+          (input-fits (mixOf a) (systemsFor a) (countFor a) FIRST_LEVEL (input a long on))))
 
-      found-cells : (s r : ℕ) → found .search ≡ Balanced s r → Fit LIMIT (choice .systems) (choice .count) mix (found .cells)
+      found-cells : (s r : ℕ) → found .search ≡ Balanced s r
+          → Fit LIMIT (choice .systems) (choice .count) mix (found .cells)
       found-cells s r e =
-          let b = find-balanced mix (choice .systems) (choice .count) 500000 16 most s r (ap (λ (x : Found). x .search) (sym f) ∙ e) in
-          rw f (balance-fit mix (choice .systems) (choice .count) 500000 most (findOf mix (choice .systems) (choice .count) 500000 16 most .cells) s r b (λ c l. rw (choice-is, mix-is) (shared a on c l)))
+          let b = find-balanced mix (choice .systems) (choice .count) 500000 16 most s r
+              (ap (λ (x : Found). x .search) (sym f) ∙ e) in
+          rw f (balance-fit mix (choice .systems) (choice .count) 500000 most
+              (findOf mix (choice .systems) (choice .count) 500000 16 most .cells) s r b
+              (λ c l. rw (choice-is, mix-is) (shared a on c l)))
 
       pub found-fit : FoundFit mix (choice .systems) (choice .count) found
-      found-fit = record { made = λ e. never-unfit a allowance (ap (λ (x : Found). x .search) (sym found-is) ∙ e); fit = found-cells }
+      found-fit =
+          record { made = λ e. never-unfit a allowance (ap (λ (x : Found). x .search) (sym found-is) ∙ e);
+          fit = found-cells }
 
-      pub search-in : (r : Outcome) → r ≡ foundOutcome (choice .systems) (choice .count) n1 found → r ≡ searchOutcome a allowance (faultOf (r .answer))
+      pub search-in : (r : Outcome) → r ≡ foundOutcome (choice .systems) (choice .count) n1 found
+          → r ≡ searchOutcome a allowance (faultOf (r .answer))
       unfolding searchOutcome
       search-in r e = e ∙ rw (choice-is, inert-is, found-is, on)
 
@@ -180,23 +202,27 @@ module _ (a : List ℕ) (long : length a ≡ CODES) (passed : analysisRefusal a 
   pub split-not-five : (p : Split) (code : ℕ) (x : Answer) → x ≡ splitAnswer a p code → numberOf x ≡ 5 → ⊥
   split-not-five p code x e h = not-five x (rw e (split-in-range a code passed p)) h
 
-  pub search-not-five : (allowance code : ℕ) (x : Outcome) → x ≡ searchOutcome a allowance code → numberOf (x .answer) ≡ 5 → ⊥
+  pub search-not-five : (allowance code : ℕ) (x : Outcome) → x ≡ searchOutcome a allowance code
+      → numberOf (x .answer) ≡ 5 → ⊥
   search-not-five allowance code x e h = not-five (x .answer) (rw e (search-in-range a code passed allowance)) h
 
 -- ---- inner functions
 
 module _ (ch : List ℕ) (k : ℕ) (mix : List ℕ) (n1 : ℕ) where
-  pub misfit : (p : Split) → fitsOf ch k (p .count) (p .systems) (p .codes) ≡ false → Refused 7 0 ≡ splitBy ch k mix n1 p
+  pub misfit : (p : Split) → fitsOf ch k (p .count) (p .systems) (p .codes) ≡ false
+      → Refused 7 0 ≡ splitBy ch k mix n1 p
   unfolding splitBy
   misfit p e = rw e
 
-  pub fitting : (p : Split) (cells : List ℕ) → fitsOf ch k (p .count) (p .systems) (p .codes) ≡ true → cells ≡ cellsOf ch k (p .amounts)
+  pub fitting : (p : Split) (cells : List ℕ) → fitsOf ch k (p .count) (p .systems) (p .codes) ≡ true
+      → cells ≡ cellsOf ch k (p .amounts)
       → proposedOf 500000 ch k mix cells n1 ≡ splitBy ch k mix n1 p
   unfolding splitBy
   fitting p cells e q = ap (λ (l : List ℕ). proposedOf 500000 ch k mix l n1) q ∙ rw e
 
   -- fit input is answered, under any limit
-  module _ (limit : ℕ) (cells : List ℕ) (h : Proposal mix ch k n1) (y : Proposed) (z : y ≡ proposedAnswer limit ch k mix cells n1) where
+  module _ (limit : ℕ) (cells : List ℕ) (h : Proposal mix ch k n1) (y : Proposed)
+      (z : y ≡ proposedAnswer limit ch k mix cells n1) where
     pub answered-not-unfit : y ≡ Unfit → ⊥
     answered-not-unfit u =
         let same = sym u ∙ z ∙ answer-proposed mix ch k n1 limit cells h in
@@ -206,21 +232,26 @@ module _ (ch : List ℕ) (k : ℕ) (mix : List ℕ) (n1 : ℕ) where
     answered-is x u = let same = sym u ∙ z ∙ answer-proposed mix ch k n1 limit cells h in cc
 
   -- cells that are fit are rated, also under a wider limit
-  module _ (limit : ℕ) (cells : List ℕ) (f : Fit 500000 ch k mix cells) (x : Answer) (e : x ≡ proposedOf limit ch k mix cells n1) (l : 500000 ≤ limit) where
+  module _ (limit : ℕ) (cells : List ℕ) (f : Fit 500000 ch k mix cells) (x : Answer)
+      (e : x ≡ proposedOf limit ch k mix cells n1) (l : 500000 ≤ limit) where
     rated : x ≡ Rated (ratingOf ch k cells n1) (spreadOf (rowNumber ch cells) k) 0
     rated = e ∙ wider 500000 limit ch k mix cells n1 _ _ _ l (fit-rated 500000 ch k mix cells n1 f)
 
     pub rating-is : (w : ℤ) (s r : ℕ) → x ≡ Rated w s r → w ≡ ratingOf ch k cells n1
-    rating-is w s r q = let same : Rated w s r ≡ Rated (ratingOf ch k cells n1) (spreadOf (rowNumber ch cells) k) 0 = sym q ∙ rated in cc
+    rating-is w s r q =
+        let same : Rated w s r ≡ Rated (ratingOf ch k cells n1) (spreadOf (rowNumber ch cells) k) 0 = sym q ∙ rated in
+        cc
 
     pub not-refused : (number place : ℕ) → x ≡ Refused number place → ⊥
     not-refused number place q = subst IsRated (sym rated ∙ q) tt
 
-pub found-none : (ch : List ℕ) (k n1 : ℕ) (f : Found) → f .search ≡ Unbalanced → outcome (Refused 11 0) noSplit ≡ foundOutcome ch k n1 f
+pub found-none : (ch : List ℕ) (k n1 : ℕ) (f : Found) → f .search ≡ Unbalanced
+    → outcome (Refused 11 0) noSplit ≡ foundOutcome ch k n1 f
 unfolding foundOutcome
 found-none ch k n1 f e = sym (ap (foundBy ch k n1 (f .cells)) e)
 
-pub found-some : (ch : List ℕ) (k n1 : ℕ) (f : Found) (s r : ℕ) → f .search ≡ Balanced s r → outcome (Rated (ratingOf ch k (f .cells) n1) s r) (recordsOf ch k (f .cells)) ≡ foundOutcome ch k n1 f
+pub found-some : (ch : List ℕ) (k n1 : ℕ) (f : Found) (s r : ℕ) → f .search ≡ Balanced s r
+    → outcome (Rated (ratingOf ch k (f .cells) n1) s r) (recordsOf ch k (f .cells)) ≡ foundOutcome ch k n1 f
 unfolding foundOutcome
 found-some ch k n1 f s r e = sym (ap (foundBy ch k n1 (f .cells)) e)
 
@@ -244,20 +275,27 @@ search-any a n c d h = go (on-or-few a h)
 
 -- ---- the same of a call's result
 
-pub search-away-is : (a : List ℕ) (allowance number code : ℕ) (r : Outcome) → TurnedAway a number code → r ≡ outcome (Refused number code) noSplit
-    → (r ≡ searchOutcome a allowance (faultOf (r .answer))) × (numberOf (r .answer) ≡ 5 → AtFault a (faultOf (r .answer)))
+pub search-away-is : (a : List ℕ) (allowance number code : ℕ) (r : Outcome) → TurnedAway a number code
+    → r ≡ outcome (Refused number code) noSplit
+    → (r ≡ searchOutcome a allowance (faultOf (r .answer)))
+    × (numberOf (r .answer) ≡ 5 → AtFault a (faultOf (r .answer)))
 search-away-is a allowance number code r t e =
-    subst (λ (o : Outcome). (o ≡ searchOutcome a allowance (faultOf (o .answer))) × (numberOf (o .answer) ≡ 5 → AtFault a (faultOf (o .answer)))) (sym e)
+    subst (λ (o : Outcome). (o ≡ searchOutcome a allowance (faultOf (o .answer)))
+        × (numberOf (o .answer) ≡ 5 → AtFault a (faultOf (o .answer)))) (sym e)
     (search-away a allowance number code t, t .fault)
 
-pub found-is-some : (ch : List ℕ) (k n1 : ℕ) (f : Found) (s r : ℕ) (w w′ : ℤ) (p : Split) → f .search ≡ Balanced s r → w′ ≡ w → w ≡ ratingOf ch k (f .cells) n1 → p ≡ recordsOf ch k (f .cells)
+pub found-is-some : (ch : List ℕ) (k n1 : ℕ) (f : Found) (s r : ℕ) (w w′ : ℤ) (p : Split) → f .search ≡ Balanced s r
+    → w′ ≡ w → w ≡ ratingOf ch k (f .cells) n1 → p ≡ recordsOf ch k (f .cells)
     → outcome (Rated w′ s r) p ≡ foundOutcome ch k n1 f
-found-is-some ch k n1 f s r w w′ p e same q h = ap₂ (λ (x : ℤ) (y : Split). outcome (Rated x s r) y) (same ∙ q) h ∙ found-some ch k n1 f s r e
+found-is-some ch k n1 f s r w w′ p e same q h =
+    ap₂ (λ (x : ℤ) (y : Split). outcome (Rated x s r) y) (same ∙ q) h ∙ found-some ch k n1 f s r e
 
 -- a rating in its 64 bits
-pub rating-value : (ch : List ℕ) (k : ℕ) (mix : List ℕ) (n1 limit : ℕ) (cells : List ℕ) → Proposal mix ch k n1 → Fit 500000 ch k mix cells → (x : Answer) → x ≡ proposedOf limit ch k mix cells n1 → 500000 ≤ limit
+pub rating-value : (ch : List ℕ) (k : ℕ) (mix : List ℕ) (n1 limit : ℕ) (cells : List ℕ) → Proposal mix ch k n1
+    → Fit 500000 ch k mix cells → (x : Answer) → x ≡ proposedOf limit ch k mix cells n1 → 500000 ≤ limit
     → (w : ℤ) (s r : ℕ) → x ≡ Rated w s r → toZ w64 (ofZ w64 w) ≡ ratingOf ch k cells n1
 rating-value ch k mix n1 limit cells h f x e l w s r q =
     let is = rating-is ch k mix n1 limit cells f x e l w s r q in
     let small = rating-small ch k cells n1 (fit-few ch k mix cells (h .chosen) (h .few) (f .sums)) in
-    read-back w (subst (λ (z : ℤ). mag z < 2 ^ 63) (sym is) (N.lt-of-le-of-lt (N.le-trans (mag-le (ratingOf ch k cells n1)) small) (lit< tt))) ∙ is
+    read-back w (subst (λ (z : ℤ). mag z < 2 ^ 63) (sym is)
+        (N.lt-of-le-of-lt (N.le-trans (mag-le (ratingOf ch k cells n1)) small) (lit< tt))) ∙ is

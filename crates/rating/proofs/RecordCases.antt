@@ -1,4 +1,5 @@
--- The records of a split and its cells: the packed tables, the arrays as they fill, and the cases of the definitions. Assumes nothing.
+-- The records of a split and its cells: the packed tables, the arrays as they fill, and the cases of the definitions.
+-- Assumes nothing.
 use Prim.Native.Nat.{ℕ, suc, _+_, _*_, _-_, _/_, _%_, _^_, _≤_, _<_}
 use mathlib.Core.Path.{_≡_, refl, sym, ap, ap₂, _∙_, subst}
 use mathlib.Core.Bool.{Bool, true, false, not, cond, _&&_}
@@ -11,7 +12,8 @@ use borrow.Author.Tests.{lt-ltb, le-ltb, ltb-true, ltb-false, eq-eqb, ne-eqb, eq
 use Rattle.systems.specs.Systems.{COMPONENTS, hasOf, candidates, Candidate}
 use Rattle.systems.specs.Laws.Table.{every, everyTo, eachTo, each-candidate}
 use Rattle.split.specs.Fold.{allTo, table}
-use Rattle.split.specs.Split.{CELLS, RECORDS, cellOf, systemOf, heldOf, rankOf, componentAt, cellsOf, amountsOf, Chosen, amountAt, cellAt}
+use Rattle.split.specs.Split.{CELLS, RECORDS, cellOf, systemOf, heldOf, rankOf, componentAt, cellsOf, amountsOf}
+use Rattle.split.specs.Split.{Chosen, amountAt, cellAt}
 use Rattle.split.specs.Laws.Tables.{length-table, getD-table}
 use Rattle.split.specs.Laws.Clean.{held-row, row-held}
 use Rattle.split.specs.Laws.Places.{rank-lt, component-rank, component-lt, component-has, rank-component}
@@ -39,13 +41,15 @@ risesAll packed system = everyTo (rises packed system) 3
 pub component-is : (packed : ℕ) → T (every (risesAll packed) candidates) → (system j : ℕ) → Candidate system → j < 3
     → (rising packed system j ≡ componentAt system j) × (rising packed system j < COMPONENTS)
 component-is packed t system j k h =
-    let e = eqb→eq (rising packed system j) (componentAt system j) (eachTo (rises packed system) 3 (each-candidate (risesAll packed) t system k) j h) in
+    let e = eqb→eq (rising packed system j) (componentAt system j)
+        (eachTo (rises packed system) 3 (each-candidate (risesAll packed) t system k) j h) in
     (e, rw e (component-lt system k j h))
 
 abbrev pub coded : ℕ → ℕ → Bool
 coded packed c = eqb (packed / 2 ^ (c * 4) % 16) (splitCode c)
 
-pub code-is : (packed : ℕ) → T (everyTo (coded packed) COMPONENTS) → (c : ℕ) → c < COMPONENTS → packed / 2 ^ (c * 4) % 16 ≡ splitCode c
+pub code-is : (packed : ℕ) → T (everyTo (coded packed) COMPONENTS) → (c : ℕ) → c < COMPONENTS
+    → packed / 2 ^ (c * 4) % 16 ≡ splitCode c
 code-is packed t c h = eqb→eq (packed / 2 ^ (c * 4) % 16) (splitCode c) (eachTo (coded packed) COMPONENTS t c h)
 
 -- ---- one record
@@ -67,7 +71,8 @@ module _ (ch : List ℕ) (k r : ℕ) where
   unfolding codeAt
   code-past h = rw (le-ltb r (3 * k) h)
 
-  amount-in : (a : List ℕ) → r < 3 * k → cellOf a (r / 3) (componentAt (systemOf ch (r / 3)) (r % 3)) ≡ amountAt ch k a r
+  amount-in : (a : List ℕ) → r < 3 * k
+      → cellOf a (r / 3) (componentAt (systemOf ch (r / 3)) (r % 3)) ≡ amountAt ch k a r
   amount-in a h = rw (lt-ltb r (3 * k) h)
 
   amount-past : (a : List ℕ) → 3 * k ≤ r → amountAt ch k a r ≡ 0
@@ -97,7 +102,8 @@ part-next f l r v h p e =
         let d : j ≡ r → ⊥ = eqb-false j r q in
         getD-set-other l r j v 0 d ∙ p .put j (omega arith)
 
-part-all : (f : ℕ → ℕ) (l : List ℕ) (r : ℕ) → Part f l r → ((j : ℕ) → r ≤ j → j < RECORDS → f j ≡ 0) → l ≡ table f RECORDS 0
+part-all : (f : ℕ → ℕ) (l : List ℕ) (r : ℕ) → Part f l r → ((j : ℕ) → r ≤ j → j < RECORDS → f j ≡ 0)
+    → l ≡ table f RECORDS 0
 part-all f l r p z =
     ext-getD 0 l (table f RECORDS 0) (p .long ∙ sym (length-table f RECORDS 0))
     (λ j b.
@@ -118,11 +124,16 @@ pub record Recorded (ch : List ℕ) (k : ℕ) (a found codes amounts : List ℕ)
 
 module _ (ch : List ℕ) (k : ℕ) (a : List ℕ) where
   pub recorded-none : Recorded ch k a (replicate RECORDS 0) (replicate RECORDS 0) (replicate RECORDS 0) 0
-  recorded-none = record { most = omega arith; systems = part-none (systemAt ch k); coded′ = part-none (codeAt ch k); amounted = part-none (amountAt ch k a) }
+  recorded-none =
+      record { most = omega arith; systems = part-none (systemAt ch k); coded′ = part-none
+      (codeAt ch k); amounted = part-none (amountAt ch k a) }
 
-  module _ (found codes amounts : List ℕ) (r last : ℕ) (e : (last ≤ 3 * k) × (last ≤ RECORDS) × (last < RECORDS → last ≡ 3 * k)) where
-    pub recorded-next : (c code : ℕ) → Recorded ch k a found codes amounts r → r < last → c ≡ componentAt (systemOf ch (r / 3)) (r % 3) → code ≡ splitCode c
-        → Recorded ch k a (set found r (systemOf ch (r / 3))) (set codes r code) (set amounts r (cellOf a (r / 3) c)) (r + 1)
+  module _ (found codes amounts : List ℕ) (r last : ℕ) (e : (last ≤ 3 * k) × (last ≤ RECORDS)
+      × (last < RECORDS → last ≡ 3 * k)) where
+    pub recorded-next : (c code : ℕ) → Recorded ch k a found codes amounts r → r < last
+        → c ≡ componentAt (systemOf ch (r / 3)) (r % 3) → code ≡ splitCode c
+        → Recorded ch k a (set found r (systemOf ch (r / 3))) (set codes r code) (set amounts r (cellOf a (r / 3) c))
+        (r + 1)
     recorded-next c code d h p q =
         let w : r < 3 * k = omega (arith, e .0) in
         let l : r < RECORDS = omega (arith, e .1) in
@@ -130,16 +141,24 @@ module _ (ch : List ℕ) (k : ℕ) (a : List ℕ) where
           most = omega arith;
           systems = part-next (systemAt ch k) found r (systemOf ch (r / 3)) l (d .systems) (system-in ch k r w);
           coded′ = part-next (codeAt ch k) codes r code l (d .coded′) (q ∙ ap splitCode p ∙ code-in ch k r w);
-          amounted = part-next (amountAt ch k a) amounts r (cellOf a (r / 3) c) l (d .amounted) (ap (cellOf a (r / 3)) p ∙ amount-in ch k r a w);
+          amounted =
+              part-next (amountAt ch k a) amounts r (cellOf a (r / 3) c) l (d .amounted) (ap (cellOf a (r / 3)) p
+              ∙ amount-in ch k r a w);
         }
 
-    pub recorded-all : Recorded ch k a found codes amounts r → last ≤ r → _≡_ {A = Split} (record { count = 3 * k; systems = found; codes = codes; amounts = amounts }) (recordsOf ch k a)
+    pub recorded-all : Recorded ch k a found codes amounts r → last ≤ r
+        → _≡_ {A = Split} (record { count = 3 * k; systems = found; codes = codes; amounts = amounts })
+        (recordsOf ch k a)
     unfolding systemsOf codesOf amountsOf
     recorded-all d h =
-        let past : (j : ℕ) → r ≤ j → j < RECORDS → 3 * k ≤ j = λ j b t. let q : last < RECORDS = omega arith in omega (arith, e .2 q) in
-        let f : found ≡ systemsOf ch k = part-all (systemAt ch k) found r (d .systems) (λ j b t. system-past ch k j (past j b t)) in
-        let g : codes ≡ codesOf ch k = part-all (codeAt ch k) codes r (d .coded′) (λ j b t. code-past ch k j (past j b t)) in
-        let m : amounts ≡ amountsOf ch k a = part-all (amountAt ch k a) amounts r (d .amounted) (λ j b t. amount-past ch k j a (past j b t)) in
+        let past : (j : ℕ) → r ≤ j → j < RECORDS → 3 * k ≤ j = λ j b t. let q : last < RECORDS = omega arith in
+            omega (arith, e .2 q) in
+        let f : found ≡ systemsOf ch k = part-all (systemAt ch k) found r (d .systems)
+            (λ j b t. system-past ch k j (past j b t)) in
+        let g : codes ≡ codesOf ch k = part-all (codeAt ch k) codes r (d .coded′)
+            (λ j b t. code-past ch k j (past j b t)) in
+        let m : amounts ≡ amountsOf ch k a = part-all (amountAt ch k a) amounts r (d .amounted)
+            (λ j b t. amount-past ch k j a (past j b t)) in
         λ i. record { count = 3 * k; systems = f i; codes = g i; amounts = m i }
 
 -- ---- the cells as the records fill them
@@ -151,24 +170,30 @@ recordOf ch i = 3 * (i / COMPONENTS) + rankOf (systemOf ch (i / COMPONENTS)) (i 
 pub record Celled (ch : List ℕ) (k : ℕ) (xs out : List ℕ) (r : ℕ) : Type 0 where
   pub most : r ≤ 3 * k
   long : length out ≡ CELLS
-  put : (i : ℕ) → i < CELLS → heldOf ch k (i / COMPONENTS) (i % COMPONENTS) ≡ true → recordOf ch i < r → getD out i 0 ≡ getD xs (recordOf ch i) 0
+  put : (i : ℕ) → i < CELLS → heldOf ch k (i / COMPONENTS) (i % COMPONENTS) ≡ true → recordOf ch i < r
+      → getD out i 0 ≡ getD xs (recordOf ch i) 0
   rest : (i : ℕ) → i < CELLS → heldOf ch k (i / COMPONENTS) (i % COMPONENTS) ≡ false → getD out i 0 ≡ 0
 
 module _ (ch : List ℕ) (k : ℕ) (xs : List ℕ) (chosen : Chosen ch k) where
   pub celled-none : Celled ch k xs (replicate CELLS 0) 0
-  celled-none = record { most = omega arith; long = refl; put = λ i l h b. absurd (omega arith); rest = λ i l h. getD-replicate CELLS i 0 0 l }
+  celled-none =
+      record { most = omega arith; long = refl; put = λ i l h b. absurd (omega arith); rest = λ i l h. getD-replicate
+      CELLS i 0 0 l }
 
   -- a held cell's record is one of its row's three
-  record-row : (i : ℕ) → heldOf ch k (i / COMPONENTS) (i % COMPONENTS) ≡ true → (recordOf ch i / 3 ≡ i / COMPONENTS) × (recordOf ch i % 3 ≡ rankOf (systemOf ch (i / COMPONENTS)) (i % COMPONENTS)) × (recordOf ch i < 3 * k)
+  record-row : (i : ℕ) → heldOf ch k (i / COMPONENTS) (i % COMPONENTS) ≡ true → (recordOf ch i / 3 ≡ i / COMPONENTS)
+      × (recordOf ch i % 3 ≡ rankOf (systemOf ch (i / COMPONENTS)) (i % COMPONENTS)) × (recordOf ch i < 3 * k)
   record-row i h =
       let w = held-row ch k (i / COMPONENTS) (i % COMPONENTS) h in
-      let l = rank-lt (systemOf ch (i / COMPONENTS)) (chosen .known (i / COMPONENTS) (w .0)) (i % COMPONENTS) (omega arith) (w .1) in
+      let l = rank-lt (systemOf ch (i / COMPONENTS)) (chosen .known (i / COMPONENTS) (w .0)) (i % COMPONENTS)
+          (omega arith) (w .1) in
       row-of (i / COMPONENTS) (rankOf (systemOf ch (i / COMPONENTS)) (i % COMPONENTS)) l (w .0)
     where
       row-of : (s p : ℕ) → p < 3 → s < k → ((3 * s + p) / 3 ≡ s) × ((3 * s + p) % 3 ≡ p) × (3 * s + p < 3 * k)
       row-of s p l b = (omega arith, omega arith, omega arith)
 
-  module _ (out : List ℕ) (r c : ℕ) (d : Celled ch k xs out r) (h : r < 3 * k) (e : c ≡ componentAt (systemOf ch (r / 3)) (r % 3)) where
+  module _ (out : List ℕ) (r c : ℕ) (d : Celled ch k xs out r) (h : r < 3 * k)
+      (e : c ≡ componentAt (systemOf ch (r / 3)) (r % 3)) where
     known : Candidate (systemOf ch (r / 3))
     known = chosen .known (r / 3) (omega arith)
 
@@ -192,7 +217,8 @@ module _ (ch : List ℕ) (k : ℕ) (xs : List ℕ) (chosen : Chosen ch k) where
     column-is = omega (arith, low)
 
     record-is : recordOf ch (r / 3 * COMPONENTS + c) ≡ r
-    record-is = ap₂ (λ (s b : ℕ). 3 * s + rankOf (systemOf ch s) b) row-is column-is ∙ ap (λ (p : ℕ). 3 * (r / 3) + p) rank ∙ back
+    record-is = ap₂ (λ (s b : ℕ). 3 * s + rankOf (systemOf ch s) b) row-is column-is
+        ∙ ap (λ (p : ℕ). 3 * (r / 3) + p) rank ∙ back
       where
         back : 3 * (r / 3) + r % 3 ≡ r
         back = omega arith
@@ -201,14 +227,17 @@ module _ (ch : List ℕ) (k : ℕ) (xs : List ℕ) (chosen : Chosen ch k) where
     held-is = ap₂ (heldOf ch k) row-is column-is ∙ row-held ch k (r / 3) c (omega arith) has
 
     -- and the only held one of record r
-    only : (i : ℕ) → heldOf ch k (i / COMPONENTS) (i % COMPONENTS) ≡ true → recordOf ch i ≡ r → i ≡ r / 3 * COMPONENTS + c
+    only : (i : ℕ) → heldOf ch k (i / COMPONENTS) (i % COMPONENTS) ≡ true → recordOf ch i ≡ r
+        → i ≡ r / 3 * COMPONENTS + c
     only i b q =
         let w = held-row ch k (i / COMPONENTS) (i % COMPONENTS) b in
         let t = record-row i b in
         let row : i / COMPONENTS ≡ r / 3 = sym (t .0) ∙ ap (λ (x : ℕ). x / 3) q in
-        let place : rankOf (systemOf ch (i / COMPONENTS)) (i % COMPONENTS) ≡ r % 3 = sym (t .1) ∙ ap (λ (x : ℕ). x % 3) q in
+        let place : rankOf (systemOf ch (i / COMPONENTS)) (i % COMPONENTS) ≡ r % 3 = sym (t .1)
+            ∙ ap (λ (x : ℕ). x % 3) q in
         let column : i % COMPONENTS ≡ c =
-        sym (component-rank (systemOf ch (i / COMPONENTS)) (chosen .known (i / COMPONENTS) (w .0)) (i % COMPONENTS) (omega arith) (w .1))
+        sym (component-rank (systemOf ch (i / COMPONENTS)) (chosen .known (i / COMPONENTS) (w .0)) (i % COMPONENTS)
+            (omega arith) (w .1))
         ∙ ap₂ (λ (s p : ℕ). componentAt (systemOf ch s) p) row place
         ∙ sym e in
         whole i (r / 3) c row column
@@ -222,10 +251,13 @@ module _ (ch : List ℕ) (k : ℕ) (xs : List ℕ) (chosen : Chosen ch k) where
           most = omega arith;
           long = length-set out (r / 3 * COMPONENTS + c) (getD xs r 0) ∙ d .long;
           put = λ i l b t. at i l b t (eqb i (r / 3 * COMPONENTS + c)) refl;
-          rest = λ i l b. getD-set-other out (r / 3 * COMPONENTS + c) i (getD xs r 0) 0 (λ q. other i b q) ∙ d .rest i l b;
+          rest =
+              λ i l b. getD-set-other out (r / 3 * COMPONENTS + c) i (getD xs r 0) 0 (λ q. other i b q)
+              ∙ d .rest i l b;
         }
       where
-        at : (i : ℕ) → i < CELLS → heldOf ch k (i / COMPONENTS) (i % COMPONENTS) ≡ true → recordOf ch i < r + 1 → (b : Bool) → eqb i (r / 3 * COMPONENTS + c) ≡ b
+        at : (i : ℕ) → i < CELLS → heldOf ch k (i / COMPONENTS) (i % COMPONENTS) ≡ true → recordOf ch i < r + 1
+            → (b : Bool) → eqb i (r / 3 * COMPONENTS + c) ≡ b
             → getD (set out (r / 3 * COMPONENTS + c) (getD xs r 0)) i 0 ≡ getD xs (recordOf ch i) 0
         at i l b t true q =
             let z = eqb-true i (r / 3 * COMPONENTS + c) q in
@@ -242,18 +274,21 @@ module _ (ch : List ℕ) (k : ℕ) (xs : List ℕ) (chosen : Chosen ch k) where
 
         other : (i : ℕ) → heldOf ch k (i / COMPONENTS) (i % COMPONENTS) ≡ false → i ≡ r / 3 * COMPONENTS + c → ⊥
         other i b q =
-            let t : heldOf ch k (i / COMPONENTS) (i % COMPONENTS) ≡ true = ap (λ (x : ℕ). heldOf ch k (x / COMPONENTS) (x % COMPONENTS)) q ∙ held-is in
+            let t : heldOf ch k (i / COMPONENTS) (i % COMPONENTS) ≡ true =
+                ap (λ (x : ℕ). heldOf ch k (x / COMPONENTS) (x % COMPONENTS)) q ∙ held-is in
             let z : _≡_ {A = ℕ} 0 1 = cc in
             omega arith
 
   -- the jth record of row s, and a row's three
-  celled-at : (out : List ℕ) (s j c : ℕ) → s < k → j < 3 → Celled ch k xs out (3 * s + j) → c ≡ componentAt (systemOf ch s) j
+  celled-at : (out : List ℕ) (s j c : ℕ) → s < k → j < 3 → Celled ch k xs out (3 * s + j)
+      → c ≡ componentAt (systemOf ch s) j
       → Celled ch k xs (set out (s * COMPONENTS + c) (getD xs (3 * s + j) 0)) (3 * s + j + 1)
   celled-at out s j c h l d e =
       let row : (3 * s + j) / 3 ≡ s = omega arith in
       let place : (3 * s + j) % 3 ≡ j = omega arith in
       subst (λ (x : ℕ). Celled ch k xs (set out (x * COMPONENTS + c) (getD xs (3 * s + j) 0)) (3 * s + j + 1)) row
-      (celled-next out (3 * s + j) c d (omega arith) (e ∙ sym (ap₂ (λ (x y : ℕ). componentAt (systemOf ch x) y) row place)))
+      (celled-next out (3 * s + j) c d (omega arith)
+      (e ∙ sym (ap₂ (λ (x y : ℕ). componentAt (systemOf ch x) y) row place)))
 
   pub celled-row : (out : List ℕ) (s c₀ c₁ c₂ : ℕ) → s < k → Celled ch k xs out (3 * s)
       → c₀ ≡ componentAt (systemOf ch s) 0 → c₁ ≡ componentAt (systemOf ch s) 1 → c₂ ≡ componentAt (systemOf ch s) 2
@@ -278,9 +313,11 @@ module _ (ch : List ℕ) (k : ℕ) (xs : List ℕ) (chosen : Chosen ch k) where
       (λ i b.
       let l : i < CELLS = rw (d .long) at b in
       let q : 0 + i ≡ i = omega arith in
-      at i l (heldOf ch k (i / COMPONENTS) (i % COMPONENTS)) refl ∙ sym (getD-table (cellAt ch k xs) CELLS 0 i l ∙ ap (cellAt ch k xs) q))
+      at i l (heldOf ch k (i / COMPONENTS) (i % COMPONENTS)) refl
+          ∙ sym (getD-table (cellAt ch k xs) CELLS 0 i l ∙ ap (cellAt ch k xs) q))
     where
-      at : (i : ℕ) → i < CELLS → (b : Bool) → heldOf ch k (i / COMPONENTS) (i % COMPONENTS) ≡ b → getD out i 0 ≡ cellAt ch k xs i
+      at : (i : ℕ) → i < CELLS → (b : Bool) → heldOf ch k (i / COMPONENTS) (i % COMPONENTS) ≡ b
+          → getD out i 0 ≡ cellAt ch k xs i
       at i l true e = let t = record-row i e .2 in d .put i l e (omega arith) ∙ rw e
       at i l false e = d .rest i l e ∙ rw e
 
@@ -315,9 +352,13 @@ module _ (ch : List ℕ) (k count : ℕ) (systems codes : List ℕ) where
   fits-all h = rw (eq-eqb count (3 * k) h)
 
   -- one record of the system and the component expected of it
-  match-in : (r : ℕ) → r < 3 * k → (eqb (getD systems r 0) (systemOf ch (r / 3)) && eqb (getD codes r 0) (splitCode (componentAt (systemOf ch (r / 3)) (r % 3)))) ≡ matchesAt ch k systems codes r
+  match-in : (r : ℕ) → r < 3 * k
+      → (eqb (getD systems r 0) (systemOf ch (r / 3))
+      && eqb (getD codes r 0) (splitCode (componentAt (systemOf ch (r / 3)) (r % 3)))) ≡ matchesAt ch k systems codes
+      r
   unfolding matchesAt
-  match-in r h = ap₂ (λ (x y : ℕ). (eqb (getD systems r 0) x && eqb (getD codes r 0) y)) (system-in ch k r h) (code-in ch k r h)
+  match-in r h =
+      ap₂ (λ (x y : ℕ). (eqb (getD systems r 0) x && eqb (getD codes r 0) y)) (system-in ch k r h) (code-in ch k r h)
 
   -- the records below r are still to be tested
   pub record Fitting (r : ℕ) : Type 0 where
@@ -342,11 +383,13 @@ module _ (ch : List ℕ) (k count : ℕ) (systems codes : List ℕ) where
 
   -- a row's three, of the rows below n the last
   module _ (n s : ℕ) (f : Fitting (3 * n)) (h : n ≡ s + 1) (x y z : Bool)
-      (e₀ : x ≡ recordFits (3 * s) s 0) (e₁ : y ≡ recordFits (3 * s + 1) s 1) (e₂ : z ≡ recordFits (3 * s + 2) s 2) where
+      (e₀ : x ≡ recordFits (3 * s) s 0) (e₁ : y ≡ recordFits (3 * s + 1) s 1) (e₂ : z ≡ recordFits (3 * s + 2) s 2)
+      where
     in-range : s < k
     in-range = omega (arith, f .most)
 
-    three : allTo (matchesAt ch k systems codes) (3 * n) ≡ cond ((x && y) && z) (allTo (matchesAt ch k systems codes) (3 * s)) false
+    three : allTo (matchesAt ch k systems codes) (3 * n) ≡ cond ((x && y) && z)
+        (allTo (matchesAt ch k systems codes) (3 * s)) false
     three =
         let q : 3 * n ≡ suc (suc (suc (3 * s))) = omega arith in
         let p₀ : 3 * s ≡ 3 * s + 0 = omega arith in
@@ -359,13 +402,17 @@ module _ (ch : List ℕ) (k count : ℕ) (systems codes : List ℕ) where
         ap (allTo (matchesAt ch k systems codes)) q ∙ three-last (matchesAt ch k systems codes) (3 * s) x y z m₀ m₁ m₂
 
     pub row-fails : not ((x && y) && z) ≡ true → false ≡ fitsOf ch k count systems codes
-    row-fails t = sym (f .rest ∙ three ∙ ap (λ (b : Bool). cond b (allTo (matchesAt ch k systems codes) (3 * s)) false) (not-true ((x && y) && z) t))
+    row-fails t =
+        sym (f .rest ∙ three ∙ ap (λ (b : Bool). cond b (allTo (matchesAt ch k systems codes) (3 * s)) false)
+        (not-true ((x && y) && z) t))
 
     pub row-fits : not ((x && y) && z) ≡ false → Fitting (3 * s)
     row-fits t =
         record {
           most = omega (arith, f .most);
-          rest = f .rest ∙ three ∙ ap (λ (b : Bool). cond b (allTo (matchesAt ch k systems codes) (3 * s)) false) (not-false ((x && y) && z) t);
+          rest =
+              f .rest ∙ three ∙ ap (λ (b : Bool). cond b (allTo (matchesAt ch k systems codes) (3 * s)) false)
+              (not-false ((x && y) && z) t);
         }
 
   module _ (r : ℕ) (f : Fitting r) where
@@ -376,16 +423,20 @@ both-is : (x y : Bool) → (x && y) ≡ (x && y)
 both-is true y = refl
 both-is false y = refl
 
-pub match-is : (found system code x expected : ℕ) → x ≡ expected → (eqb found system && eqb code x) ≡ (eqb found system && eqb code expected)
+pub match-is : (found system code x expected : ℕ) → x ≡ expected
+    → (eqb found system && eqb code x) ≡ (eqb found system && eqb code expected)
 match-is found system code x expected e =
     both-is (eqb found system) (eqb code x) ∙ ap (λ (n : ℕ). (eqb found system && eqb code n)) e
 
 -- ---- a proposed split: whether its records fit, and the answer to its cells
 
-module _ (ch : List ℕ) (k : ℕ) (mix : List ℕ) (n1 : ℕ) (p : Split) (b : Bool) (e : b ≡ fitsOf ch k (p .count) (p .systems) (p .codes)) where
+module _ (ch : List ℕ) (k : ℕ) (mix : List ℕ) (n1 : ℕ) (p : Split) (b : Bool)
+    (e : b ≡ fitsOf ch k (p .count) (p .systems) (p .codes)) where
   pub split-misfit : not b ≡ true → Refused 7 0 ≡ splitBy ch k mix n1 p
   split-misfit t = misfit ch k mix n1 p (sym e ∙ not-true b t)
 
-  pub split-fitting : (cells : List ℕ) (r : Answer) (y : Proposed) → Proposal mix ch k n1 → not b ≡ false → cells ≡ cellsOf ch k (p .amounts)
+  pub split-fitting : (cells : List ℕ) (r : Answer) (y : Proposed) → Proposal mix ch k n1 → not b ≡ false
+      → cells ≡ cellsOf ch k (p .amounts)
       → y ≡ proposedAnswer 500000 ch k mix cells n1 → y ≡ Answered r → r ≡ splitBy ch k mix n1 p
-  split-fitting cells r y h t q z u = answered-is ch k mix n1 500000 cells h y z r u ∙ fitting ch k mix n1 p cells (sym e ∙ not-false b t) q
+  split-fitting cells r y h t q z u =
+      answered-is ch k mix n1 500000 cells h y z r u ∙ fitting ch k mix n1 p cells (sym e ∙ not-false b t) q

@@ -25,7 +25,8 @@ use Rattle.rating.specs.declared.Outcome.{Outcome}
 
 -- ---- a refused sheet
 
-module _ (s : List ℕ) (r : Sheet) (h : ReadAs s r) (number place code : ℕ) (e : r .answer ≡ reading.Refused number place code) where
+module _ (s : List ℕ) (r : Sheet) (h : ReadAs s r) (number place code : ℕ)
+    (e : r .answer ≡ reading.Refused number place code) where
   abbrev carried : ℕ
   carried = read.placeOf (reading.Refused number place code)
 
@@ -37,7 +38,8 @@ module _ (s : List ℕ) (r : Sheet) (h : ReadAs s r) (number place code : ℕ) (
   sheet-refused =
       sym (
       ap (λ (c : ℕ). readBy (readOf s c .answer) (readOf s c .analysis .amounts) (readOf s c .split) c) same-code
-      ∙ ap (λ (x : Reading). readBy x (readOf s code .analysis .amounts) (readOf s code .split) code) (refused-answer s r h number place code e))
+      ∙ ap (λ (x : Reading). readBy x (readOf s code .analysis .amounts) (readOf s code .split) code)
+      (refused-answer s r h number place code e))
 
   pub sheet-fault : number ≡ 5 → FaultIn (getD s 0 0) s (faultOf (Refused number carried))
   sheet-fault z = rw same-code (subst (FaultIn (getD s 0 0) s) (ap read.faultOf e) (h .code (ap read.numberOf e ∙ z)))
@@ -60,14 +62,17 @@ module _ (s : List ℕ) (r : Sheet) (h : ReadAs s r) (e : r .answer ≡ reading.
   free (Refused n p) (inl (inr b)) = rw (ne-eqb n 5 (λ z. omega (arith, b .0)))
   free (Refused n p) (inr q) = ap faultOf q
 
-  ends : RatedOrFew (cond (eqb (r .split .count) 0) (searchOutcome (r .analysis .amounts) 4000 0) (outcome (splitAnswer (r .analysis .amounts) (r .split) 0) noSplit) .answer)
+  ends : RatedOrFew (cond (eqb (r .split .count) 0) (searchOutcome (r .analysis .amounts) 4000 0)
+      (outcome (splitAnswer (r .analysis .amounts) (r .split) 0) noSplit) .answer)
   ends = go (eqb (r .split .count) 0)
     where
-      go : (t : Bool) → RatedOrFew (cond t (searchOutcome (r .analysis .amounts) 4000 0) (outcome (splitAnswer (r .analysis .amounts) (r .split) 0) noSplit) .answer)
+      go : (t : Bool) → RatedOrFew (cond t (searchOutcome (r .analysis .amounts) 4000 0)
+          (outcome (splitAnswer (r .analysis .amounts) (r .split) 0) noSplit) .answer)
       go true = search-in-range (r .analysis .amounts) 0 passed 4000
       go false = split-in-range (r .analysis .amounts) 0 passed (r .split)
 
-  module _ (o : Outcome) (q : o ≡ cond (eqb (r .split .count) 0) (searchOutcome (r .analysis .amounts) 4000 0) (outcome (splitAnswer (r .analysis .amounts) (r .split) 0) noSplit)) where
+  module _ (o : Outcome) (q : o ≡ cond (eqb (r .split .count) 0) (searchOutcome (r .analysis .amounts) 4000 0)
+      (outcome (splitAnswer (r .analysis .amounts) (r .split) 0) noSplit)) where
     answer-ends : RatedOrFew (o .answer)
     answer-ends = subst (λ (x : Outcome). RatedOrFew (x .answer)) (sym q) ends
 
@@ -75,7 +80,8 @@ module _ (s : List ℕ) (r : Sheet) (h : ReadAs s r) (e : r .answer ≡ reading.
     unfolding sheetOutcome
     sheet-read =
         q
-        ∙ ap (λ (x : Sheet). cond (eqb (x .split .count) 0) (searchOutcome (x .analysis .amounts) 4000 0) (outcome (splitAnswer (x .analysis .amounts) (x .split) 0) noSplit)) whole
+        ∙ ap (λ (x : Sheet). cond (eqb (x .split .count) 0) (searchOutcome (x .analysis .amounts) 4000 0)
+        (outcome (splitAnswer (x .analysis .amounts) (x .split) 0) noSplit)) whole
         ∙ sym (ap (λ (x : Reading). readBy x (readOf s 0 .analysis .amounts) (readOf s 0 .split) 0) good)
         ∙ ap (sheetOutcome s) (sym (free (o .answer) answer-ends))
 
@@ -84,10 +90,14 @@ module _ (s : List ℕ) (r : Sheet) (h : ReadAs s r) (e : r .answer ≡ reading.
 
 -- ---- the same of a call's result
 
-pub sheet-refused-is : (s : List ℕ) (r : Sheet) → ReadAs s r → (number place code : ℕ) → r .answer ≡ reading.Refused number place code
-    → (at : ℕ) (o : Outcome) → at ≡ read.placeOf (reading.Refused number place code) → o ≡ outcome (Refused number at) noSplit
-    → (o ≡ sheetOutcome s (faultOf (o .answer))) × (numberOf (o .answer) ≡ 5 → FaultIn (getD s 0 0) s (faultOf (o .answer)))
+pub sheet-refused-is : (s : List ℕ) (r : Sheet) → ReadAs s r → (number place code : ℕ)
+    → r .answer ≡ reading.Refused number place code
+    → (at : ℕ) (o : Outcome) → at ≡ read.placeOf (reading.Refused number place code)
+    → o ≡ outcome (Refused number at) noSplit
+    → (o ≡ sheetOutcome s (faultOf (o .answer)))
+    × (numberOf (o .answer) ≡ 5 → FaultIn (getD s 0 0) s (faultOf (o .answer)))
 sheet-refused-is s r h number place code e at o c q =
-    subst (λ (x : Outcome). (x ≡ sheetOutcome s (faultOf (x .answer))) × (numberOf (x .answer) ≡ 5 → FaultIn (getD s 0 0) s (faultOf (x .answer))))
+    subst (λ (x : Outcome). (x ≡ sheetOutcome s (faultOf (x .answer)))
+        × (numberOf (x .answer) ≡ 5 → FaultIn (getD s 0 0) s (faultOf (x .answer))))
     (sym (q ∙ ap (λ (n : ℕ). outcome (Refused number n) noSplit) c))
     (sheet-refused s r h number place code e, sheet-fault s r h number place code e)

@@ -60,7 +60,8 @@ mixtureRefusal mix = cond (ltb (presentCount mix) FEWEST) TOO_FEW (cond (each is
 
 -- the number with which rating turns an analysis away: 5 or 6, then 16 or 13; 0 where it is rated on
 unfoldable pub ratingRefusal : List ℕ → ℕ
-ratingRefusal analysis = cond (eqb (analysisRefusal analysis) 0) (mixtureRefusal (mixOf analysis)) (analysisRefusal analysis)
+ratingRefusal analysis =
+    cond (eqb (analysisRefusal analysis) 0) (mixtureRefusal (mixOf analysis)) (analysisRefusal analysis)
 
 abbrev pub checkedBy : ℕ → ℕ → Answer → Answer
 checkedBy number code rated = cond (eqb number 0) rated (Refused number (carried number code 0))
@@ -89,7 +90,8 @@ splitAnswer analysis split code = splitAnswerBy (ratingRefusal analysis) (choice
 -- the split of the cells, as records
 abbrev pub recordsOf : List ℕ → ℕ → List ℕ → Split
 recordsOf systems count cells =
-    record { count = 3 * count; systems = systemsOf systems count; codes = codesOf systems count; amounts = amountsOf systems count cells }
+    record { count = 3 * count; systems = systemsOf systems count; codes = codesOf systems count; amounts = amountsOf
+        systems count cells }
 
 abbrev pub outcome : Answer → Split → Outcome
 outcome answer split = record { answer = answer; split = split }
@@ -97,7 +99,8 @@ outcome answer split = record { answer = answer; split = split }
 -- what the search came to: a rating with its split, or its refusal and no split. No search of an analysis is unfit
 -- (`Ends.never-unfit`); its line has the number 0, which is no refusal's
 abbrev pub foundBy : List ℕ → ℕ → ℕ → List ℕ → Search → Outcome
-foundBy systems count n1 cells (Balanced spread rounds) = outcome (Rated (ratingOf systems count cells n1) spread rounds) (recordsOf systems count cells)
+foundBy systems count n1 cells (Balanced spread rounds) =
+    outcome (Rated (ratingOf systems count cells n1) spread rounds) (recordsOf systems count cells)
 foundBy systems count n1 cells Unbalanced = outcome (Refused (search.numberOf Unbalanced) 0) noSplit
 foundBy systems count n1 cells Unfit = outcome (Refused (search.numberOf Unfit) 0) noSplit
 
@@ -122,7 +125,8 @@ searchOutcomeBy number choice analysis allowance code =
 
 -- of an analysis
 unfoldable pub searchOutcome : List ℕ → ℕ → ℕ → Outcome
-searchOutcome analysis allowance code = searchOutcomeBy (ratingRefusal analysis) (choiceOf (mixOf analysis)) analysis allowance code
+searchOutcome analysis allowance code =
+    searchOutcomeBy (ratingRefusal analysis) (choiceOf (mixOf analysis)) analysis allowance code
 
 -- ---- a sheet: its refusal, else its split, else the search with the most rounds
 
@@ -133,4 +137,5 @@ readBy reading.Read analysis split code =
     cond (eqb (split .count) 0) (searchOutcome analysis ROUNDS code) (outcome (splitAnswer analysis split code) noSplit)
 
 unfoldable pub sheetOutcome : List ℕ → ℕ → Outcome
-sheetOutcome sheet code = readBy (readOf sheet code .answer) (readOf sheet code .analysis .amounts) (readOf sheet code .split) code
+sheetOutcome sheet code =
+    readBy (readOf sheet code .answer) (readOf sheet code .analysis .amounts) (readOf sheet code .split) code

@@ -24,7 +24,8 @@ use Rattle.sheet.specs.Components.{refusalBy, codeRefusal, codesReading}
 use Rattle.sheet.specs.Split.{allowedCount}
 use Rattle.sheet.specs.Sheet.{LISTED, withSplit, withComponents, judged, sectionsOf}
 use Rattle.sheet.specs.Read.{amountsOf, amountsRefusal, refusedSheet, contentOf, readOf, FaultIn, ReadAs}
-use Rattle.sheet.specs.Laws.Cases.{never, sectioned, read-torn, read-codes, read-amounts, read-good, amounts-zero, amounts-checked}
+use Rattle.sheet.specs.Laws.Cases.{never, sectioned, read-torn, read-codes, read-amounts, read-good, amounts-zero}
+use Rattle.sheet.specs.Laws.Cases.{amounts-checked}
 use Rattle.reader.specs.Inner.Find.{ZeroRecord, AmountsRefused}
 
 -- ---- the two sections
@@ -64,7 +65,8 @@ module _ (s : List ℕ) (w : Walked) (walked : w ≡ walkOf s 5 6) where
 -- ---- the amounts
 
 module _ (n : ℕ) (s : List ℕ) where
-  pub zero-found : (place at : ℕ) → at ≡ 1 + 5 * place → ZeroRecord n s place → place < n → AmountsRefused n s (checked.Refused 5 (getD s at 0))
+  pub zero-found : (place at : ℕ) → at ≡ 1 + 5 * place → ZeroRecord n s place → place < n
+      → AmountsRefused n s (checked.Refused 5 (getD s at 0))
   zero-found place at e z h =
       rw e
       (record {
@@ -72,7 +74,8 @@ module _ (n : ℕ) (s : List ℕ) where
         code = λ _. inl (record { place = place; listed = h; code-there = refl; amount-there = z .zero-there h });
       })
 
-  pub checked-found : (place : ℕ) → ZeroRecord n s place → n ≤ place → (a : List ℕ) → a ≡ amountsOf n s → (r : Checked) → Checking a r → AmountsRefused n s r
+  pub checked-found : (place : ℕ) → ZeroRecord n s place → n ≤ place → (a : List ℕ) → a ≡ amountsOf n s
+      → (r : Checked) → Checking a r → AmountsRefused n s r
   checked-found place z h a e r k =
       let q : amountsRefusal n s ≡ analysisRefusal a = amounts-checked n s (z .none h) ∙ ap analysisRefusal (sym e) in
       record {
@@ -99,20 +102,24 @@ code-not-five c p h = go (eqb (refusalBy (statusOf c)) 0) (leb c p) h
 
 codes-not-five : (n : ℕ) (s : List ℕ) (at i p : ℕ) {k j c : ℕ} → codesReading n s at i p ≡ Refused k j c → k ≡ 5 → ⊥
 codes-not-five zero s at i p h = let z : _≡_ {A = ℕ} 0 1 = cc in absurd (never z)
-codes-not-five (suc n) s at i p {k} {j} {c} h = go (eqb (codeRefusal (getD s at 0) p) 0) (λ e. codes-not-five n s (at + 5) (i + 1) (getD s at 0) e) h
+codes-not-five (suc n) s at i p {k} {j} {c} h =
+    go (eqb (codeRefusal (getD s at 0) p) 0) (λ e. codes-not-five n s (at + 5) (i + 1) (getD s at 0) e) h
   where
     go : (t : Bool) → (codesReading n s (at + 5) (i + 1) (getD s at 0) ≡ Refused k j c → k ≡ 5 → ⊥)
-        → cond t (codesReading n s (at + 5) (i + 1) (getD s at 0)) (Refused (codeRefusal (getD s at 0) p) i 0) ≡ Refused k j c → k ≡ 5 → ⊥
+        → cond t (codesReading n s (at + 5) (i + 1) (getD s at 0))
+        (Refused (codeRefusal (getD s at 0) p) i 0) ≡ Refused k j c → k ≡ 5 → ⊥
     go true ih h f = ih h f
     go false ih h f = let z : codeRefusal (getD s at 0) p ≡ k = cc in code-not-five (getD s at 0) p (z ∙ f)
 
 module _ (s : List ℕ) (r : Sheet) where
   pub answer-torn : sectionsOf s ≡ Torn → r ≡ refusedSheet (Refused 1 0 0) → ReadAs s r
   answer-torn h e =
-      subst (λ (x : Sheet). ReadAs s x) (sym e) (record { sheet = sym (read-torn s 0 h); code = λ z. absurd (omega arith) })
+      subst (λ (x : Sheet). ReadAs s x) (sym e)
+          (record { sheet = sym (read-torn s 0 h); code = λ z. absurd (omega arith) })
 
   module _ (n m first : ℕ) (h : sectionsOf s ≡ Both n m first) where
-    pub answer-codes : (k i c : ℕ) → codesReading n s 1 0 0 ≡ Refused k i c → r ≡ refusedSheet (Refused k i c) → ReadAs s r
+    pub answer-codes : (k i c : ℕ) → codesReading n s 1 0 0 ≡ Refused k i c → r ≡ refusedSheet (Refused k i c)
+        → ReadAs s r
     answer-codes k i c d e =
         subst (λ (x : Sheet). ReadAs s x) (sym e)
         (record { sheet = sym (read-codes s c n m first h d); code = λ z. absurd (codes-not-five n s 1 0 0 d z) })
@@ -120,36 +127,47 @@ module _ (s : List ℕ) (r : Sheet) where
     module _ (d : codesReading n s 1 0 0 ≡ Read) where
       -- what an answer to the amounts says of the number
       refused-number : (number code : ℕ) → checked.Refused number code ≡ checkedOf (amountsRefusal n s) code
-          → (amountsRefusal n s ≡ 0 → ⊥) × (number ≡ amountsRefusal n s) × (code ≡ cond (eqb (amountsRefusal n s) 5) code 0)
+          → (amountsRefusal n s ≡ 0 → ⊥) × (number ≡ amountsRefusal n s)
+          × (code ≡ cond (eqb (amountsRefusal n s) 5) code 0)
       refused-number number code e = go (eqb (amountsRefusal n s) 0) refl e
         where
           go : (t : Bool) → eqb (amountsRefusal n s) 0 ≡ t
-              → checked.Refused number code ≡ cond t checked.InRange (checked.Refused (amountsRefusal n s) (cond (eqb (amountsRefusal n s) 5) code 0))
-              → (amountsRefusal n s ≡ 0 → ⊥) × (number ≡ amountsRefusal n s) × (code ≡ cond (eqb (amountsRefusal n s) 5) code 0)
+              → checked.Refused number code ≡ cond t checked.InRange
+              (checked.Refused (amountsRefusal n s) (cond (eqb (amountsRefusal n s) 5) code 0))
+              → (amountsRefusal n s ≡ 0 → ⊥) × (number ≡ amountsRefusal n s)
+              × (code ≡ cond (eqb (amountsRefusal n s) 5) code 0)
           go true q e = let z : _≡_ {A = ℕ} 0 1 = cc in absurd (never z)
           go false q e = (eqb-false _ _ q, cc, cc)
 
-      refused-answer : (number code : ℕ) → AmountsRefused n s (checked.Refused number code) → r ≡ refusedSheet (Refused number 0 code) → ReadAs s r
+      refused-answer : (number code : ℕ) → AmountsRefused n s (checked.Refused number code)
+          → r ≡ refusedSheet (Refused number 0 code) → ReadAs s r
       refused-answer number code a e =
           let q = refused-number number code (a .answer) in
           let g = read-amounts s code n m first h d (q .0) in
           let k : refusedSheet (Refused number 0 code) ≡ readOf s code =
-          ap (λ (x : ℕ). refusedSheet (Refused x 0 code)) (q .1) ∙ ap (λ (x : ℕ). refusedSheet (Refused (amountsRefusal n s) 0 x)) (q .2) ∙ sym g in
+          ap (λ (x : ℕ). refusedSheet (Refused x 0 code)) (q .1)
+              ∙ ap (λ (x : ℕ). refusedSheet (Refused (amountsRefusal n s) 0 x)) (q .2) ∙ sym g in
           subst (λ (x : Sheet). ReadAs s x) (sym e)
-          (record { sheet = k; code = λ f. subst (λ (x : ℕ). FaultIn x s code) (sectioned s h .components) (a .code f) })
+          (record { sheet = k; code = λ f. subst (λ (x : ℕ). FaultIn x s code) (sectioned s h .components)
+          (a .code f) })
 
-      pub answer-amounts : (number code : ℕ) (y : Checked) → AmountsRefused n s y → y ≡ checked.Refused number code → r ≡ refusedSheet (Refused number 0 code) → ReadAs s r
-      answer-amounts number code y a f e = refused-answer number code (subst (λ (x : Checked). AmountsRefused n s x) f a) e
+      pub answer-amounts : (number code : ℕ) (y : Checked) → AmountsRefused n s y → y ≡ checked.Refused number code
+          → r ≡ refusedSheet (Refused number 0 code) → ReadAs s r
+      answer-amounts number code y a f e =
+          refused-answer number code (subst (λ (x : Checked). AmountsRefused n s x) f a) e
 
       in-range-number : checked.InRange ≡ checkedOf (amountsRefusal n s) 0 → amountsRefusal n s ≡ 0
       in-range-number e = go (eqb (amountsRefusal n s) 0) refl e
         where
           go : (t : Bool) → eqb (amountsRefusal n s) 0 ≡ t
-              → checked.InRange ≡ cond t checked.InRange (checked.Refused (amountsRefusal n s) (cond (eqb (amountsRefusal n s) 5) 0 0)) → amountsRefusal n s ≡ 0
+              → checked.InRange ≡ cond t checked.InRange
+              (checked.Refused (amountsRefusal n s) (cond (eqb (amountsRefusal n s) 5) 0 0)) → amountsRefusal n s ≡ 0
           go true q e = eqb-true _ _ q
           go false q e = let z : _≡_ {A = ℕ} 0 1 = cc in absurd (never z)
 
-      pub answer-good : (y : Checked) → AmountsRefused n s y → y ≡ checked.InRange → r ≡ contentOf n m first s → ReadAs s r
+      pub answer-good : (y : Checked) → AmountsRefused n s y → y ≡ checked.InRange → r ≡ contentOf n m first s
+          → ReadAs s r
       answer-good y a f e =
           let z = in-range-number (subst (λ (x : Checked). AmountsRefused n s x) f a .answer) in
-          subst (λ (x : Sheet). ReadAs s x) (sym e) (record { sheet = sym (read-good s 0 n m first h d z); code = λ f. absurd (omega arith) })
+          subst (λ (x : Sheet). ReadAs s x) (sym e)
+              (record { sheet = sym (read-good s 0 n m first h d z); code = λ f. absurd (omega arith) })

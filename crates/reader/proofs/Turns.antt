@@ -71,12 +71,14 @@ module _ (c p : ℕ) where
       fine l = code-fine c p live-code l
 
 module _ (n i : ℕ) (s : List ℕ) (at p : ℕ) where
-  pub codes-go : i < n → codeRefusal (getD s at 0) p ≡ 0 → codesReading (n - i) s at i p ≡ codesReading (n - (i + 1)) s (at + 5) (i + 1) (getD s at 0)
+  pub codes-go : i < n → codeRefusal (getD s at 0) p ≡ 0
+      → codesReading (n - i) s at i p ≡ codesReading (n - (i + 1)) s (at + 5) (i + 1) (getD s at 0)
   codes-go h f =
       let e : n - i ≡ suc (n - (i + 1)) = omega arith in
       rw e (simp (eq-eqb _ _ f))
 
-  pub codes-stop : i < n → (codeRefusal (getD s at 0) p ≡ 0 → ⊥) → codesReading (n - i) s at i p ≡ Refused (codeRefusal (getD s at 0) p) i 0
+  pub codes-stop : i < n → (codeRefusal (getD s at 0) p ≡ 0 → ⊥)
+      → codesReading (n - i) s at i p ≡ Refused (codeRefusal (getD s at 0) p) i 0
   codes-stop h f =
       let e : n - i ≡ suc (n - (i + 1)) = omega arith in
       rw e (simp (ne-eqb _ _ f))
@@ -87,7 +89,8 @@ module _ (n i : ℕ) (s : List ℕ) (at p : ℕ) where
       rw e
 
 module _ (n i : ℕ) (s : List ℕ) (at : ℕ) (a : List ℕ) where
-  pub amounts-go : i < n → amountsFrom (n - i) s at a ≡ amountsFrom (n - (i + 1)) s (at + 5) (set a (getD s at 0) (fourBytesAt s (at + 1)))
+  pub amounts-go : i < n → amountsFrom (n - i) s at a ≡ amountsFrom (n - (i + 1)) s (at + 5)
+      (set a (getD s at 0) (fourBytesAt s (at + 1)))
   amounts-go h =
       let e : n - i ≡ suc (n - (i + 1)) = omega arith in
       rw e
@@ -115,7 +118,8 @@ module _ (s : List ℕ) (n : ℕ) (a : List ℕ) (i at : ℕ) (w : Listed s n a 
           most = omega arith;
           there = omega (arith, w .there);
           long = ap length e ∙ length-set a (getD s at 0) (fourBytesAt s (at + 1)) ∙ w .long;
-          same = ap (λ (x : List ℕ). amountsFrom (n - (i + 1)) s (at + 5) x) e ∙ sym (amounts-go n i s at a h) ∙ w .same;
+          same =
+              ap (λ (x : List ℕ). amountsFrom (n - (i + 1)) s (at + 5) x) e ∙ sym (amounts-go n i s at a h) ∙ w .same;
         }
 
     pub listed-in : (x : ℕ) → x ≡ fourBytesAt s (at + 1) → b ≡ set a (getD s at 0) x → Listed s n b (i + 1) (at + 5)
@@ -156,7 +160,8 @@ module _ (s : List ℕ) (n i at : ℕ) (w : Looked s n i at) where
   module _ (h : i < n) (x : ℕ) (f : x ≡ fourBytesAt s (at + 1)) where
     pub looked-next : (x ≡ 0 → ⊥) → Looked s n (i + 1) (at + 5)
     looked-next k =
-        record { most = omega arith; there = omega (arith, w .there); same = sym (zero-go n i s at h (λ z. k (f ∙ z))) ∙ w .same }
+        record { most = omega arith; there = omega (arith, w .there); same = sym (zero-go n i s at h (λ z. k (f ∙ z)))
+            ∙ w .same }
 
     pub looked-zero : x ≡ 0 → ZeroRecord n s i
     looked-zero k =
@@ -178,12 +183,14 @@ module _ (s : List ℕ) (n i at : ℕ) (w : Looked s n i at) where
 
 -- a turn that stores an element of a column
 module _ (m i : ℕ) (s : List ℕ) (v w : ℕ) (e : w ≡ v + 6) (xs : List ℕ) where
-  pub bytes-go : i < m → sets xs i (byteColumn (m - i) s v) ≡ sets (set xs i (getD s v 0)) (i + 1) (byteColumn (m - (i + 1)) s w)
+  pub bytes-go : i < m → sets xs i (byteColumn (m - i) s v) ≡ sets (set xs i (getD s v 0)) (i + 1)
+      (byteColumn (m - (i + 1)) s w)
   bytes-go h =
       let f : m - i ≡ suc (m - (i + 1)) = omega arith in
       rw (f, e, add-one i)
 
-  pub column-go : i < m → sets xs i (amountColumn (m - i) s v) ≡ sets (set xs i (fourBytesAt s v)) (i + 1) (amountColumn (m - (i + 1)) s w)
+  pub column-go : i < m → sets xs i (amountColumn (m - i) s v) ≡ sets (set xs i (fourBytesAt s v)) (i + 1)
+      (amountColumn (m - (i + 1)) s w)
   column-go h =
       let f : m - i ≡ suc (m - (i + 1)) = omega arith in
       rw (f, e, add-one i)
@@ -202,7 +209,8 @@ module _ (m i : ℕ) (s : List ℕ) (v : ℕ) (xs : List ℕ) where
 -- a column stored into zeros is that column with the other places 0
 drop-same : (k z x : ℕ) → drop k (replicate (k + z) x) ≡ replicate z x
 drop-same k z x =
-    ap (λ (l : List ℕ). drop k l) (sym (replicate-append-replicate k z x)) ∙ drop-at (replicate k x) (replicate z x) k (length-replicate k x)
+    ap (λ (l : List ℕ). drop k l) (sym (replicate-append-replicate k z x))
+        ∙ drop-at (replicate k x) (replicate z x) k (length-replicate k x)
 
 pub sets-padded : (vs : List ℕ) → length vs ≤ RECORDS → sets (replicate RECORDS 0) 0 vs ≡ padded vs
 sets-padded vs h =
@@ -222,12 +230,15 @@ pub record Columns (s : List ℕ) (at m : ℕ) (xs ys zs : List ℕ) (i w : ℕ)
   pub codes : sets ys i (byteColumn (m - i) s (w + 1)) ≡ sets (replicate RECORDS 0) 0 (byteColumn m s (at + 1))
   pub amounts : sets zs i (amountColumn (m - i) s (w + 2)) ≡ sets (replicate RECORDS 0) 0 (amountColumn m s (at + 2))
 
-pub columns-none : (s : List ℕ) (at m : ℕ) → Columns s at m (replicate RECORDS 0) (replicate RECORDS 0) (replicate RECORDS 0) 0 at
+pub columns-none : (s : List ℕ) (at m : ℕ) → Columns s at m (replicate RECORDS 0) (replicate RECORDS 0)
+    (replicate RECORDS 0) 0 at
 columns-none s at m =
-    record { most = omega arith; there = omega arith; systems = rw sub-zero; codes = rw sub-zero; amounts = rw sub-zero }
+    record { most = omega arith; there = omega arith; systems = rw sub-zero; codes = rw sub-zero;
+        amounts = rw sub-zero }
 
 module _ (s : List ℕ) (at m : ℕ) (xs ys zs : List ℕ) (i w : ℕ) (l : Columns s at m xs ys zs i w) where
-  pub columns-next : i < m → (n : ℕ) → n ≡ fourBytesAt s (w + 2) → Columns s at m (set xs i (getD s w 0)) (set ys i (getD s (w + 1) 0)) (set zs i n) (i + 1) (w + 6)
+  pub columns-next : i < m → (n : ℕ) → n ≡ fourBytesAt s (w + 2)
+      → Columns s at m (set xs i (getD s w 0)) (set ys i (getD s (w + 1) 0)) (set zs i n) (i + 1) (w + 6)
   columns-next t n f =
       record {
         most = omega arith;
@@ -237,9 +248,13 @@ module _ (s : List ℕ) (at m : ℕ) (xs ys zs : List ℕ) (i w : ℕ) (l : Colu
         amounts = rw f (sym (column-go m i s (w + 2) (w + 6 + 2) (omega arith) zs t) ∙ l .amounts);
       }
 
-  pub columns-all : m ≤ i → m ≤ RECORDS → (r : Split) → r ≡ record { count = m; systems = xs; codes = ys; amounts = zs } → r ≡ splitAt m s at
+  pub columns-all : m ≤ i → m ≤ RECORDS → (r : Split)
+      → r ≡ record { count = m; systems = xs; codes = ys; amounts = zs } → r ≡ splitAt m s at
   columns-all t k r e =
-      let x = sym (bytes-end m i s w xs t) ∙ l .systems ∙ sets-padded (byteColumn m s at) (omega (arith, length-byte-column m s at)) in
-      let y = sym (bytes-end m i s (w + 1) ys t) ∙ l .codes ∙ sets-padded (byteColumn m s (at + 1)) (omega (arith, length-byte-column m s (at + 1))) in
-      let z = sym (column-end m i s (w + 2) zs t) ∙ l .amounts ∙ sets-padded (amountColumn m s (at + 2)) (omega (arith, length-amount-column m s (at + 2))) in
+      let x = sym (bytes-end m i s w xs t) ∙ l .systems
+          ∙ sets-padded (byteColumn m s at) (omega (arith, length-byte-column m s at)) in
+      let y = sym (bytes-end m i s (w + 1) ys t) ∙ l .codes
+          ∙ sets-padded (byteColumn m s (at + 1)) (omega (arith, length-byte-column m s (at + 1))) in
+      let z = sym (column-end m i s (w + 2) zs t) ∙ l .amounts
+          ∙ sets-padded (amountColumn m s (at + 2)) (omega (arith, length-amount-column m s (at + 2))) in
       e ∙ (λ j. record { count = m; systems = x j; codes = y j; amounts = z j })

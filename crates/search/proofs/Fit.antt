@@ -39,7 +39,8 @@ module _ (mix ch : List ℕ) (k limit level allowance : ℕ) where
         clash : true ≡ false → _≡_ {A = ℕ} 1 0
         clash u = ap (λ x. cond x 1 0) u
 
-        go : (x y : Bool) → mixtureFit mix ≡ x → chosenFit ch k ≡ y → foundOf (replicate CELLS 0) Unfit ≡ findOf mix ch k limit level allowance
+        go : (x y : Bool) → mixtureFit mix ≡ x → chosenFit ch k ≡ y
+            → foundOf (replicate CELLS 0) Unfit ≡ findOf mix ch k limit level allowance
         go false y f g = find-none mix ch k level limit allowance (rw (le-leb level FIRST_LEVEL h, f, searchFit))
         go true false f g = find-none mix ch k level limit allowance (rw (le-leb level FIRST_LEVEL h, f, g, searchFit))
         go true true f g = absurd (let w : 1 ≡ 0 = clash (rw (f, g) at no) in omega arith)
@@ -59,23 +60,31 @@ module _ (mix ch : List ℕ) (k limit level allowance : ℕ) where
 
       pub find-empty : r .fit ≡ false → foundOf (replicate CELLS 0) Unfit ≡ findOf mix ch k limit level allowance
       unfolding searchFit
-      find-empty u = find-none mix ch k level limit allowance (rw (le-leb level FIRST_LEVEL h, few, known, ap (someEmpty ch k) (sym s) ∙ unfit-empty ch k a r q stock u, searchFit))
+      find-empty u =
+          find-none mix ch k level limit allowance
+          (rw (le-leb level FIRST_LEVEL h, few, known, ap (someEmpty ch k) (sym s) ∙ unfit-empty ch k a r q stock u,
+          searchFit))
 
       pub start-held : r .fit ≡ true → Held ch k a (r .numbers)
       start-held u = fit-held ch k a r q stock u
 
-      pub find-is : r .fit ≡ true → (x : Found) → x ≡ searchOf ch k limit level allowance a → x ≡ findOf mix ch k limit level allowance
+      pub find-is : r .fit ≡ true → (x : Found) → x ≡ searchOf ch k limit level allowance a
+          → x ≡ findOf mix ch k limit level allowance
       unfolding searchFit
       find-is u x z =
-          let e : someEmpty ch k (startOf mix ch k) ≡ false = ap (someEmpty ch k) (sym s) ∙ no-empty ch k a (start-held u .sound .some) in
-          z ∙ ap (searchOf ch k limit level allowance) s ∙ find-search mix ch k level limit allowance (rw (le-leb level FIRST_LEVEL h, few, known, e, searchFit))
+          let e : someEmpty ch k (startOf mix ch k) ≡ false = ap (someEmpty ch k) (sym s)
+              ∙ no-empty ch k a (start-held u .sound .some) in
+          z ∙ ap (searchOf ch k limit level allowance) s
+              ∙ find-search mix ch k level limit allowance (rw (le-leb level FIRST_LEVEL h, few, known, e, searchFit))
 
   -- both tests at once
   module _ (b : Bool) (p : b ≡ (mixtureFit mix && chosenFit ch k)) where
-    pub find-turned : (ltb FIRST_LEVEL level || not b) ≡ true → foundOf (replicate CELLS 0) Unfit ≡ findOf mix ch k limit level allowance
+    pub find-turned : (ltb FIRST_LEVEL level || not b) ≡ true
+        → foundOf (replicate CELLS 0) Unfit ≡ findOf mix ch k limit level allowance
     find-turned e = go (ltb FIRST_LEVEL level) refl e
       where
-        go : (x : Bool) → ltb FIRST_LEVEL level ≡ x → (x || not b) ≡ true → foundOf (replicate CELLS 0) Unfit ≡ findOf mix ch k limit level allowance
+        go : (x : Bool) → ltb FIRST_LEVEL level ≡ x → (x || not b) ≡ true
+            → foundOf (replicate CELLS 0) Unfit ≡ findOf mix ch k limit level allowance
         go true f g = find-high (ltb-true FIRST_LEVEL level f)
         go false f g = find-unfit (ltb-false FIRST_LEVEL level f) b p g
 

@@ -33,21 +33,28 @@ use Rattle.search.proofs.Trials.{with-is}
 use Rattle.search.proofs.Tries.{less-is, taker-triable, taker-wanted}
 
 -- totals of the same numbers, and with one number replaced
-pub total-same : (v w : ℕ → ℤ) (k sum squares : ℕ) → ((s : ℕ) → s < k → v s ≡ w s) → Totalled v k sum squares → Totalled w k sum squares
+pub total-same : (v w : ℕ → ℤ) (k sum squares : ℕ) → ((s : ℕ) → s < k → v s ≡ w s) → Totalled v k sum squares
+    → Totalled w k sum squares
 total-same v w k sum squares h t = record {
   added = t .added ∙ sum-same (λ s. markOf (v s)) (λ s. markOf (w s)) k (λ s l. ap markOf (h s l));
-  squared = t .squared ∙ sum-same (λ s. markOf (v s) * markOf (v s)) (λ s. markOf (w s) * markOf (w s)) k (λ s l. ap (λ z. markOf z * markOf z) (h s l));
+  squared =
+      t .squared ∙ sum-same (λ s. markOf (v s) * markOf (v s)) (λ s. markOf (w s) * markOf (w s)) k
+      (λ s l. ap (λ z. markOf z * markOf z) (h s l));
 }
 
-module _ (v : ℕ → ℤ) (k sum squares : ℕ) (most : k ≤ 8) (small : (s : ℕ) → natAbs (v s) ≤ LARGEST) (t : Totalled v k sum squares) (j : ℕ) (l : j < k) (p q : ℤ) (e : p ≡ v j) where
+module _ (v : ℕ → ℤ) (k sum squares : ℕ) (most : k ≤ 8) (small : (s : ℕ) → natAbs (v s) ≤ LARGEST)
+    (t : Totalled v k sum squares) (j : ℕ) (l : j < k) (p q : ℤ) (e : p ≡ v j) where
   pub may-exchange : natAbs q ≤ LARGEST
-      → (j < SYSTEMS) × (natAbs p ≤ LARGEST) × (natAbs q ≤ LARGEST) × (markOf p ≤ sum) × (markOf p * markOf p ≤ squares) × (sum ≤ 3200000000) × (squares ≤ 1280000000000000000)
+      → (j < SYSTEMS) × (natAbs p ≤ LARGEST) × (natAbs q ≤ LARGEST) × (markOf p ≤ sum)
+      × (markOf p * markOf p ≤ squares) × (sum ≤ 3200000000) × (squares ≤ 1280000000000000000)
   may-exchange h =
       let w = has-mark v k sum squares most (λ s _. small s) t j l in
-      rw e (omega arith, small j, h, w .0, w .1, sum-few v k sum squares most (λ s _. small s) t, squares-few v k sum squares most (λ s _. small s) t)
+      rw e (omega arith, small j, h, w .0, w .1, sum-few v k sum squares most (λ s _. small s) t,
+          squares-few v k sum squares most (λ s _. small s) t)
 
   pub exchanged-is : (w : ℕ → ℤ) → ((s : ℕ) → s < k → (s ≡ j → ⊥) → v s ≡ w s) → q ≡ w j
-      → (x y : ℕ) → x ≡ sum - markOf p + markOf q → y ≡ squares - markOf p * markOf p + markOf q * markOf q → Totalled w k x y
+      → (x y : ℕ) → x ≡ sum - markOf p + markOf q → y ≡ squares - markOf p * markOf p + markOf q * markOf q
+      → Totalled w k x y
   exchanged-is w h f x y a b = rw (a, b, e, f) (put-total v k sum squares most (λ s _. small s) t w j l h)
 
 -- the numbers are small
@@ -78,7 +85,8 @@ module _ (ch a : List ℕ) (d f c : ℕ) where
       go false e = rw (given-there s (eqb-false s f e)) (number-small ch a s)
 
 -- the giver's row can be worked out
-module _ (ch : List ℕ) (k : ℕ) (a : List ℕ) (s c d : ℕ) (so : Sound ch k a) (l : s < k) (has : hasOf (systemOf ch s) c ≡ true) (had : d ≤ cellOf a s c) where
+module _ (ch : List ℕ) (k : ℕ) (a : List ℕ) (s c d : ℕ) (so : Sound ch k a) (l : s < k)
+    (has : hasOf (systemOf ch s) c ≡ true) (had : d ≤ cellOf a s c) where
   less-parts : partsWith ch a s c (cellOf a s c - d) + d ≡ partsOf ch a s
   unfolding partsOf
   less-parts = has-cases (systemOf ch s) c (partsWith ch a s c (cellOf a s c - d) + d ≡ partsOf ch a s) has at
@@ -93,9 +101,18 @@ module _ (ch : List ℕ) (k : ℕ) (a : List ℕ) (s c d : ℕ) (so : Sound ch k
       there e n = rw (ne-eqb e c n)
 
       at : (j : ℕ) → j < 3 → c ≡ memberOf (systemOf ch s) j → partsWith ch a s c (cellOf a s c - d) + d ≡ partsOf ch a s
-      at zero h e = omega (arith, here (memberOf (systemOf ch s) 0) e, there (memberOf (systemOf ch s) 1) (λ z. w .ne10 (z ∙ e)), there (memberOf (systemOf ch s) 2) (λ z. w .ne20 (z ∙ e)))
-      at (suc zero) h e = omega (arith, here (memberOf (systemOf ch s) 1) e, there (memberOf (systemOf ch s) 0) (λ z. w .ne10 (sym (z ∙ e))), there (memberOf (systemOf ch s) 2) (λ z. w .ne21 (z ∙ e)))
-      at (suc (suc zero)) h e = omega (arith, here (memberOf (systemOf ch s) 2) e, there (memberOf (systemOf ch s) 0) (λ z. w .ne20 (sym (z ∙ e))), there (memberOf (systemOf ch s) 1) (λ z. w .ne21 (sym (z ∙ e))))
+      at zero h e =
+          omega (arith, here (memberOf (systemOf ch s) 0) e,
+          there (memberOf (systemOf ch s) 1) (λ z. w .ne10 (z ∙ e)),
+          there (memberOf (systemOf ch s) 2) (λ z. w .ne20 (z ∙ e)))
+      at (suc zero) h e =
+          omega (arith, here (memberOf (systemOf ch s) 1) e,
+          there (memberOf (systemOf ch s) 0) (λ z. w .ne10 (sym (z ∙ e))),
+          there (memberOf (systemOf ch s) 2) (λ z. w .ne21 (z ∙ e)))
+      at (suc (suc zero)) h e =
+          omega (arith, here (memberOf (systemOf ch s) 2) e,
+          there (memberOf (systemOf ch s) 0) (λ z. w .ne20 (sym (z ∙ e))),
+          there (memberOf (systemOf ch s) 1) (λ z. w .ne21 (sym (z ∙ e))))
       at (suc (suc (suc j))) h e = absurd (omega arith)
 
   less-workable : d < partsOf ch a s → Workable ch a s c (cellOf a s c - d)
@@ -163,18 +180,22 @@ module _ (ch : List ℕ) (k : ℕ) (a : List ℕ) (v : List ℤ) (held : Held ch
         had = λ l. af .had;
         room = λ l. absurd (omega (arith, at-below));
         workable = rw (at-row, at-column, sym (less-is a d (giverOf m * COMPONENTS + componentOf m) at-below))
-            (less-workable ch k a (giverOf m) (componentOf m) d (held .sound) (gv .from) (gv .gives) (af .had) (af .kept));
+            (less-workable ch k a (giverOf m) (componentOf m) d (held .sound) (gv .from) (gv .gives) (af .had)
+            (af .kept));
       }
 
-      give-wanted : wantedOf ch a d (giverOf m * COMPONENTS + componentOf m) ≡ numberWith ch a (giverOf m) (componentOf m) (cellOf a (giverOf m) (componentOf m) - d)
+      give-wanted : wantedOf ch a d (giverOf m * COMPONENTS + componentOf m) ≡ numberWith ch a (giverOf m)
+          (componentOf m) (cellOf a (giverOf m) (componentOf m) - d)
       unfolding wantedOf
       give-wanted = rw (at-row, at-column, sym (less-is a d (giverOf m * COMPONENTS + componentOf m) at-below))
 
       pub give-worked : (x : ℤ) → (x ≡ wantedOf ch a d (giverOf m * COMPONENTS + componentOf m)) × (natAbs x ≤ LARGEST)
-          → (x ≡ numberWith ch a (giverOf m) (componentOf m) (cellOf a (giverOf m) (componentOf m) - d)) × (natAbs x ≤ LARGEST)
+          → (x ≡ numberWith ch a (giverOf m) (componentOf m) (cellOf a (giverOf m) (componentOf m) - d))
+          × (natAbs x ≤ LARGEST)
       give-worked x p = (p .0 ∙ give-wanted, p .1)
 
-      module _ (sum squares : ℕ) (t : Totalled (rowNumber ch a) k sum squares) (z : ℤ) (w : (z ≡ wantedOf ch a d (giverOf m * COMPONENTS + componentOf m)) × (natAbs z ≤ LARGEST)) where
+      module _ (sum squares : ℕ) (t : Totalled (rowNumber ch a) k sum squares) (z : ℤ)
+          (w : (z ≡ wantedOf ch a d (giverOf m * COMPONENTS + componentOf m)) × (natAbs z ≤ LARGEST)) where
         abbrev old : ℤ
         old = listed v (giverOf m)
 
@@ -184,12 +205,18 @@ module _ (ch : List ℕ) (k : ℕ) (a : List ℕ) (v : List ℤ) (held : Held ch
         new-is : new ≡ z
         new-is = back z (omega (arith, w .1))
 
-        pub given-may : (giverOf m < SYSTEMS) × (natAbs old ≤ LARGEST) × (natAbs new ≤ LARGEST) × (markOf old ≤ sum) × (markOf old * markOf old ≤ squares) × (sum ≤ 3200000000) × (squares ≤ 1280000000000000000)
-        given-may = may-exchange (rowNumber ch a) k sum squares most (number-small ch a) t (giverOf m) (gv .from) old new (held .carried .are (giverOf m) (gv .from)) (rw new-is (w .1))
+        pub given-may : (giverOf m < SYSTEMS) × (natAbs old ≤ LARGEST) × (natAbs new ≤ LARGEST) × (markOf old ≤ sum)
+            × (markOf old * markOf old ≤ squares) × (sum ≤ 3200000000) × (squares ≤ 1280000000000000000)
+        given-may =
+            may-exchange (rowNumber ch a) k sum squares most (number-small ch a) t (giverOf m) (gv .from) old new
+            (held .carried .are (giverOf m) (gv .from)) (rw new-is (w .1))
 
-        pub given-is : (x y : ℕ) → x ≡ sum - markOf old + markOf new → y ≡ squares - markOf old * markOf old + markOf new * markOf new → Totalled (afterGiving ch a d (giverOf m) (componentOf m)) k x y
+        pub given-is : (x y : ℕ) → x ≡ sum - markOf old + markOf new
+            → y ≡ squares - markOf old * markOf old + markOf new * markOf new
+            → Totalled (afterGiving ch a d (giverOf m) (componentOf m)) k x y
         given-is =
-            exchanged-is (rowNumber ch a) k sum squares most (number-small ch a) t (giverOf m) (gv .from) old new (held .carried .are (giverOf m) (gv .from)) (afterGiving ch a d (giverOf m) (componentOf m))
+            exchanged-is (rowNumber ch a) k sum squares most (number-small ch a) t (giverOf m) (gv .from) old new
+                (held .carried .are (giverOf m) (gv .from)) (afterGiving ch a d (giverOf m) (componentOf m))
             (λ s l n. sym (given-there ch a d (giverOf m) (componentOf m) s n))
             (new-is ∙ w .0 ∙ give-wanted ∙ sym (given-here ch a d (giverOf m) (componentOf m)))
 
@@ -201,16 +228,23 @@ module _ (ch : List ℕ) (k : ℕ) (a : List ℕ) (v : List ℤ) (held : Held ch
       pub take-triable : Triable ch k a d (CELLS + t * COMPONENTS + c)
       take-triable = rw (et, ec) (taker-triable ch k a d m so fit)
 
-      both-done : (s : ℕ) → s < k → (s ≡ takerOf m → ⊥) → afterGiving ch a d (giverOf m) (componentOf m) s ≡ rowNumber ch (movedOf a m d) s
+      both-done : (s : ℕ) → s < k → (s ≡ takerOf m → ⊥)
+          → afterGiving ch a d (giverOf m) (componentOf m) s ≡ rowNumber ch (movedOf a m d) s
       both-done s l n = go (eqb s (giverOf m)) refl
         where
-          go : (b : Bool) → eqb s (giverOf m) ≡ b → afterGiving ch a d (giverOf m) (componentOf m) s ≡ rowNumber ch (movedOf a m d) s
+          go : (b : Bool) → eqb s (giverOf m) ≡ b → afterGiving ch a d (giverOf m) (componentOf m) s ≡ rowNumber ch
+              (movedOf a m d) s
           go true e =
               let q : s ≡ giverOf m = eqb-true s (giverOf m) e in
-              rw q (given-here ch a d (giverOf m) (componentOf m) ∙ with-is ch k a d m so fit (giverOf m) (cellOf a (giverOf m) (componentOf m) - d) (bt ch k a d m so fit .from) (giver-changed ch k a d m so fit))
-          go false e = given-there ch a d (giverOf m) (componentOf m) s (eqb-false s (giverOf m) e) ∙ sym (rest-same ch k a d m so fit s l (eqb-false s (giverOf m) e) n)
+              rw q (given-here ch a d (giverOf m) (componentOf m)
+                  ∙ with-is ch k a d m so fit (giverOf m) (cellOf a (giverOf m) (componentOf m) - d)
+                  (bt ch k a d m so fit .from) (giver-changed ch k a d m so fit))
+          go false e =
+              given-there ch a d (giverOf m) (componentOf m) s (eqb-false s (giverOf m) e)
+              ∙ sym (rest-same ch k a d m so fit s l (eqb-false s (giverOf m) e) n)
 
-      module _ (sum squares : ℕ) (tot : Totalled (afterGiving ch a d (giverOf m) (componentOf m)) k sum squares) (z : ℤ) (w : (z ≡ wantedOf ch a d (CELLS + t * COMPONENTS + c)) × (natAbs z ≤ LARGEST)) where
+      module _ (sum squares : ℕ) (tot : Totalled (afterGiving ch a d (giverOf m) (componentOf m)) k sum squares)
+          (z : ℤ) (w : (z ≡ wantedOf ch a d (CELLS + t * COMPONENTS + c)) × (natAbs z ≤ LARGEST)) where
         abbrev held-by : ℤ
         held-by = listed v t
 
@@ -224,22 +258,33 @@ module _ (ch : List ℕ) (k : ℕ) (a : List ℕ) (v : List ℤ) (held : Held ch
         below = rw et (bt ch k a d m so fit .to)
 
         was-there : held-by ≡ afterGiving ch a d (giverOf m) (componentOf m) t
-        was-there = held .carried .are t below ∙ sym (given-there ch a d (giverOf m) (componentOf m) t (λ z. bt ch k a d m so fit .apart (sym z ∙ et)))
+        was-there =
+            held .carried .are t below ∙ sym
+            (given-there ch a d (giverOf m) (componentOf m) t (λ z. bt ch k a d m so fit .apart (sym z ∙ et)))
 
-        pub taken-may : (t < SYSTEMS) × (natAbs held-by ≤ LARGEST) × (natAbs taken ≤ LARGEST) × (markOf held-by ≤ sum) × (markOf held-by * markOf held-by ≤ squares) × (sum ≤ 3200000000) × (squares ≤ 1280000000000000000)
-        taken-may = may-exchange (afterGiving ch a d (giverOf m) (componentOf m)) k sum squares most (given-small ch a d (giverOf m) (componentOf m)) tot t below held-by taken was-there (rw taken-back (w .1))
+        pub taken-may : (t < SYSTEMS) × (natAbs held-by ≤ LARGEST) × (natAbs taken ≤ LARGEST) × (markOf held-by ≤ sum)
+            × (markOf held-by * markOf held-by ≤ squares) × (sum ≤ 3200000000) × (squares ≤ 1280000000000000000)
+        taken-may =
+            may-exchange (afterGiving ch a d (giverOf m) (componentOf m)) k sum squares most
+            (given-small ch a d (giverOf m) (componentOf m)) tot t below held-by taken was-there
+            (rw taken-back (w .1))
 
         now-there : taken ≡ rowNumber ch (movedOf a m d) t
         now-there =
             taken-back
-            ∙ taker-wanted ch k a d m so fit z (w .0 ∙ ap₂ (λ x y. wantedOf ch a d (CELLS + x * COMPONENTS + y)) et ec, w .1) .0
-            ∙ with-is ch k a d m so fit (takerOf m) (cellOf a (takerOf m) (componentOf m) + d) (bt ch k a d m so fit .to) (taker-changed ch k a d m so fit)
+            ∙ taker-wanted ch k a d m so fit z
+            (w .0 ∙ ap₂ (λ x y. wantedOf ch a d (CELLS + x * COMPONENTS + y)) et ec, w .1) .0
+            ∙ with-is ch k a d m so fit (takerOf m) (cellOf a (takerOf m) (componentOf m) + d)
+            (bt ch k a d m so fit .to) (taker-changed ch k a d m so fit)
             ∙ ap (rowNumber ch (movedOf a m d)) (sym et)
 
-        module _ (x y : ℕ) (i : x ≡ sum - markOf held-by + markOf taken) (j : y ≡ squares - markOf held-by * markOf held-by + markOf taken * markOf taken) where
+        module _ (x y : ℕ) (i : x ≡ sum - markOf held-by + markOf taken)
+            (j : y ≡ squares - markOf held-by * markOf held-by + markOf taken * markOf taken) where
           taken-is : Totalled (rowNumber ch (movedOf a m d)) k x y
           taken-is =
-              exchanged-is (afterGiving ch a d (giverOf m) (componentOf m)) k sum squares most (given-small ch a d (giverOf m) (componentOf m)) tot t below held-by taken was-there (rowNumber ch (movedOf a m d))
+              exchanged-is (afterGiving ch a d (giverOf m) (componentOf m)) k sum squares most
+                  (given-small ch a d (giverOf m) (componentOf m)) tot t below held-by taken was-there
+                  (rowNumber ch (movedOf a m d))
               (λ s l n. both-done s l (λ e. n (e ∙ sym et)))
               now-there
               x
@@ -255,12 +300,16 @@ module _ (ch : List ℕ) (k : ℕ) (a : List ℕ) (v : List ℤ) (held : Held ch
             under (rowNumber ch (movedOf a m d)) k x y most (λ s _. number-small ch (movedOf a m d) s) taken-is,
           )
 
-          pub lowers-is : (r was : ℕ) → r ≡ k * y - x * x → was ≡ imbalanceOf (rowNumber ch a) k → ltb r was ≡ lowersOf ch k a d m
+          pub lowers-is : (r was : ℕ) → r ≡ k * y - x * x → was ≡ imbalanceOf (rowNumber ch a) k
+              → ltb r was ≡ lowersOf ch k a d m
           unfolding lowersOf
-          lowers-is r was u o = ap₂ ltb (u ∙ imbalance-is (rowNumber ch (movedOf a m d)) k x y most (λ s _. number-small ch (movedOf a m d) s) taken-is) o
+          lowers-is r was u o =
+              ap₂ ltb (u ∙ imbalance-is (rowNumber ch (movedOf a m d)) k x y most
+              (λ s _. number-small ch (movedOf a m d) s) taken-is) o
 
 -- the trial of the move from n's giver to row t, which takes
-module _ (ch : List ℕ) (k : ℕ) (a : List ℕ) (v : List ℤ) (held : Held ch k a v) (d n : ℕ) (z : n % SYSTEMS ≡ 0) (below : n < MOVES) (g : givesOf ch k a d n ≡ true) (c f t : ℕ) (h : t < k)
+module _ (ch : List ℕ) (k : ℕ) (a : List ℕ) (v : List ℤ) (held : Held ch k a v) (d n : ℕ) (z : n % SYSTEMS ≡ 0)
+    (below : n < MOVES) (g : givesOf ch k a d n ≡ true) (c f t : ℕ) (h : t < k)
     (ec : c ≡ componentOf n) (ef : f ≡ giverOf n) (b : Bool) (e : b ≡ takesOf ch c f t) (p : b ≡ true) where
   few : k ≤ SYSTEMS
   few = held .sound .stock .chosen .most
@@ -275,22 +324,33 @@ module _ (ch : List ℕ) (k : ℕ) (a : List ℕ) (v : List ℤ) (held : Held ch
   same-taker = sym (scan-taker k n t z h few below)
 
   pub trial-triable : (t < SYSTEMS) × (c < COMPONENTS) × Triable ch k a d (CELLS + t * COMPONENTS + c)
-  trial-triable = (omega (arith, few), omega (arith, ec, below), take-triable ch k a v held d (n + t) fit c t same-component same-taker)
+  trial-triable =
+      (omega (arith, few), omega (arith, ec, below),
+      take-triable ch k a v held d (n + t) fit c t same-component same-taker)
 
-  module _ (sum squares : ℕ) (tot : Totalled (afterGiving ch a d (giverOf n) (componentOf n)) k sum squares) (x : ℤ) (w : (x ≡ wantedOf ch a d (CELLS + t * COMPONENTS + c)) × (natAbs x ≤ LARGEST)) where
+  module _ (sum squares : ℕ) (tot : Totalled (afterGiving ch a d (giverOf n) (componentOf n)) k sum squares) (x : ℤ)
+      (w : (x ≡ wantedOf ch a d (CELLS + t * COMPONENTS + c)) × (natAbs x ≤ LARGEST)) where
     same-total : Totalled (afterGiving ch a d (giverOf (n + t)) (componentOf (n + t))) k sum squares
     same-total = scan-total ch k a d n z t h few below sum squares tot
 
-    pub trial-may : (t < SYSTEMS) × (natAbs (listed v t) ≤ LARGEST) × (natAbs (toZ w64 (ofZ w64 x)) ≤ LARGEST) × (markOf (listed v t) ≤ sum) × (markOf (listed v t) * markOf (listed v t) ≤ squares) × (sum ≤ 3200000000) × (squares ≤ 1280000000000000000)
+    pub trial-may : (t < SYSTEMS) × (natAbs (listed v t) ≤ LARGEST) × (natAbs (toZ w64 (ofZ w64 x)) ≤ LARGEST)
+        × (markOf (listed v t) ≤ sum) × (markOf (listed v t) * markOf (listed v t) ≤ squares) × (sum ≤ 3200000000)
+        × (squares ≤ 1280000000000000000)
     trial-may = taken-may ch k a v held d (n + t) fit c t same-component same-taker sum squares same-total x w
 
-    module _ (i j : ℕ) (p1 : i ≡ sum - markOf (listed v t) + markOf (toZ w64 (ofZ w64 x))) (p2 : j ≡ squares - markOf (listed v t) * markOf (listed v t) + markOf (toZ w64 (ofZ w64 x)) * markOf (toZ w64 (ofZ w64 x))) where
+    module _ (i j : ℕ) (p1 : i ≡ sum - markOf (listed v t) + markOf (toZ w64 (ofZ w64 x)))
+        (p2 : j ≡ squares - markOf (listed v t) * markOf (listed v t) + markOf (toZ w64 (ofZ w64 x)) * markOf
+        (toZ w64 (ofZ w64 x))) where
       pub trial-after : (k ≤ 8) × (i ≤ 3200000000) × (j ≤ 1280000000000000000) × (i * i ≤ k * j)
-      trial-after = after-may ch k a v held d (n + t) fit c t same-component same-taker sum squares same-total x w i j p1 p2
+      trial-after =
+          after-may ch k a v held d (n + t) fit c t same-component same-taker sum squares same-total x w i j p1 p2
 
       module _ (r was : ℕ) (q : r ≡ k * j - i * i) (o : was ≡ imbalanceOf (rowNumber ch a) k) where
         is-can : (u : Bool) → ltb r was ≡ u → canOf ch k a d (n + t) ≡ u
-        is-can = scan-can ch k a d n z t h few below g c f ec ef b e p (ltb r was) (lowers-is ch k a v held d (n + t) fit c t same-component same-taker sum squares same-total x w i j p1 p2 r was q o)
+        is-can =
+            scan-can ch k a d n z t h few below g c f ec ef b e p (ltb r was)
+            (lowers-is ch k a v held d (n + t) fit c t same-component same-taker sum squares same-total x w i j p1 p2
+            r was q o)
 
         pub trial-can : r < was → canOf ch k a d (n + t) ≡ true
         trial-can l = is-can true (lt-ltb r was l)

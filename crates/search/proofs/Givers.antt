@@ -63,7 +63,8 @@ module _ (ch : List ℕ) (k : ℕ) (a : List ℕ) (d m : ℕ) where
       true-gives (record { from = b .from; gives = b .gives; affords = f .affords })
 
   -- another move of the same giver and component
-  pub gives-same : (n : ℕ) → giverOf n ≡ giverOf m → componentOf n ≡ componentOf m → givesOf ch k a d n ≡ givesOf ch k a d m
+  pub gives-same : (n : ℕ) → giverOf n ≡ giverOf m → componentOf n ≡ componentOf m
+      → givesOf ch k a d n ≡ givesOf ch k a d m
   unfolding givesOf affordsOf
   gives-same n p q = rw (p, q)
 
@@ -83,11 +84,15 @@ module _ (ch : List ℕ) (k : ℕ) (a : List ℕ) (d m : ℕ) where
   unless h = by-test (λ b. b ≡ false) (canOf ch k a d m) (λ e. absurd (h (can-true ch k m a d e))) (λ e. refl)
 
   no-take : takesOf ch (componentOf m) (giverOf m) (takerOf m) ≡ false → canOf ch k a d m ≡ false
-  no-take e = unless (λ c. clash (takesOf ch (componentOf m) (giverOf m) (takerOf m)) (sym (take-is ch (componentOf m) (giverOf m) (takerOf m) (c .between .apart) true (sym (c .between .takes)))) e)
+  no-take e =
+      unless (λ c. clash (takesOf ch (componentOf m) (giverOf m) (takerOf m))
+      (sym (take-is ch (componentOf m) (giverOf m) (takerOf m) (c .between .apart) true (sym (c .between .takes)))) e)
 
   pub no-give : givesOf ch k a d m ≡ false → canOf ch k a d m ≡ false
   unfolding canOf
-  no-give e = by-test (λ b. b ≡ false) (canOf ch k a d m) (λ t. clash (givesOf ch k a d m) (true-gives ch k a d m (gives t)) e) (λ t. refl)
+  no-give e =
+      by-test (λ b. b ≡ false) (canOf ch k a d m)
+      (λ t. clash (givesOf ch k a d m) (true-gives ch k a d m (gives t)) e) (λ t. refl)
     where
       affords : canOf ch k a d m ≡ true → affordsOf ch a d m ≡ true
       affords t = both-left (affordsOf ch a d m) _ (both-right (betweenOf ch k m) _ t)
@@ -104,15 +109,18 @@ module _ (ch : List ℕ) (k : ℕ) (a : List ℕ) (d m : ℕ) where
   no-giver-row h = unless (λ c. absurd (omega (arith, c .between .from)))
 
   -- and which may be
-  may : m < MOVES → givesOf ch k a d m ≡ true → takerOf m < k → takesOf ch (componentOf m) (giverOf m) (takerOf m) ≡ true → MayMove ch k a d m
+  may : m < MOVES → givesOf ch k a d m ≡ true → takerOf m < k
+      → takesOf ch (componentOf m) (giverOf m) (takerOf m) ≡ true → MayMove ch k a d m
   unfolding betweenOf takesOf
   may h g l t =
       let w = gives-true ch k a d m g in
       let p = both-left (not (eqb (giverOf m) (takerOf m))) _ t in
       let q = both-right (not (eqb (giverOf m) (takerOf m))) _ t in
-      record { below = h; between = rw (lt-ltb (giverOf m) k (w .from), lt-ltb (takerOf m) k l, p, w .gives, q, betweenOf); affords = w .affords }
+      record { below = h; between = rw (lt-ltb (giverOf m) k (w .from), lt-ltb (takerOf m) k l, p, w .gives, q,
+          betweenOf); affords = w .affords }
 
-takes-at : (ch : List ℕ) (m c f t : ℕ) (b r : Bool) → c ≡ componentOf m → f ≡ giverOf m → t ≡ takerOf m → r ≡ takesOf ch c f t → r ≡ b → takesOf ch (componentOf m) (giverOf m) (takerOf m) ≡ b
+takes-at : (ch : List ℕ) (m c f t : ℕ) (b r : Bool) → c ≡ componentOf m → f ≡ giverOf m → t ≡ takerOf m
+    → r ≡ takesOf ch c f t → r ≡ b → takesOf ch (componentOf m) (giverOf m) (takerOf m) ≡ b
 takes-at ch m c f t b r p q s e u = rw (p, q, s) at (sym e ∙ u)
 
 -- the moves of one giver and component: n and those after it
@@ -138,7 +146,9 @@ module _ (k n : ℕ) (z : n % SYSTEMS ≡ 0) (below : n < MOVES) (row : giverOf 
   next-giver = (omega arith, omega arith)
 
   pub skip-rest : k ≤ giverOf (n + SYSTEMS)
-      → (n + SYSTEMS + (PAIRS - (n + SYSTEMS) % PAIRS) ≤ MOVES) × ((n + SYSTEMS + (PAIRS - (n + SYSTEMS) % PAIRS)) % SYSTEMS ≡ 0) × (giverOf (n + SYSTEMS + (PAIRS - (n + SYSTEMS) % PAIRS)) < k)
+      → (n + SYSTEMS + (PAIRS - (n + SYSTEMS) % PAIRS) ≤ MOVES)
+      × ((n + SYSTEMS + (PAIRS - (n + SYSTEMS) % PAIRS)) % SYSTEMS ≡ 0)
+      × (giverOf (n + SYSTEMS + (PAIRS - (n + SYSTEMS) % PAIRS)) < k)
   skip-rest h = (omega arith, omega arith, omega arith)
 
 -- the scan
@@ -147,7 +157,9 @@ module _ (ch : List ℕ) (k : ℕ) (a : List ℕ) (d : ℕ) where
   past-none = record { none = λ s l. absurd (omega arith) }
 
   pub past-to : (m r : ℕ) → Past ch k a d m → ((s : ℕ) → m ≤ s → s < r → canOf ch k a d s ≡ false) → Past ch k a d r
-  past-to m r p h = record { none = λ s l. by-test (λ b. ltb s m ≡ b → canOf ch k a d s ≡ false) (ltb s m) (λ e f. p .none s (ltb-true s m e)) (λ e f. h s (ltb-false s m e) l) refl }
+  past-to m r p h =
+      record { none = λ s l. by-test (λ b. ltb s m ≡ b → canOf ch k a d s ≡ false) (ltb s m)
+      (λ e f. p .none s (ltb-true s m e)) (λ e f. h s (ltb-false s m e) l) refl }
 
   pub past-here : (n : ℕ) → Past ch k a d n → Past ch k a d (n + 0)
   past-here n p = record { none = λ s l. p .none s (omega arith) }
@@ -158,11 +170,15 @@ module _ (ch : List ℕ) (k : ℕ) (a : List ℕ) (d : ℕ) where
 
   pub found-first : (m : ℕ) → m < MOVES → Past ch k a d m → canOf ch k a d m ≡ true → m ≡ firstOf ch k a d
   unfolding firstOf
-  found-first m l p e = sym (first-skip (canOf ch k a d) MOVES 0 m (omega arith) (omega arith) (λ s _ h. p .none s h) ∙ first-here (canOf ch k a d) MOVES m l e)
+  found-first m l p e =
+      sym (first-skip (canOf ch k a d) MOVES 0 m (omega arith) (omega arith) (λ s _ h. p .none s h)
+      ∙ first-here (canOf ch k a d) MOVES m l e)
 
   pub none-first : (m : ℕ) → MOVES ≤ m → Past ch k a d m → MOVES ≡ firstOf ch k a d
   unfolding firstOf
-  none-first m l p = sym (first-skip (canOf ch k a d) MOVES 0 MOVES (omega arith) (omega arith) (λ s _ h. p .none s (omega arith)) ∙ first-none (canOf ch k a d) MOVES MOVES (omega arith))
+  none-first m l p =
+      sym (first-skip (canOf ch k a d) MOVES 0 MOVES (omega arith) (omega arith) (λ s _ h. p .none s (omega arith))
+      ∙ first-none (canOf ch k a d) MOVES MOVES (omega arith))
 
   module _ (n : ℕ) (z : n % SYSTEMS ≡ 0) where
     pub same-giver : (m : ℕ) → n ≤ m → m < n + SYSTEMS → giverOf m ≡ giverOf n
@@ -180,7 +196,9 @@ module _ (ch : List ℕ) (k : ℕ) (a : List ℕ) (d : ℕ) where
 
     pub past-giver : Past ch k a d n → givesOf ch k a d n ≡ false → Scanned ch k a d n (n + SYSTEMS)
     past-giver p e = record {
-      past = past-to n (n + SYSTEMS) p (λ s l h. no-give ch k a d s (gives-same ch k a d n s (same-giver s l h) (same-component s l h) ∙ e));
+      past =
+          past-to n (n + SYSTEMS) p (λ s l h. no-give ch k a d s
+          (gives-same ch k a d n s (same-giver s l h) (same-component s l h) ∙ e));
       most = omega arith;
       found = λ l. absurd (omega arith);
     }
@@ -188,23 +206,31 @@ module _ (ch : List ℕ) (k : ℕ) (a : List ℕ) (d : ℕ) where
     -- the one whose taker is row t
     module _ (t : ℕ) (h : t < k) (most : k ≤ SYSTEMS) (below : n < MOVES) where
       pub scan-gives : givesOf ch k a d n ≡ true → givesOf ch k a d (n + t) ≡ true
-      scan-gives g = gives-same ch k a d n (n + t) (scan-giver k n t z h most below) (scan-component k n t z h most below) ∙ g
+      scan-gives g =
+          gives-same ch k a d n (n + t) (scan-giver k n t z h most below) (scan-component k n t z h most below) ∙ g
 
-      pub scan-total : (x y : ℕ) → Totalled (afterGiving ch a d (giverOf n) (componentOf n)) k x y → Totalled (afterGiving ch a d (giverOf (n + t)) (componentOf (n + t))) k x y
+      pub scan-total : (x y : ℕ) → Totalled (afterGiving ch a d (giverOf n) (componentOf n)) k x y
+          → Totalled (afterGiving ch a d (giverOf (n + t)) (componentOf (n + t))) k x y
       scan-total x y w = rw (scan-giver k n t z h most below, scan-component k n t z h most below) w
 
       -- what its taker's test comes to
-      module _ (g : givesOf ch k a d n ≡ true) (c f : ℕ) (ec : c ≡ componentOf n) (ef : f ≡ giverOf n) (b : Bool) (e : b ≡ takesOf ch c f t) where
+      module _ (g : givesOf ch k a d n ≡ true) (c f : ℕ) (ec : c ≡ componentOf n) (ef : f ≡ giverOf n) (b : Bool)
+          (e : b ≡ takesOf ch c f t) where
         at-taker : (u : Bool) → b ≡ u → takesOf ch (componentOf (n + t)) (giverOf (n + t)) (takerOf (n + t)) ≡ u
-        at-taker u p = takes-at ch (n + t) c f t u b (ec ∙ sym (scan-component k n t z h most below)) (ef ∙ sym (scan-giver k n t z h most below)) (sym (scan-taker k n t z h most below)) e p
+        at-taker u p =
+            takes-at ch (n + t) c f t u b (ec ∙ sym (scan-component k n t z h most below))
+            (ef ∙ sym (scan-giver k n t z h most below)) (sym (scan-taker k n t z h most below)) e p
 
         pub scan-lacks : b ≡ false → canOf ch k a d (n + t) ≡ false
         scan-lacks p = no-take ch k a d (n + t) (at-taker false p)
 
         pub scan-fit : b ≡ true → MayMove ch k a d (n + t)
-        scan-fit p = may ch k a d (n + t) (scan-below k n t z h most below) (scan-gives g) (scan-takes k n t z h most below) (at-taker true p)
+        scan-fit p =
+            may ch k a d (n + t) (scan-below k n t z h most below) (scan-gives g) (scan-takes k n t z h most below)
+            (at-taker true p)
 
-        pub scan-can : b ≡ true → (r : Bool) → r ≡ lowersOf ch k a d (n + t) → (u : Bool) → r ≡ u → canOf ch k a d (n + t) ≡ u
+        pub scan-can : b ≡ true → (r : Bool) → r ≡ lowersOf ch k a d (n + t) → (u : Bool) → r ≡ u
+            → canOf ch k a d (n + t) ≡ u
         scan-can p r q u w = sym (q ∙ can-is ch k (n + t) a d (scan-fit p .between) (scan-fit p .affords)) ∙ w
 
       pub scan-found : Past ch k a d (n + t) → canOf ch k a d (n + t) ≡ true → Scanned ch k a d n (n + t)

@@ -45,14 +45,18 @@ pub stride-is : (level : ℕ) → level ≤ 16 → 1 * 2 ^ level % 4294967296 �
 stride-is level h = eqb→eq (1 * 2 ^ level % 4294967296) (2 ^ level) (eachTo right 17 tt level (omega arith))
 
 -- s is the spread of the numbers v, d the stride, m the first move, r what is answered then
-module _ (ch : List ℕ) (k limit allowance : ℕ) (a : List ℕ) (level rounds s : ℕ) (v : List ℤ) (e : s ≡ spreadOf (listed v) k) (held : Held ch k a v) where
+module _ (ch : List ℕ) (k limit allowance : ℕ) (a : List ℕ) (level rounds s : ℕ) (v : List ℤ)
+    (e : s ≡ spreadOf (listed v) k) (held : Held ch k a v) where
   is-spread : s ≡ spreadOf (rowNumber ch a) k
   is-spread = e ∙ spread-same (listed v) (rowNumber ch a) k (held .sound .stock .chosen .some) (held .carried .are)
 
   -- and of what is done before the round
   module _ (b : Before) (f : b ≡ beforeOf s limit rounds allowance) where
-    done : doneBy (spreadOf (rowNumber ch a) k) (goOn level (firstOf ch k a (2 ^ level))) b ≡ turnOf ch k limit allowance a level rounds
-    done = ap (doneBy _ _) (f ∙ ap (λ (x : ℕ). beforeOf x limit rounds allowance) is-spread) ∙ turn-before ch k limit allowance a level rounds
+    done : doneBy (spreadOf (rowNumber ch a) k) (goOn level (firstOf ch k a (2 ^ level))) b ≡ turnOf ch k limit
+        allowance a level rounds
+    done =
+        ap (doneBy _ _) (f ∙ ap (λ (x : ℕ). beforeOf x limit rounds allowance) is-spread)
+        ∙ turn-before ch k limit allowance a level rounds
 
     pub code-rate : b ≡ Within → Rate s ≡ turnOf ch k limit allowance a level rounds
     code-rate h = ap Rate is-spread ∙ sym (ap (doneBy _ _) h) ∙ done
@@ -60,7 +64,8 @@ module _ (ch : List ℕ) (k limit allowance : ℕ) (a : List ℕ) (level rounds 
     pub code-refuse : b ≡ Spent → Refuse ≡ turnOf ch k limit allowance a level rounds
     code-refuse h = sym (ap (doneBy _ _) h) ∙ done
 
-    pub code-on : b ≡ Open → (d m : ℕ) (r : Turn) → d ≡ 2 ^ level → m ≡ firstOf ch k a d → r ≡ goOn level m → r ≡ turnOf ch k limit allowance a level rounds
+    pub code-on : b ≡ Open → (d m : ℕ) (r : Turn) → d ≡ 2 ^ level → m ≡ firstOf ch k a d → r ≡ goOn level m
+        → r ≡ turnOf ch k limit allowance a level rounds
     code-on h d m r p q z =
         let w : r ≡ goOn level (firstOf ch k a (2 ^ level)) = cc in
         w ∙ sym (ap (doneBy _ _) h) ∙ done
@@ -68,10 +73,13 @@ module _ (ch : List ℕ) (k limit allowance : ℕ) (a : List ℕ) (level rounds 
 -- what holds at each turn, where S is the search's end
 abbrev pub AtTurn : List ℕ → ℕ → ℕ → ℕ → Found → ℕ → List ℕ → List ℤ → List ℤ → ℕ → Type 0
 AtTurn ch k limit allowance S level a v t rounds =
-    Held ch k a v × (level ≤ 16) × (rounds ≤ allowance) × (S ≡ runOf ch k limit allowance (suc (allowance - rounds + level)) a level rounds) × Tried ch k a (2 ^ level) t
+    Held ch k a v × (level ≤ 16) × (rounds ≤ allowance)
+        × (S ≡ runOf ch k limit allowance (suc (allowance - rounds + level)) a level rounds)
+        × Tried ch k a (2 ^ level) t
 
 -- a turn x
-module _ (ch : List ℕ) (k limit allowance : ℕ) (S : Found) (level : ℕ) (a : List ℕ) (v t : List ℤ) (rounds : ℕ) (g : AtTurn ch k limit allowance S level a v t rounds) (x : Turn)
+module _ (ch : List ℕ) (k limit allowance : ℕ) (S : Found) (level : ℕ) (a : List ℕ) (v t : List ℤ) (rounds : ℕ)
+    (g : AtTurn ch k limit allowance S level a v t rounds) (x : Turn)
     (u : x ≡ turnOf ch k limit allowance a level rounds) where
   -- that moves, with the stride d
   module _ (m : ℕ) (w : x ≡ Move m) where
@@ -91,20 +99,24 @@ module _ (ch : List ℕ) (k limit allowance : ℕ) (S : Found) (level : ℕ) (a 
       fit-is : MayMove ch k a d m
       fit-is = rw p (moves ch k limit allowance a level rounds m turn-is .fit)
 
-      pub may-renumber : (y : List ℤ) → Tried ch k a (2 ^ level) y → Held ch k a v × MayMove ch k a d m × Tried ch k a d y
+      pub may-renumber : (y : List ℤ) → Tried ch k a (2 ^ level) y → Held ch k a v × MayMove ch k a d m
+          × Tried ch k a d y
       may-renumber y h = (g .0, fit-is, rw p h)
 
-      pub may-go : (m < MOVES) × (d ≤ cellOf a (giverOf m) (componentOf m)) × (cellOf a (takerOf m) (componentOf m) + d ≤ MILLION)
+      pub may-go : (m < MOVES) × (d ≤ cellOf a (giverOf m) (componentOf m))
+          × (cellOf a (takerOf m) (componentOf m) + d ≤ MILLION)
       may-go = may-move ch k a d m (g .0 .sound) fit-is
 
-      pub move-on : (b : List ℕ) (z y : List ℤ) → b ≡ movedOf a m d → Held ch k (movedOf a m d) z × Tried ch k (movedOf a m d) d y → AtTurn ch k limit allowance S level b z y (rounds + 1)
+      pub move-on : (b : List ℕ) (z y : List ℤ) → b ≡ movedOf a m d → Held ch k (movedOf a m d) z
+          × Tried ch k (movedOf a m d) d y → AtTurn ch k limit allowance S level b z y (rounds + 1)
       move-on b z y e h =
           let n = again-move ch k limit allowance a level rounds S m b (e ∙ ap (movedOf a m) p) (g .2) (g .3) turn-is in
           (rw e (h .0), g .1, n .0, n .1, rw (e, ← p) (h .1))
 
   -- and one that halves the stride
   module _ (w : x ≡ Halve) where
-    halved : (1 ≤ level) × (S ≡ runOf ch k limit allowance (suc (allowance - rounds + (level - 1))) a (level - 1) rounds)
+    halved : (1 ≤ level) × (S ≡ runOf ch k limit allowance (suc (allowance - rounds + (level - 1))) a
+        (level - 1) rounds)
     halved = again-halve ch k limit allowance a level rounds S (g .3) (sym u ∙ w)
 
     pub halve-may : 1 ≤ level
@@ -127,20 +139,25 @@ no-rate (inl e) = omega (arith, e)
 no-rate (inr (inl e)) = omega (arith, e)
 no-rate (inr (inr e)) = omega (arith, e)
 
-pub run-ends : (ch : List ℕ) (k limit allowance : ℕ) (a : List ℕ) (level rounds n : ℕ) (x : Turn) → OneOf (0 ∷ 1 ∷ []) (tagOf the-type x) → x ≡ turnOf ch k limit allowance a level rounds
+pub run-ends : (ch : List ℕ) (k limit allowance : ℕ) (a : List ℕ) (level rounds n : ℕ) (x : Turn)
+    → OneOf (0 ∷ 1 ∷ []) (tagOf the-type x) → x ≡ turnOf ch k limit allowance a level rounds
     → foundOf a (endOf x rounds) ≡ runOf ch k limit allowance (suc n) a level rounds
 unfolding endOf
-run-ends ch k limit allowance a level rounds n (Rate s) o e = sym (run-rate ch k limit allowance a level rounds n s (sym e))
-run-ends ch k limit allowance a level rounds n Refuse o e = sym (run-refuse ch k limit allowance a level rounds n (sym e))
+run-ends ch k limit allowance a level rounds n (Rate s) o e =
+    sym (run-rate ch k limit allowance a level rounds n s (sym e))
+run-ends ch k limit allowance a level rounds n Refuse o e =
+    sym (run-refuse ch k limit allowance a level rounds n (sym e))
 run-ends ch k limit allowance a level rounds n (Move m) o e = absurd (no-end o)
 run-ends ch k limit allowance a level rounds n Halve o e = absurd (no-halt o)
 
 -- and what it comes to
-pub end-rated : (x : Turn) (s rounds : ℕ) (a : List ℕ) → x ≡ Rate s → foundOf a (Balanced s rounds) ≡ foundOf a (endOf x rounds)
+pub end-rated : (x : Turn) (s rounds : ℕ) (a : List ℕ) → x ≡ Rate s
+    → foundOf a (Balanced s rounds) ≡ foundOf a (endOf x rounds)
 unfolding endOf
 end-rated x s rounds a e = rw (e, endOf)
 
-pub end-refused : (x : Turn) (rounds : ℕ) (a : List ℕ) → OneOf (1 ∷ 2 ∷ 3 ∷ []) (tagOf the-type x) → foundOf a Unbalanced ≡ foundOf a (endOf x rounds)
+pub end-refused : (x : Turn) (rounds : ℕ) (a : List ℕ) → OneOf (1 ∷ 2 ∷ 3 ∷ []) (tagOf the-type x)
+    → foundOf a Unbalanced ≡ foundOf a (endOf x rounds)
 unfolding endOf
 end-refused (Rate s) rounds a o = absurd (no-rate o)
 end-refused Refuse rounds a o = refl

@@ -21,13 +21,17 @@ use Rattle.split.specs.Laws.Candidates.{known-system}
 use Rattle.integer.specs.Laws.Bits.{back}
 
 pub system-fits : (system : ℕ) → Candidate system → Fits w32 system
-system-fits system h = record { fits = omega (arith, ltb-true system 256 (to-true (ltb system 256) (each-candidate (λ s. ltb s 256) tt system h))) }
+system-fits system h =
+    record { fits = omega (arith, ltb-true system 256
+    (to-true (ltb system 256) (each-candidate (λ s. ltb s 256) tt system h))) }
 
-module _ (system w n1 n2 n3 : ℕ) (p : Partial) (e : w ≡ system) (q : p ≡ formulaOf w n1 n2 n3) (h : Candidate system) (some : 1 ≤ n1 + n2 + n3) (few : n1 + n2 + n3 ≤ MILLION) where
+module _ (system w n1 n2 n3 : ℕ) (p : Partial) (e : w ≡ system) (q : p ≡ formulaOf w n1 n2 n3) (h : Candidate system)
+    (some : 1 ≤ n1 + n2 + n3) (few : n1 + n2 + n3 ≤ MILLION) where
   answer-is : p ≡ Number (partialNumber system n1 n2 n3)
   answer-is = q ∙ ap (λ u. formulaOf u n1 n2 n3) e ∙ formula-is system n1 n2 n3 (known-system system h) some few
 
-  pub number-ok : (x : ℤ) → p ≡ Number x → (toZ w64 (ofZ w64 x) ≡ partialNumber system n1 n2 n3) × (natAbs (toZ w64 (ofZ w64 x)) ≤ LARGEST)
+  pub number-ok : (x : ℤ) → p ≡ Number x → (toZ w64 (ofZ w64 x) ≡ partialNumber system n1 n2 n3)
+      × (natAbs (toZ w64 (ofZ w64 x)) ≤ LARGEST)
   number-ok x u =
       let t : p ≡ Number (partialNumber system n1 n2 n3) = answer-is in
       let v : x ≡ partialNumber system n1 n2 n3 = cc in

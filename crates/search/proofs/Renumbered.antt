@@ -33,7 +33,8 @@ passed : (x : ℤ) → natAbs x ≤ LARGEST → toZ w64 (ofZ w64 x) ≡ x
 passed x h = back x (N.le-trans h (lit≤ tt))
 
 -- one row's number put
-pub put-is : (v t u : List ℤ) (s i : ℕ) (x : ℤ) → i < TRIES → s ≡ triedRow i → natAbs x ≤ LARGEST → natAbs (listed v s) ≤ LARGEST → Forgot t s u
+pub put-is : (v t u : List ℤ) (s i : ℕ) (x : ℤ) → i < TRIES → s ≡ triedRow i → natAbs x ≤ LARGEST
+    → natAbs (listed v s) ≤ LARGEST → Forgot t s u
     → (set v s (toZ w64 (ofZ w64 x)) ≡ set v s x) × Back t s i (listed v s) (set u i (toZ w64 (ofZ w64 (listed v s))))
 put-is v t u s i x h r p q f = (
   ap (set v s) (passed x p),
@@ -47,7 +48,8 @@ put-is v t u s i x h r p q f = (
       ),
 )
 
-module _ (ch : List ℕ) (k : ℕ) (a : List ℕ) (d m : ℕ) (n : List ℤ) (held : Held ch k a n) (fit : MayMove ch k a d m) where
+module _ (ch : List ℕ) (k : ℕ) (a : List ℕ) (d m : ℕ) (n : List ℤ) (held : Held ch k a n)
+    (fit : MayMove ch k a d m) where
   abbrev so : Sound ch k a
   so = held .sound
 
@@ -62,29 +64,37 @@ module _ (ch : List ℕ) (k : ℕ) (a : List ℕ) (d m : ℕ) (n : List ℤ) (he
 
   -- the giver's number may be put, then the taker's
   pub giver-may : (t : List ℤ) (x : ℤ) → length t ≡ TRIES → natAbs x ≤ LARGEST
-      → (CELLS + giverOf m * COMPONENTS + componentOf m < TRIES) × (giverOf m ≡ triedRow (CELLS + giverOf m * COMPONENTS + componentOf m)) × (length t ≡ TRIES)
+      → (CELLS + giverOf m * COMPONENTS + componentOf m < TRIES)
+      × (giverOf m ≡ triedRow (CELLS + giverOf m * COMPONENTS + componentOf m)) × (length t ≡ TRIES)
       × (natAbs (toZ w64 (ofZ w64 x)) ≤ LARGEST) × (natAbs (listed n (giverOf m)) ≤ LARGEST)
-  giver-may t x l h = (omega (arith, low), omega (arith, low), l, small x h, held .small .each (giverOf m) (between .from))
+  giver-may t x l h =
+      (omega (arith, low), omega (arith, low), l, small x h, held .small .each (giverOf m) (between .from))
 
   module _ (x : ℤ) (v : List ℤ) (e : v ≡ set n (giverOf m) x) where
     taker-still : listed v (takerOf m) ≡ listed n (takerOf m)
     taker-still = rw e (getD-set-other n (giverOf m) (takerOf m) x (pos 0) (λ z. between .apart (sym z)))
 
     pub taker-may : (t : List ℤ) (y : ℤ) → length t ≡ TRIES → natAbs y ≤ LARGEST
-        → (takerOf m * COMPONENTS + componentOf m < TRIES) × (takerOf m ≡ triedRow (takerOf m * COMPONENTS + componentOf m)) × (length t ≡ TRIES)
+        → (takerOf m * COMPONENTS + componentOf m < TRIES)
+        × (takerOf m ≡ triedRow (takerOf m * COMPONENTS + componentOf m)) × (length t ≡ TRIES)
         × (natAbs (toZ w64 (ofZ w64 y)) ≤ LARGEST) × (natAbs (listed v (takerOf m)) ≤ LARGEST)
-    taker-may t y l h = (omega (arith, low), omega (arith, low), l, small y h, rw taker-still (held .small .each (takerOf m) (between .to)))
+    taker-may t y l h =
+        (omega (arith, low), omega (arith, low), l, small y h,
+        rw taker-still (held .small .each (takerOf m) (between .to)))
 
   -- the tries after the move: those of the other rows, and the two that would take it back
-  module _ (t u w : List ℤ) (x y : ℤ) (kt : Tried ch k a d t) (bu : Back t (giverOf m) (CELLS + giverOf m * COMPONENTS + componentOf m) x u)
-      (bw : Back u (takerOf m) (takerOf m * COMPONENTS + componentOf m) y w) (ex : x ≡ listed n (giverOf m)) (ey : y ≡ listed n (takerOf m)) where
+  module _ (t u w : List ℤ) (x y : ℤ) (kt : Tried ch k a d t)
+      (bu : Back t (giverOf m) (CELLS + giverOf m * COMPONENTS + componentOf m) x u)
+      (bw : Back u (takerOf m) (takerOf m * COMPONENTS + componentOf m) y w) (ex : x ≡ listed n (giverOf m))
+      (ey : y ≡ listed n (takerOf m)) where
     abbrev Right : ℕ → Type 0
     Right i = (listed w i ≡ wantedOf ch (movedOf a m d) d i) × (natAbs (listed w i) ≤ LARGEST)
 
     taker-right : Right (takerOf m * COMPONENTS + componentOf m)
     taker-right =
         let o = bw .here ∙ ey in
-        (taker-back ch k a d m so fit (listed w (takerOf m * COMPONENTS + componentOf m)) (o ∙ held .carried .are (takerOf m) (between .to)), rw o (held .small .each (takerOf m) (between .to)))
+        (taker-back ch k a d m so fit (listed w (takerOf m * COMPONENTS + componentOf m))
+        (o ∙ held .carried .are (takerOf m) (between .to)), rw o (held .small .each (takerOf m) (between .to)))
 
     giver-row : giverOf m ≡ triedRow (CELLS + giverOf m * COMPONENTS + componentOf m)
     giver-row = omega (arith, low)
@@ -94,8 +104,10 @@ module _ (ch : List ℕ) (k : ℕ) (a : List ℕ) (d m : ℕ) (n : List ℤ) (he
 
     giver-right : Right (CELLS + giverOf m * COMPONENTS + componentOf m)
     giver-right =
-        let o = bw .kept (CELLS + giverOf m * COMPONENTS + componentOf m) (omega (arith, low)) other-row ∙ bu .here ∙ ex in
-        (giver-back ch k a d m so fit (listed w (CELLS + giverOf m * COMPONENTS + componentOf m)) (o ∙ held .carried .are (giverOf m) (between .from)), rw o (held .small .each (giverOf m) (between .from)))
+        let o = bw .kept (CELLS + giverOf m * COMPONENTS + componentOf m) (omega (arith, low)) other-row ∙ bu .here
+            ∙ ex in
+        (giver-back ch k a d m so fit (listed w (CELLS + giverOf m * COMPONENTS + componentOf m))
+        (o ∙ held .carried .are (giverOf m) (between .from)), rw o (held .small .each (giverOf m) (between .from)))
 
     module _ (i : ℕ) (h : i < TRIES) (l : triedRow i < k) (z : listed w i ≡ UNKNOWN → ⊥) where
       right-giver : (i ≡ CELLS + giverOf m * COMPONENTS + componentOf m → ⊥) → (triedRow i ≡ takerOf m → ⊥) → Right i
@@ -108,7 +120,8 @@ module _ (ch : List ℕ) (k : ℕ) (a : List ℕ) (d m : ℕ) (n : List ℤ) (he
               let r = kt .known i h l (λ g. z (o ∙ g)) in
               (o ∙ r .0 ∙ sym (same-wanted ch k a d m so fit i h l (eqb-false _ _ e) q), rw o (r .1))
 
-      right-taker : (i ≡ takerOf m * COMPONENTS + componentOf m → ⊥) → (i ≡ CELLS + giverOf m * COMPONENTS + componentOf m → ⊥) → Right i
+      right-taker : (i ≡ takerOf m * COMPONENTS + componentOf m → ⊥)
+          → (i ≡ CELLS + giverOf m * COMPONENTS + componentOf m → ⊥) → Right i
       right-taker p q = go (eqb (triedRow i) (takerOf m)) refl
         where
           go : (b : Bool) → eqb (triedRow i) (takerOf m) ≡ b → Right i
@@ -116,9 +129,12 @@ module _ (ch : List ℕ) (k : ℕ) (a : List ℕ) (d m : ℕ) (n : List ℤ) (he
           go false e = right-giver q (eqb-false _ _ e)
 
       right : Right i
-      right = go (eqb i (takerOf m * COMPONENTS + componentOf m)) (eqb i (CELLS + giverOf m * COMPONENTS + componentOf m)) refl refl
+      right =
+          go (eqb i (takerOf m * COMPONENTS + componentOf m)) (eqb i (CELLS + giverOf m * COMPONENTS + componentOf m))
+          refl refl
         where
-          go : (b c : Bool) → eqb i (takerOf m * COMPONENTS + componentOf m) ≡ b → eqb i (CELLS + giverOf m * COMPONENTS + componentOf m) ≡ c → Right i
+          go : (b c : Bool) → eqb i (takerOf m * COMPONENTS + componentOf m) ≡ b
+              → eqb i (CELLS + giverOf m * COMPONENTS + componentOf m) ≡ c → Right i
           go true c e f = rw (eqb-true i (takerOf m * COMPONENTS + componentOf m) e) taker-right
           go false true e f = rw (eqb-true i (CELLS + giverOf m * COMPONENTS + componentOf m) f) giver-right
           go false false e f = right-taker (eqb-false _ _ e) (eqb-false _ _ f)
@@ -127,18 +143,25 @@ module _ (ch : List ℕ) (k : ℕ) (a : List ℕ) (d m : ℕ) (n : List ℤ) (he
     tried-moved = record { long = bw .long; known = right }
 
   -- and the numbers
-  numbers-moved : (x y : ℤ) (v : List ℤ) → v ≡ set (set n (giverOf m) (toZ w64 (ofZ w64 x))) (takerOf m) (toZ w64 (ofZ w64 y))
-      → Carried ch k (movedOf a m d) (set (set n (giverOf m) (toZ w64 (ofZ w64 x))) (takerOf m) (toZ w64 (ofZ w64 y))) × Small (set (set n (giverOf m) (toZ w64 (ofZ w64 x))) (takerOf m) (toZ w64 (ofZ w64 y))) k
+  numbers-moved : (x y : ℤ) (v : List ℤ) → v ≡ set (set n (giverOf m) (toZ w64 (ofZ w64 x))) (takerOf m)
+      (toZ w64 (ofZ w64 y))
+      → Carried ch k (movedOf a m d) (set (set n (giverOf m) (toZ w64 (ofZ w64 x))) (takerOf m) (toZ w64 (ofZ w64 y)))
+      × Small (set (set n (giverOf m) (toZ w64 (ofZ w64 x))) (takerOf m) (toZ w64 (ofZ w64 y))) k
       → Held ch k (movedOf a m d) v
   numbers-moved x y v e r = rw e (record { sound = sound-moved ch k a d m so fit; carried = r .0; small = r .1 })
 
-  pub renumbered : (x y : ℤ) (v v' t u w : List ℤ) → (x ≡ wantedOf ch a d (giverOf m * COMPONENTS + componentOf m)) × (natAbs x ≤ LARGEST)
+  pub renumbered : (x y : ℤ) (v v' t u w : List ℤ) → (x ≡ wantedOf ch a d (giverOf m * COMPONENTS + componentOf m))
+      × (natAbs x ≤ LARGEST)
       → (y ≡ wantedOf ch a d (CELLS + takerOf m * COMPONENTS + componentOf m)) × (natAbs y ≤ LARGEST)
       → v ≡ set n (giverOf m) (toZ w64 (ofZ w64 x)) → v' ≡ set v (takerOf m) (toZ w64 (ofZ w64 y)) → Tried ch k a d t
-      → Back t (giverOf m) (CELLS + giverOf m * COMPONENTS + componentOf m) (listed n (giverOf m)) u → Back u (takerOf m) (takerOf m * COMPONENTS + componentOf m) (listed v (takerOf m)) w
+      → Back t (giverOf m) (CELLS + giverOf m * COMPONENTS + componentOf m) (listed n (giverOf m)) u
+      → Back u (takerOf m) (takerOf m * COMPONENTS + componentOf m) (listed v (takerOf m)) w
       → Held ch k (movedOf a m d) v' × Tried ch k (movedOf a m d) d w
   renumbered x y v v' t u w p q e f kt bu bw = (
     numbers-moved x y v' (f ∙ ap (λ z. set z (takerOf m) (toZ w64 (ofZ w64 y))) e)
-        (renumber-ok ch k a d m so fit n x y (held .carried) (held .small) (give-worked ch k a n held d m (fit .below) (fit-gives ch k a d m fit) x p) (taker-wanted ch k a d m so fit y q)),
-    tried-moved t u w (listed n (giverOf m)) (listed v (takerOf m)) kt bu bw refl (taker-still (toZ w64 (ofZ w64 x)) v e),
+        (renumber-ok ch k a d m so fit n x y (held .carried) (held .small)
+        (give-worked ch k a n held d m (fit .below) (fit-gives ch k a d m fit) x p)
+        (taker-wanted ch k a d m so fit y q)),
+    tried-moved t u w (listed n (giverOf m)) (listed v (takerOf m)) kt bu bw refl
+        (taker-still (toZ w64 (ofZ w64 x)) v e),
   )

@@ -57,15 +57,20 @@ module _ (x : ℤ) (h : natAbs x ≤ LARGEST) where
   pub mark-add : SFits w64 (toZ w64 (ofZ w64 (quotZ (toZ w64 (ofZ w64 x)) (pos 10000))) +ℤ pos 200000000)
   mark-add = rw bits-is (sfits-small (pos (markOf x)) (omega (arith, mark-le)))
 
-  sum-back : toZ w64 (ofZ w64 (toZ w64 (ofZ w64 (quotZ (toZ w64 (ofZ w64 x)) (pos 10000))) +ℤ pos 200000000)) ≡ pos (markOf x)
+  sum-back : toZ w64 (ofZ w64 (toZ w64 (ofZ w64 (quotZ (toZ w64 (ofZ w64 x)) (pos 10000))) +ℤ pos 200000000)) ≡ pos
+      (markOf x)
   sum-back = ap (λ z. toZ w64 (ofZ w64 z)) bits-is ∙ back (pos (markOf x)) (omega (arith, mark-le))
 
-  pub mark-cast : T (nonNeg (toZ w64 (ofZ w64 (toZ w64 (ofZ w64 (quotZ (toZ w64 (ofZ w64 x)) (pos 10000))) +ℤ pos 200000000))))
-      × Fits w64 (natAbs (toZ w64 (ofZ w64 (toZ w64 (ofZ w64 (quotZ (toZ w64 (ofZ w64 x)) (pos 10000))) +ℤ pos 200000000))))
+  pub mark-cast : T (nonNeg (toZ w64
+      (ofZ w64 (toZ w64 (ofZ w64 (quotZ (toZ w64 (ofZ w64 x)) (pos 10000))) +ℤ pos 200000000))))
+      × Fits w64 (natAbs (toZ w64 (ofZ w64
+      (toZ w64 (ofZ w64 (quotZ (toZ w64 (ofZ w64 x)) (pos 10000))) +ℤ pos 200000000))))
   mark-cast = rw sum-back (tt, record { fits = omega (arith, mark-le) })
 
-  pub mark-result : (natAbs (toZ w64 (ofZ w64 (toZ w64 (ofZ w64 (quotZ (toZ w64 (ofZ w64 x)) (pos 10000))) +ℤ pos 200000000))) ≡ markOf x)
-      × (natAbs (toZ w64 (ofZ w64 (toZ w64 (ofZ w64 (quotZ (toZ w64 (ofZ w64 x)) (pos 10000))) +ℤ pos 200000000))) ≤ 400000000)
+  pub mark-result : (natAbs (toZ w64
+      (ofZ w64 (toZ w64 (ofZ w64 (quotZ (toZ w64 (ofZ w64 x)) (pos 10000))) +ℤ pos 200000000))) ≡ markOf x)
+      × (natAbs (toZ w64 (ofZ w64 (toZ w64 (ofZ w64 (quotZ (toZ w64 (ofZ w64 x)) (pos 10000))) +ℤ pos 200000000)))
+      ≤ 400000000)
   mark-result = rw sum-back (refl, mark-le)
 
 -- a mark from the number's bits
@@ -73,10 +78,12 @@ pub mark-back : (o : ℤ) (p : ℕ) → natAbs o ≤ LARGEST → p ≡ markOf (t
 mark-back o p h e = e ∙ ap markOf (back o (omega arith))
 
 -- in the totals
-pub old-in : (o : ℤ) (p sum squares : ℕ) → natAbs o ≤ LARGEST → p ≡ markOf (toZ w64 (ofZ w64 o)) → markOf o ≤ sum → markOf o * markOf o ≤ squares → (p ≤ sum) × (p * p ≤ squares)
+pub old-in : (o : ℤ) (p sum squares : ℕ) → natAbs o ≤ LARGEST → p ≡ markOf (toZ w64 (ofZ w64 o)) → markOf o ≤ sum
+    → markOf o * markOf o ≤ squares → (p ≤ sum) × (p * p ≤ squares)
 old-in o p sum squares h e l m = rw (mark-back o p h e) (l, m)
 
-pub marks-as : (sum squares p q m n : ℕ) → p ≡ m → q ≡ n → (sum - p + q ≡ sum - m + n) × (squares - p * p + q * q ≡ squares - m * m + n * n)
+pub marks-as : (sum squares p q m n : ℕ) → p ≡ m → q ≡ n → (sum - p + q ≡ sum - m + n)
+    × (squares - p * p + q * q ≡ squares - m * m + n * n)
 marks-as sum squares p q m n e f = rw (e, f) (refl, refl)
 
 square-of : (z : ℤ) → pos (natAbs z * natAbs z) ≡ z *ℤ z
@@ -84,26 +91,35 @@ square-of (pos n) = refl
 square-of (negsuc n) = refl
 
 -- a square of a difference, with both counted from −b
-binomial : (x y b : ℤ) → (x -ℤ y) *ℤ (x -ℤ y) +ℤ pos 2 *ℤ ((x +ℤ b) *ℤ (y +ℤ b)) ≡ (x +ℤ b) *ℤ (x +ℤ b) +ℤ (y +ℤ b) *ℤ (y +ℤ b)
+binomial : (x y b : ℤ) → (x -ℤ y) *ℤ (x -ℤ y) +ℤ pos
+    2 *ℤ ((x +ℤ b) *ℤ (y +ℤ b)) ≡ (x +ℤ b) *ℤ (x +ℤ b) +ℤ (y +ℤ b) *ℤ (y +ℤ b)
 binomial x y b =
     solve (env (x ∷ y ∷ b ∷ []))
     ((X 0 ⊕ ⊖ (X 1)) ⊗ (X 0 ⊕ ⊖ (X 1)) ⊕ K (pos 2) ⊗ ((X 0 ⊕ X 2) ⊗ (X 1 ⊕ X 2)))
     ((X 0 ⊕ X 2) ⊗ (X 0 ⊕ X 2) ⊕ (X 1 ⊕ X 2) ⊗ (X 1 ⊕ X 2))
     refl
 
-marked : (x y b : ℤ) (n m : ℕ) → x +ℤ b ≡ pos n → y +ℤ b ≡ pos m → natAbs (x -ℤ y) * natAbs (x -ℤ y) + 2 * (n * m) ≡ n * n + m * m
-marked x y b n m p q = ap natAbs (ap (λ z. z +ℤ pos (2 * (n * m))) (square-of (x -ℤ y)) ∙ (rw (p, q) at (binomial x y b)))
+marked : (x y b : ℤ) (n m : ℕ) → x +ℤ b ≡ pos n → y +ℤ b ≡ pos m
+    → natAbs (x -ℤ y) * natAbs (x -ℤ y) + 2 * (n * m) ≡ n * n + m * m
+marked x y b n m p q =
+    ap natAbs (ap (λ z. z +ℤ pos (2 * (n * m))) (square-of (x -ℤ y)) ∙ (rw (p, q) at (binomial x y b)))
 
-pub square-marks : (x y : ℤ) → natAbs x ≤ LARGEST → natAbs y ≤ LARGEST → squareOf x y + 2 * (markOf x * markOf y) ≡ markOf x * markOf x + markOf y * markOf y
+pub square-marks : (x y : ℤ) → natAbs x ≤ LARGEST → natAbs y ≤ LARGEST
+    → squareOf x y + 2 * (markOf x * markOf y) ≡ markOf x * markOf x + markOf y * markOf y
 unfolding squareOf
-square-marks x y p q = marked (quotZ x (pos 10000)) (quotZ y (pos 10000)) (pos 200000000) (markOf x) (markOf y) (mark-is x p) (mark-is y q)
+square-marks x y p q =
+    marked (quotZ x (pos 10000)) (quotZ y (pos 10000)) (pos 200000000) (markOf x) (markOf y) (mark-is x p)
+    (mark-is y q)
 
 -- over every pair
 module _ (u : ℕ → ℕ) (P : ℕ → ℕ → ℕ) where
-  inner : (i n : ℕ) → ((j : ℕ) → j < n → P i j + 2 * (u i * u j) ≡ u i * u i + u j * u j) → sumTo (P i) n + 2 * (u i * sumTo u n) ≡ n * (u i * u i) + sumTo (λ j. u j * u j) n
+  inner : (i n : ℕ) → ((j : ℕ) → j < n → P i j + 2 * (u i * u j) ≡ u i * u i + u j * u j)
+      → sumTo (P i) n + 2 * (u i * sumTo u n) ≡ n * (u i * u i) + sumTo (λ j. u j * u j) n
   unfolding sumTo
   inner i zero h = omega (arith, N.mul-zero (u i), N.zero-mul (u i * u i))
-  inner i (suc n) h = omega (arith, inner i n (λ j l. h j (omega arith)), h n (omega arith), N.mul-add (u i) (sumTo u n) (u n), N.suc-mul n (u i * u i))
+  inner i (suc n) h =
+      omega (arith, inner i n (λ j l. h j (omega arith)), h n (omega arith), N.mul-add (u i) (sumTo u n) (u n),
+      N.suc-mul n (u i * u i))
 
   pub pairs : (k : ℕ) → ((i j : ℕ) → i < k → j < i → P i j + 2 * (u i * u j) ≡ u i * u i + u j * u j)
       → sumTo (λ i. sumTo (P i) i) k + sumTo u k * sumTo u k ≡ k * sumTo (λ j. u j * u j) k
@@ -128,7 +144,8 @@ sum-most f b zero h = omega arith
 sum-most f b (suc n) h = omega (arith, sum-most f b n (λ i l. h i (omega arith)), h n (omega arith), N.mul-suc b n)
 
 -- the totals of k numbers
-module _ (v : ℕ → ℤ) (k sum squares : ℕ) (most : k ≤ 8) (small : (i : ℕ) → i < k → natAbs (v i) ≤ LARGEST) (t : Totalled v k sum squares) where
+module _ (v : ℕ → ℤ) (k sum squares : ℕ) (most : k ≤ 8) (small : (i : ℕ) → i < k → natAbs (v i) ≤ LARGEST)
+    (t : Totalled v k sum squares) where
   abbrev u : ℕ → ℕ
   u s = markOf (v s)
 
@@ -136,11 +153,15 @@ module _ (v : ℕ → ℤ) (k sum squares : ℕ) (most : k ≤ 8) (small : (i : 
   sum-few = omega (arith, t .added, sum-most u 400000000 k (λ i l. mark-le (v i) (small i l)))
 
   pub squares-few : squares ≤ 1280000000000000000
-  squares-few = omega (arith, t .squared, sum-most (λ s. u s * u s) 160000000000000000 k (λ i l. N.mul-le-mul (mark-le (v i) (small i l)) (mark-le (v i) (small i l))))
+  squares-few =
+      omega (arith, t .squared, sum-most (λ s. u s * u s) 160000000000000000 k
+      (λ i l. N.mul-le-mul (mark-le (v i) (small i l)) (mark-le (v i) (small i l))))
 
   together : imbalanceOf v k + sum * sum ≡ k * squares
   unfolding imbalanceOf
-  together = rw (t .added, t .squared) (pairs u (λ i j. squareOf (v i) (v j)) k (λ i j l m. square-marks (v i) (v j) (small i l) (small j (omega arith))))
+  together =
+      rw (t .added, t .squared) (pairs u (λ i j. squareOf (v i) (v j)) k
+      (λ i j l m. square-marks (v i) (v j) (small i l) (small j (omega arith))))
 
   pub under : sum * sum ≤ k * squares
   under = omega (arith, together)
@@ -152,8 +173,12 @@ module _ (v : ℕ → ℤ) (k sum squares : ℕ) (most : k ≤ 8) (small : (i : 
   has-mark j l = (omega (arith, t .added, sum-has u k j l), omega (arith, t .squared, sum-has (λ s. u s * u s) k j l))
 
   -- and of those that differ from them in row j only
-  pub put-total : (w : ℕ → ℤ) (j : ℕ) → j < k → ((i : ℕ) → i < k → (i ≡ j → ⊥) → v i ≡ w i) → Totalled w k (sum - u j + markOf (w j)) (squares - u j * u j + markOf (w j) * markOf (w j))
+  pub put-total : (w : ℕ → ℤ) (j : ℕ) → j < k → ((i : ℕ) → i < k → (i ≡ j → ⊥) → v i ≡ w i)
+      → Totalled w k (sum - u j + markOf (w j)) (squares - u j * u j + markOf (w j) * markOf (w j))
   put-total w j l h = record {
-    added = omega (arith, has-mark j l .0, t .added, sum-but u (λ s. markOf (w s)) k j l (λ i m n. ap markOf (h i m n)));
-    squared = omega (arith, has-mark j l .1, t .squared, sum-but (λ s. u s * u s) (λ s. markOf (w s) * markOf (w s)) k j l (λ i m n. ap (λ z. markOf z * markOf z) (h i m n)));
+    added =
+        omega (arith, has-mark j l .0, t .added, sum-but u (λ s. markOf (w s)) k j l (λ i m n. ap markOf (h i m n)));
+    squared =
+        omega (arith, has-mark j l .1, t .squared, sum-but (λ s. u s * u s) (λ s. markOf (w s) * markOf (w s)) k j l
+        (λ i m n. ap (λ z. markOf z * markOf z) (h i m n)));
   }

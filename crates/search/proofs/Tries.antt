@@ -20,10 +20,12 @@ use Rattle.split.specs.Move.{componentOf, giverOf, takerOf, movedOf}
 use Rattle.split.specs.Laws.Members.{three}
 use Rattle.split.specs.Laws.Moves.{cell-row}
 use Rattle.split.specs.Laws.Tests.{MayMove}
-use Rattle.split.specs.Laws.Steps.{numberWith, Changed, number-with, bt, component-low, may-move, giver-changed, taker-changed}
+use Rattle.split.specs.Laws.Steps.{numberWith, Changed, number-with, bt, component-low, may-move, giver-changed}
+use Rattle.split.specs.Laws.Steps.{taker-changed}
 use Rattle.split_rows.specs.Rows.{listed}
 use Rattle.split_rows.specs.Inner.Carried.{Workable}
-use Rattle.search.specs.Inner.Tried.{TRIES, UNKNOWN, triedRow, columnIn, triedOf, wantedOf, Tried, Triable, Forgot}
+use Rattle.search.specs.Inner.Tried.{TRIES, UNKNOWN, triedRow, columnIn, triedOf, wantedOf, Tried, Triable}
+use Rattle.search.specs.Inner.Tried.{Forgot}
 use Rattle.integer.specs.Laws.Bits.{back}
 use Rattle.split_rows.specs.Laws.Machine.{pass}
 use Rattle.search.proofs.Trials.{taker-workable}
@@ -67,22 +69,28 @@ module _ (ch : List ℕ) (k : ℕ) (a : List ℕ) (d s c : ℕ) (h : s < SYSTEMS
   more-high : CELLS ≤ CELLS + s * COMPONENTS + c
   more-high = omega arith
 
-  pub more-room : Triable ch k a d (CELLS + s * COMPONENTS + c) → getD a (CELLS + s * COMPONENTS + c - CELLS) 0 + d ≤ MILLION
+  pub more-room : Triable ch k a d (CELLS + s * COMPONENTS + c)
+      → getD a (CELLS + s * COMPONENTS + c - CELLS) 0 + d ≤ MILLION
   more-room t = t .room more-high
 
-  pub more-work : Triable ch k a d (CELLS + s * COMPONENTS + c) → Workable ch a s c (getD a (CELLS + s * COMPONENTS + c - CELLS) 0 + d)
+  pub more-work : Triable ch k a d (CELLS + s * COMPONENTS + c)
+      → Workable ch a s c (getD a (CELLS + s * COMPONENTS + c - CELLS) 0 + d)
   more-work t = rw (more-row, more-column, sym (more-is a d (CELLS + s * COMPONENTS + c) more-high)) at (t .workable)
 
-  pub more-wanted : numberWith ch a s c (getD a (CELLS + s * COMPONENTS + c - CELLS) 0 + d) ≡ wantedOf ch a d (CELLS + s * COMPONENTS + c)
+  pub more-wanted : numberWith ch a s c (getD a (CELLS + s * COMPONENTS + c - CELLS) 0 + d) ≡ wantedOf ch a d
+      (CELLS + s * COMPONENTS + c)
   unfolding wantedOf
   more-wanted = rw (more-row, more-column, sym (more-is a d (CELLS + s * COMPONENTS + c) more-high))
 
 -- a number that is put
-module _ (ch : List ℕ) (k : ℕ) (a : List ℕ) (d : ℕ) (t : List ℤ) (kt : Tried ch k a d t) (i : ℕ) (h : i < TRIES) (y : ℤ) (p : (y ≡ wantedOf ch a d i) × (natAbs y ≤ LARGEST)) where
-  put-known : (j : ℕ) → j < TRIES → triedRow j < k → (listed (set t i y) j ≡ UNKNOWN → ⊥) → (listed (set t i y) j ≡ wantedOf ch a d j) × (natAbs (listed (set t i y) j) ≤ LARGEST)
+module _ (ch : List ℕ) (k : ℕ) (a : List ℕ) (d : ℕ) (t : List ℤ) (kt : Tried ch k a d t) (i : ℕ) (h : i < TRIES)
+    (y : ℤ) (p : (y ≡ wantedOf ch a d i) × (natAbs y ≤ LARGEST)) where
+  put-known : (j : ℕ) → j < TRIES → triedRow j < k → (listed (set t i y) j ≡ UNKNOWN → ⊥)
+      → (listed (set t i y) j ≡ wantedOf ch a d j) × (natAbs (listed (set t i y) j) ≤ LARGEST)
   put-known j l r u = go (eqb j i) refl
     where
-      go : (b : Bool) → eqb j i ≡ b → (listed (set t i y) j ≡ wantedOf ch a d j) × (natAbs (listed (set t i y) j) ≤ LARGEST)
+      go : (b : Bool) → eqb j i ≡ b → (listed (set t i y) j ≡ wantedOf ch a d j)
+          × (natAbs (listed (set t i y) j) ≤ LARGEST)
       go true e = rw (eqb-true j i e, getD-set-same t i y (pos 0) (omega (arith, kt .long))) p
       go false e =
           let o = getD-set-other t i j y (pos 0) (eqb-false j i e) in
@@ -92,15 +100,18 @@ module _ (ch : List ℕ) (k : ℕ) (a : List ℕ) (d : ℕ) (t : List ℤ) (kt :
   put-tried = record { long = simp length-set (kt .long); known = put-known }
 
 -- a number that is known, and one that is worked out
-module _ (ch : List ℕ) (k : ℕ) (a : List ℕ) (d : ℕ) (t : List ℤ) (kt : Tried ch k a d t) (i : ℕ) (h : Triable ch k a d i) where
+module _ (ch : List ℕ) (k : ℕ) (a : List ℕ) (d : ℕ) (t : List ℤ) (kt : Tried ch k a d t) (i : ℕ)
+    (h : Triable ch k a d i) where
   pub known-is : (ofZ w64 (listed t i) ≡ 4000000000000 → ⊥)
-      → (toZ w64 (ofZ w64 (listed t i)) ≡ wantedOf ch a d i) × (natAbs (toZ w64 (ofZ w64 (listed t i))) ≤ LARGEST) × Tried ch k a d t
+      → (toZ w64 (ofZ w64 (listed t i)) ≡ wantedOf ch a d i) × (natAbs (toZ w64 (ofZ w64 (listed t i))) ≤ LARGEST)
+      × Tried ch k a d t
   known-is u =
       let p = kt .known i (h .below) (h .row) (λ e. u (ap (ofZ w64) e)) in
       let q = pass (listed t i) (wantedOf ch a d i) (p .0) (p .1) in
       (q .0, q .1, kt)
 
-  pub put-is : (y : ℤ) → (y ≡ wantedOf ch a d i) × (natAbs y ≤ LARGEST) → (toZ w64 (ofZ w64 y) ≡ wantedOf ch a d i) × (natAbs (toZ w64 (ofZ w64 y)) ≤ LARGEST) × Tried ch k a d (set t i (toZ w64 (ofZ w64 y)))
+  pub put-is : (y : ℤ) → (y ≡ wantedOf ch a d i) × (natAbs y ≤ LARGEST) → (toZ w64 (ofZ w64 y) ≡ wantedOf ch a d i)
+      × (natAbs (toZ w64 (ofZ w64 y)) ≤ LARGEST) × Tried ch k a d (set t i (toZ w64 (ofZ w64 y)))
   put-is y p =
       let b : toZ w64 (ofZ w64 y) ≡ y = back y (N.le-trans (p .1) (lit≤ tt)) in
       rw b (p .0, p .1, put-tried ch k a d t kt i (h .below) y p)
@@ -134,7 +145,9 @@ module _ (ch : List ℕ) (k : ℕ) (a : List ℕ) (d m : ℕ) (so : Sound ch k a
   taker-cell = omega arith
 
   taker-amount : triedOf a d (CELLS + takerOf m * COMPONENTS + componentOf m) ≡ cellOf a (takerOf m) (componentOf m) + d
-  taker-amount = sym (more-is a d (CELLS + takerOf m * COMPONENTS + componentOf m) (omega arith)) ∙ ap (λ i. getD a i 0 + d) taker-cell
+  taker-amount =
+      sym (more-is a d (CELLS + takerOf m * COMPONENTS + componentOf m) (omega arith))
+      ∙ ap (λ i. getD a i 0 + d) taker-cell
 
   pub taker-triable : Triable ch k a d (CELLS + takerOf m * COMPONENTS + componentOf m)
   taker-triable = record {
@@ -145,8 +158,10 @@ module _ (ch : List ℕ) (k : ℕ) (a : List ℕ) (d m : ℕ) (so : Sound ch k a
     workable = rw (taker-row, taker-column, taker-amount) (taker-workable ch k a d m so fit);
   }
 
-  pub taker-wanted : (x : ℤ) → (x ≡ wantedOf ch a d (CELLS + takerOf m * COMPONENTS + componentOf m)) × (natAbs x ≤ LARGEST)
-      → (x ≡ numberWith ch a (takerOf m) (componentOf m) (cellOf a (takerOf m) (componentOf m) + d)) × (natAbs x ≤ LARGEST)
+  pub taker-wanted : (x : ℤ) → (x ≡ wantedOf ch a d (CELLS + takerOf m * COMPONENTS + componentOf m))
+      × (natAbs x ≤ LARGEST)
+      → (x ≡ numberWith ch a (takerOf m) (componentOf m) (cellOf a (takerOf m) (componentOf m) + d))
+      × (natAbs x ≤ LARGEST)
   unfolding wantedOf
   taker-wanted x p = (p .0 ∙ rw (taker-row, taker-column, taker-amount), p .1)
 
@@ -154,15 +169,19 @@ module _ (ch : List ℕ) (k : ℕ) (a : List ℕ) (d m : ℕ) (so : Sound ch k a
   module _ (s : ℕ) (l : s < k) (p : s ≡ giverOf m → ⊥) (q : s ≡ takerOf m → ⊥) where
     other : (e : ℕ) → e < COMPONENTS → cellOf (movedOf a m d) s e ≡ cellOf a s e
     unfolding movedOf
-    other e h = cell-row a (giverOf m) (takerOf m) (componentOf m) d (so .stock .long) (omega arith) (omega arith) low (bt ch k a d m so fit .apart) s e h p q
+    other e h =
+        cell-row a (giverOf m) (takerOf m) (componentOf m) d (so .stock .long) (omega arith) (omega arith) low
+        (bt ch k a d m so fit .apart) s e h p q
 
     with-other : (c n : ℕ) → numberWith ch (movedOf a m d) s c n ≡ numberWith ch a s c n
     unfolding numberWith
     with-other c n =
         let w = three (systemOf ch s) (so .stock .chosen .known s l) in
-        rw (other (memberOf (systemOf ch s) 0) (w .low0), other (memberOf (systemOf ch s) 1) (w .low1), other (memberOf (systemOf ch s) 2) (w .low2))
+        rw (other (memberOf (systemOf ch s) 0) (w .low0), other (memberOf (systemOf ch s) 1) (w .low1),
+            other (memberOf (systemOf ch s) 2) (w .low2))
 
-  module _ (i : ℕ) (h : i < TRIES) (l : triedRow i < k) (p : triedRow i ≡ giverOf m → ⊥) (q : triedRow i ≡ takerOf m → ⊥) where
+  module _ (i : ℕ) (h : i < TRIES) (l : triedRow i < k) (p : triedRow i ≡ giverOf m → ⊥) (q : triedRow i ≡ takerOf m
+      → ⊥) where
     same-cell : cellOf (movedOf a m d) (triedRow i) (columnIn i) ≡ cellOf a (triedRow i) (columnIn i)
     same-cell = other (triedRow i) l p q (columnIn i) (omega arith)
 
@@ -180,12 +199,18 @@ module _ (ch : List ℕ) (k : ℕ) (a : List ℕ) (d m : ℕ) (so : Sound ch k a
 
     pub same-wanted : wantedOf ch (movedOf a m d) d i ≡ wantedOf ch a d i
     unfolding wantedOf
-    same-wanted = with-other (triedRow i) l p q (columnIn i) (triedOf (movedOf a m d) d i) ∙ ap (numberWith ch a (triedRow i) (columnIn i)) same-amount
+    same-wanted =
+        with-other (triedRow i) l p q (columnIn i) (triedOf (movedOf a m d) d i)
+        ∙ ap (numberWith ch a (triedRow i) (columnIn i)) same-amount
 
   -- the two tries that would take the move back lead to the numbers before it
-  pub giver-back : (x : ℤ) → x ≡ rowNumber ch a (giverOf m) → x ≡ wantedOf ch (movedOf a m d) d (CELLS + giverOf m * COMPONENTS + componentOf m)
+  pub giver-back : (x : ℤ) → x ≡ rowNumber ch a (giverOf m)
+      → x ≡ wantedOf ch (movedOf a m d) d (CELLS + giverOf m * COMPONENTS + componentOf m)
   unfolding wantedOf
-  giver-back x e = e ∙ sym (rw (row, column, amount) (number-with (movedOf a m d) a (giverOf m) (componentOf m) (cellOf a (giverOf m) (componentOf m)) was ch (three (systemOf ch (giverOf m)) (so .stock .chosen .known (giverOf m) (bt ch k a d m so fit .from)))))
+  giver-back x e =
+      e ∙ sym (rw (row, column, amount)
+      (number-with (movedOf a m d) a (giverOf m) (componentOf m) (cellOf a (giverOf m) (componentOf m)) was ch
+      (three (systemOf ch (giverOf m)) (so .stock .chosen .known (giverOf m) (bt ch k a d m so fit .from)))))
     where
       row : triedRow (CELLS + giverOf m * COMPONENTS + componentOf m) ≡ giverOf m
       row = omega (arith, low)
@@ -196,7 +221,8 @@ module _ (ch : List ℕ) (k : ℕ) (a : List ℕ) (d m : ℕ) (so : Sound ch k a
       cell : CELLS + giverOf m * COMPONENTS + componentOf m - CELLS ≡ giverOf m * COMPONENTS + componentOf m
       cell = omega arith
 
-      amount : triedOf (movedOf a m d) d (CELLS + giverOf m * COMPONENTS + componentOf m) ≡ cellOf a (giverOf m) (componentOf m)
+      amount : triedOf (movedOf a m d) d (CELLS + giverOf m * COMPONENTS + componentOf m) ≡ cellOf a (giverOf m)
+          (componentOf m)
       amount =
           sym (more-is (movedOf a m d) d (CELLS + giverOf m * COMPONENTS + componentOf m) (omega arith))
           ∙ ap (λ i. getD (movedOf a m d) i 0 + d) cell
@@ -205,9 +231,13 @@ module _ (ch : List ℕ) (k : ℕ) (a : List ℕ) (d m : ℕ) (so : Sound ch k a
       was : Changed (movedOf a m d) a (giverOf m) (componentOf m) (cellOf a (giverOf m) (componentOf m))
       was = record { here = refl; rest = λ e l n. sym (giver-changed ch k a d m so fit .rest e l n) }
 
-  pub taker-back : (x : ℤ) → x ≡ rowNumber ch a (takerOf m) → x ≡ wantedOf ch (movedOf a m d) d (takerOf m * COMPONENTS + componentOf m)
+  pub taker-back : (x : ℤ) → x ≡ rowNumber ch a (takerOf m)
+      → x ≡ wantedOf ch (movedOf a m d) d (takerOf m * COMPONENTS + componentOf m)
   unfolding wantedOf
-  taker-back x e = e ∙ sym (rw (row, column, amount) (number-with (movedOf a m d) a (takerOf m) (componentOf m) (cellOf a (takerOf m) (componentOf m)) was ch (three (systemOf ch (takerOf m)) (so .stock .chosen .known (takerOf m) (bt ch k a d m so fit .to)))))
+  taker-back x e =
+      e ∙ sym (rw (row, column, amount)
+      (number-with (movedOf a m d) a (takerOf m) (componentOf m) (cellOf a (takerOf m) (componentOf m)) was ch
+      (three (systemOf ch (takerOf m)) (so .stock .chosen .known (takerOf m) (bt ch k a d m so fit .to)))))
     where
       row : triedRow (takerOf m * COMPONENTS + componentOf m) ≡ takerOf m
       row = omega (arith, low)
@@ -226,7 +256,9 @@ module _ (ch : List ℕ) (k : ℕ) (a : List ℕ) (d m : ℕ) (so : Sound ch k a
 -- forgetting a row, component by component
 abbrev pub Going : List ℤ → ℕ → List ℤ → ℕ → Type 0
 Going t s u c =
-    (length u ≡ TRIES) × (c ≤ COMPONENTS) × ((i : ℕ) → i < TRIES → triedRow i ≡ s → columnIn i < c → listed u i ≡ UNKNOWN) × ((i : ℕ) → i < TRIES → (triedRow i ≡ s → ⊥) → listed u i ≡ listed t i)
+    (length u ≡ TRIES) × (c ≤ COMPONENTS)
+    × ((i : ℕ) → i < TRIES → triedRow i ≡ s → columnIn i < c → listed u i ≡ UNKNOWN)
+    × ((i : ℕ) → i < TRIES → (triedRow i ≡ s → ⊥) → listed u i ≡ listed t i)
 
 module _ (t : List ℤ) (s : ℕ) (low : s < SYSTEMS) where
   pub going-starts : length t ≡ TRIES → Going t s t 0
@@ -252,13 +284,18 @@ module _ (t : List ℤ) (s : ℕ) (low : s < SYSTEMS) where
     at-second = getD-set-same (set u first UNKNOWN) second UNKNOWN (pos 0) (omega (arith, long-first, low, h))
 
     at-first : listed next first ≡ UNKNOWN
-    at-first = getD-set-other (set u first UNKNOWN) second first UNKNOWN (pos 0) (λ e. absurd (omega (arith, e))) ∙ getD-set-same u first UNKNOWN (pos 0) (omega (arith, g .0, low, h))
+    at-first =
+        getD-set-other (set u first UNKNOWN) second first UNKNOWN (pos 0) (λ e. absurd (omega (arith, e)))
+        ∙ getD-set-same u first UNKNOWN (pos 0) (omega (arith, g .0, low, h))
 
     at-other : (i : ℕ) → (i ≡ first → ⊥) → (i ≡ second → ⊥) → listed next i ≡ listed u i
-    at-other i p q = getD-set-other (set u first UNKNOWN) second i UNKNOWN (pos 0) q ∙ getD-set-other u first i UNKNOWN (pos 0) p
+    at-other i p q =
+        getD-set-other (set u first UNKNOWN) second i UNKNOWN (pos 0) q ∙ getD-set-other u first i UNKNOWN (pos 0) p
 
     pub going-on : Going t s next (c + 1)
-    going-on = (simp length-set (g .0), omega arith, gone, λ i l r. at-other i (λ e. r (omega (arith, low, h, e))) (λ e. r (omega (arith, low, h, e))) ∙ g .3 i l r)
+    going-on =
+        (simp length-set (g .0), omega arith, gone, λ i l r. at-other i (λ e. r (omega (arith, low, h, e)))
+        (λ e. r (omega (arith, low, h, e))) ∙ g .3 i l r)
       where
         gone : (i : ℕ) → i < TRIES → triedRow i ≡ s → columnIn i < c + 1 → listed next i ≡ UNKNOWN
         gone i l r x = go (eqb i second) (eqb i first) refl refl
@@ -266,4 +303,6 @@ module _ (t : List ℤ) (s : ℕ) (low : s < SYSTEMS) where
             go : (y z : Bool) → eqb i second ≡ y → eqb i first ≡ z → listed next i ≡ UNKNOWN
             go true z e f = rw (eqb-true i second e) at-second
             go false true e f = rw (eqb-true i first f) at-first
-            go false false e f = at-other i (eqb-false i first f) (eqb-false i second e) ∙ g .2 i l r (omega (arith, eqb-false i first f, eqb-false i second e, low, h, x, r, l))
+            go false false e f =
+                at-other i (eqb-false i first f) (eqb-false i second e)
+                ∙ g .2 i l r (omega (arith, eqb-false i first f, eqb-false i second e, low, h, x, r, l))

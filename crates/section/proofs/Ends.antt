@@ -1,5 +1,5 @@
--- A section from what the code worked out of it, the count and the bytes of its records; and where a walker stands after it.
--- Assumes nothing.
+-- A section from what the code worked out of it, the count and the bytes of its records; and where a walker stands
+-- after it. Assumes nothing.
 use mathlib.Core.Path.{_≡_, ap, sym}
 use mathlib.Core.List.{List}
 use Prim.Native.Nat.{ℕ, _+_, _*_, _≤_, _<_}
@@ -11,7 +11,8 @@ use Rattle.section.specs.Walk.{standsAfter}
 use Rattle.section.specs.Laws.Sections.{section-records, section-torn}
 
 module _ (s : List ℕ) (at size : ℕ) where
-  pub records-at : {count bytes : ℕ} → count ≡ getD s at 0 → bytes ≡ getD s at 0 * size → at + 1 + bytes ≤ length s → Records count (at + 1) (at + 1 + bytes) ≡ sectionAt s at size
+  pub records-at : {count bytes : ℕ} → count ≡ getD s at 0 → bytes ≡ getD s at 0 * size → at + 1 + bytes ≤ length s
+      → Records count (at + 1) (at + 1 + bytes) ≡ sectionAt s at size
   unfolding endAt
   records-at {count} {bytes} e f h = rw (e, f) (sym (section-records s at size (rw f at h)))
 

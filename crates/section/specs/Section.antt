@@ -1,4 +1,5 @@
--- A section of a sheet (document 01, "The register and the sheet"): a count byte, then so many records of one size. Assumes nothing.
+-- A section of a sheet (document 01, "The register and the sheet"): a count byte, then so many records of one size.
+-- Assumes nothing.
 use Prim.Native.Nat.{ℕ, _+_, _*_}
 use mathlib.Core.Bool.{Bool, true, false}
 use mathlib.Core.List.{List}

@@ -17,8 +17,10 @@ use Rattle.sheet.specs.Laws.Forth.{Bytes}
 use Rattle.sheet.specs.RoundTrip.{Sized, Unused, asRead, read-written, read-written-same, written-read}
 
 -- `write` after `read`: the bytes of a sheet that reads come out again, in every buffer with room, whose rest stays
-pub write-after-read : (s : List ℕ) (r : Sheet) (b : List ℕ) (x : Written) (left : List ℕ) → Bytes s → ReadAs s r → r .answer ≡ Read
-    → WrittenAs (r .analysis .amounts) (r .split) b x left → length s ≤ length b → (x ≡ Length (length s)) × (left ≡ s ++ drop (length s) b)
+pub write-after-read : (s : List ℕ) (r : Sheet) (b : List ℕ) (x : Written) (left : List ℕ) → Bytes s → ReadAs s r
+    → r .answer ≡ Read
+    → WrittenAs (r .analysis .amounts) (r .split) b x left → length s ≤ length b → (x ≡ Length (length s))
+    × (left ≡ s ++ drop (length s) b)
 write-after-read s r b x left bytes read good wrote room =
     let e = read .sheet in
     let code : ℕ = faultOf (r .answer) in
@@ -29,15 +31,19 @@ write-after-read s r b x left bytes read good wrote room =
     )
 
 -- `read` after `write`: the same analysis and the same split, of every analysis and split that writes
-pub read-after-write : (a : List ℕ) (p : Split) (b : List ℕ) (x : Written) (left : List ℕ) (n : ℕ) (r : Sheet) → Sized a p
+pub read-after-write : (a : List ℕ) (p : Split) (b : List ℕ) (x : Written) (left : List ℕ) (n : ℕ) (r : Sheet)
+    → Sized a p
     → WrittenAs a p b x left → x ≡ Length n → ReadAs (take n left) r → r ≡ asRead a (trimmed p)
 read-after-write a p b x left n r sized wrote e read =
     let h : writtenOf a p (length b) (w.faultOf x) ≡ Length n = sym (wrote .answer) ∙ e in
-    read .sheet ∙ ap (λ (l : List ℕ). readOf (take n l) (faultOf (r .answer))) (wrote .buffer) ∙ read-written a p sized b n (w.faultOf x) (faultOf (r .answer)) h
+    read .sheet ∙ ap (λ (l : List ℕ). readOf (take n l) (faultOf (r .answer))) (wrote .buffer)
+        ∙ read-written a p sized b n (w.faultOf x) (faultOf (r .answer)) h
 
 -- the very same where the split's unused places hold 0
-pub read-after-write-same : (a : List ℕ) (p : Split) (b : List ℕ) (x : Written) (left : List ℕ) (n : ℕ) (r : Sheet) → Sized a p → Unused p
+pub read-after-write-same : (a : List ℕ) (p : Split) (b : List ℕ) (x : Written) (left : List ℕ) (n : ℕ) (r : Sheet)
+    → Sized a p → Unused p
     → WrittenAs a p b x left → x ≡ Length n → ReadAs (take n left) r → r ≡ asRead a p
 read-after-write-same a p b x left n r sized unused wrote e read =
     let h : writtenOf a p (length b) (w.faultOf x) ≡ Length n = sym (wrote .answer) ∙ e in
-    read .sheet ∙ ap (λ (l : List ℕ). readOf (take n l) (faultOf (r .answer))) (wrote .buffer) ∙ read-written-same a p sized unused b n (w.faultOf x) (faultOf (r .answer)) h
+    read .sheet ∙ ap (λ (l : List ℕ). readOf (take n l) (faultOf (r .answer))) (wrote .buffer)
+        ∙ read-written-same a p sized unused b n (w.faultOf x) (faultOf (r .answer)) h

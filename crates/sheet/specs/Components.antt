@@ -1,5 +1,5 @@
--- The components of a sheet (document 01, "The register and the sheet"): records of one code byte and four amount bytes.
--- Assumes nothing.
+-- The components of a sheet (document 01, "The register and the sheet"): records of one code byte and four amount
+-- bytes. Assumes nothing.
 use Prim.Native.Nat.{ℕ, zero, suc, _+_}
 use mathlib.Core.List.{List, [], _∷_, _++_}
 use mathlib.Core.Bool.{Bool, true, false, cond}
@@ -27,7 +27,8 @@ unfoldable pub codeRefusal : ℕ → ℕ → ℕ
 codeRefusal code p =
     cond (eqb (refusalBy (statusOf code)) 0) (cond (leb code p) OUT_OF_ORDER 0) (refusalBy (statusOf code))
 
--- record by record: the first of `n` records at `at` that is refused, with its place, that of the first of them being `i`
+-- record by record: the first of `n` records at `at` that is refused, with its place, that of the first of them being
+-- `i`
 abbrev pub codesReading : ℕ → List ℕ → ℕ → ℕ → ℕ → Reading
 codesReading zero s at i p = Read
 codesReading (suc n) s at i p =

@@ -23,7 +23,8 @@ retired-code = refl
 
 -- a sheet of two counts of 0 has no methane
 empty-sheet : readOf (0 ∷ 0 ∷ []) 1 ≡ refusedSheet (Refused 5 0 1)
-unfolding readOf readBy sectionsOf sectionAt endAt tornOr allowedCount amountsRefusal analysisRefusal inRange statusOf isIn
+unfolding readOf readBy sectionsOf sectionAt endAt tornOr allowedCount amountsRefusal analysisRefusal inRange statusOf
+    isIn
 empty-sheet = refl
 
 -- a byte left over

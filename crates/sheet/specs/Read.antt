@@ -37,7 +37,8 @@ refusedSheet x = record { answer = x; analysis = record { amounts = replicate CO
 
 -- what the sheet holds: `n` components, and `m` split records at `first`
 abbrev pub contentOf : ℕ → ℕ → ℕ → List ℕ → Sheet
-contentOf n m first s = record { answer = Read; analysis = record { amounts = amountsOf n s }; split = splitAt m s first }
+contentOf n m first s =
+    record { answer = Read; analysis = record { amounts = amountsOf n s }; split = splitAt m s first }
 
 -- all zeros beside a refusal
 abbrev pub withAnswer : Reading → Sheet → Sheet

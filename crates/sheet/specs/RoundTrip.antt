@@ -20,13 +20,19 @@ use Rattle.sheet.specs.declared.Sheet.{Sheet}
 use Rattle.sheet.specs.declared.Split.{Split}
 use Rattle.sheet.specs.declared.Written.the-variants as w
 use Rattle.sheet.specs.Components.{codesReading, amountsFrom, zeroListed, countOf, componentBytes}
-use Rattle.sheet.specs.Split.{RECORDS, allowedCount, splitBytes, byteColumn, amountColumn, padded, splitAt, trimmed}
+use Rattle.sheet.specs.Split.{RECORDS, allowedCount, splitBytes, byteColumn, amountColumn, padded, splitAt}
+use Rattle.sheet.specs.Split.{trimmed}
 use Rattle.sheet.specs.Sheet.{LISTED, SHEET, sheetOf, sectionsOf}
 use Rattle.sheet.specs.Read.{amountsOf, amountsRefusal, refusedSheet, contentOf, readOf}
 use Rattle.sheet.specs.Write.{writeRefusal, writtenOf, leftOf}
-use Rattle.sheet.specs.Laws.Cases.{both-true, allowed-most, allowed-room, Sectioned, sectioned, sections-both, read-torn, read-good, Whole, read-whole, amounts-checked, amounts-back, length-components, length-sheet, number-none, number-back, written-length, written-back, left-sheet}
-use Rattle.sheet.specs.Laws.Back.{unlisted, codes-back, zero-back, amounts-filled, rest-here, cut, cut-take, split-back}
-use Rattle.sheet.specs.Laws.Forth.{Bytes, one, Filled, filled-forth, split-forth, column-forth, length-byte-column, length-amount-column}
+use Rattle.sheet.specs.Laws.Cases.{both-true, allowed-most, allowed-room, Sectioned, sectioned, sections-both}
+use Rattle.sheet.specs.Laws.Cases.{read-torn, read-good, Whole, read-whole, amounts-checked, amounts-back}
+use Rattle.sheet.specs.Laws.Cases.{length-components, length-sheet, number-none, number-back, written-length}
+use Rattle.sheet.specs.Laws.Cases.{written-back, left-sheet}
+use Rattle.sheet.specs.Laws.Back.{unlisted, codes-back, zero-back, amounts-filled, rest-here, cut, cut-take}
+use Rattle.sheet.specs.Laws.Back.{split-back}
+use Rattle.sheet.specs.Laws.Forth.{Bytes, one, Filled, filled-forth, split-forth, column-forth}
+use Rattle.sheet.specs.Laws.Forth.{length-byte-column, length-amount-column}
 
 -- ---- how long a sheet is
 
@@ -54,7 +60,8 @@ count-room k (x ∷ xs) h =
 pub count-most : (a : List ℕ) → length a ≡ CODES → analysisRefusal a ≡ 0 → countOf a ≤ LISTED
 unfolding room statusOf
 count-most a l h =
-    let r : countOf a ≤ room 0 CODES = subst (λ (n : ℕ). countOf a ≤ room 0 n) l (count-room 0 a (passed-ranges a h)) in r
+    let r : countOf a ≤ room 0 CODES = subst (λ (n : ℕ). countOf a ≤ room 0 n) l (count-room 0 a (passed-ranges a h))
+        in r
 
 -- a sheet that is written, or read, has at most 188 bytes
 pub longest-written : (a : List ℕ) (p : Split) (size : ℕ) → length a ≡ CODES → writeRefusal a p size ≡ 0
@@ -103,14 +110,16 @@ pad-same zero (suc z) (x ∷ xs) e h =
     let f : x ≡ 0 = h 0 (omega arith) in
     rw f (ap (λ (l : List ℕ). 0 ∷ l) (pad-same zero z xs (omega arith) (λ i k. h (suc i) (omega arith))))
 pad-same (suc m) z [] e h = absurd (omega arith)
-pad-same (suc m) z (x ∷ xs) e h = ap (λ (l : List ℕ). x ∷ l) (pad-same m z xs (omega arith) (λ i k. h (suc i) (omega arith)))
+pad-same (suc m) z (x ∷ xs) e h =
+    ap (λ (l : List ℕ). x ∷ l) (pad-same m z xs (omega arith) (λ i k. h (suc i) (omega arith)))
 
 module _ (m : ℕ) (xs : List ℕ) (h : m ≤ RECORDS) (l : length xs ≡ RECORDS) where
   taken : length (take m xs) ≡ m
   taken = length-take-le m xs (omega arith)
 
   column-same : ((i : ℕ) → m ≤ i → getD xs i 0 ≡ 0) → padded (take m xs) ≡ xs
-  column-same z = ap (λ (k : ℕ). take m xs ++ replicate (RECORDS - k) 0) taken ∙ pad-same m (RECORDS - m) xs (omega arith) z
+  column-same z =
+      ap (λ (k : ℕ). take m xs ++ replicate (RECORDS - k) 0) taken ∙ pad-same m (RECORDS - m) xs (omega arith) z
 
   column-cut : cut m 0 xs ≡ take m xs
   column-cut = cut-take m 0 xs (omega arith)
@@ -146,7 +155,8 @@ trimmed-read m s at =
 abbrev pub asRead : List ℕ → Split → Sheet
 asRead a p = record { answer = Read; analysis = record { amounts = a }; split = p }
 
-module _ (xs : List ℕ) (p : Split) (k : Sized (0 ∷ xs) p) (allowed : allowedCount (p .count) ≡ true) (passed : analysisRefusal (0 ∷ xs) ≡ 0) (code : ℕ) where
+module _ (xs : List ℕ) (p : Split) (k : Sized (0 ∷ xs) p) (allowed : allowedCount (p .count) ≡ true)
+    (passed : analysisRefusal (0 ∷ xs) ≡ 0) (code : ℕ) where
   s : List ℕ
   s = sheetOf (0 ∷ xs) p
 
@@ -211,7 +221,8 @@ module _ (xs : List ℕ) (p : Split) (k : Sized (0 ∷ xs) p) (allowed : allowed
   unfolding s n
   read-sheet =
       let j : amountsRefusal n s ≡ 0 = amounts-checked n s zeros ∙ ap analysisRefusal amounts ∙ passed in
-      let e : contentOf n (p .count) (2 + 5 * n) s ≡ asRead (0 ∷ xs) (trimmed p) = λ i. record { answer = Read; analysis = record { amounts = amounts i }; split = split i } in
+      let e : contentOf n (p .count) (2 + 5 * n) s ≡ asRead (0 ∷ xs) (trimmed p) =
+          λ i. record { answer = Read; analysis = record { amounts = amounts i }; split = split i } in
       read-good s code n (p .count) (2 + 5 * n) sections codes j ∙ e
 
 -- 0 is no code
@@ -220,13 +231,15 @@ unfolding statusOf
 no-code x h = unlisted 0 x refl h
 
 -- the bytes of an analysis and a split that are not refused read as these
-pub read-bytes : (a : List ℕ) (p : Split) → Sized a p → allowedCount (p .count) ≡ true → analysisRefusal a ≡ 0 → (code : ℕ)
+pub read-bytes : (a : List ℕ) (p : Split) → Sized a p → allowedCount (p .count) ≡ true → analysisRefusal a ≡ 0
+    → (code : ℕ)
     → readOf (sheetOf a p) code ≡ asRead a (trimmed p)
 read-bytes [] p k allowed passed code = absurd (omega (arith, k .amounts-of-codes))
 read-bytes (x ∷ xs) p k allowed passed code =
     let g = both-true (inRange 0 x) (allInRange 1 xs) (passed-ranges (x ∷ xs) passed) in
     let e : x ≡ 0 = no-code x (g .0) in
-    subst (λ (y : ℕ). Sized (y ∷ xs) p → analysisRefusal (y ∷ xs) ≡ 0 → readOf (sheetOf (y ∷ xs) p) code ≡ asRead (y ∷ xs) (trimmed p))
+    subst (λ (y : ℕ). Sized (y ∷ xs) p → analysisRefusal (y ∷ xs) ≡ 0
+        → readOf (sheetOf (y ∷ xs) p) code ≡ asRead (y ∷ xs) (trimmed p))
     (sym e)
     (λ j c. read-sheet xs p j allowed c code)
     k
@@ -239,7 +252,8 @@ pub read-written : (a : List ℕ) (p : Split) → Sized a p → (b : List ℕ) (
 read-written a p k b n code code' h =
     let g = written-back a p (length b) code h in
     let c = number-back a p (length b) (g .0) in
-    let e = ap (λ (l : List ℕ). take n l) (left-sheet a p b (g .0)) ∙ take-at (sheetOf a p) (drop (length (sheetOf a p)) b) n (sym (g .1)) in
+    let e = ap (λ (l : List ℕ). take n l) (left-sheet a p b (g .0))
+        ∙ take-at (sheetOf a p) (drop (length (sheetOf a p)) b) n (sym (g .1)) in
     ap (λ (l : List ℕ). readOf l code') e ∙ read-bytes a p k (c .0) (c .1) code'
 
 -- the very same split where its unused places hold 0
@@ -262,7 +276,9 @@ module _ (s : List ℕ) (bytes : Bytes s) (x : Whole s) where
   passed = amounts-back (x .n) s (x .amounts)
 
   filled : Filled (x .n) s 1 0 (1 + 5 * x .n) (0 ∷ []) (CODES - 1)
-  filled = filled-forth (x .n) s bytes 1 0 0 (1 + 5 * x .n) (0 ∷ []) (CODES - 1) (x .codes) (passed .0) refl refl refl (omega (arith, shape .size))
+  filled =
+      filled-forth (x .n) s bytes 1 0 0 (1 + 5 * x .n) (0 ∷ []) (CODES - 1) (x .codes) (passed .0) refl refl refl
+      (omega (arith, shape .size))
 
   p : Split
   p = splitAt (x .m) s (x .first)
@@ -285,7 +301,9 @@ module _ (s : List ℕ) (bytes : Bytes s) (x : Whole s) where
   unfolding p
   sheet-same =
       let q : List ℕ = x .m ∷ splitBytes p in
-      let e : q ≡ drop (1 + 5 * x .n) s = ap (λ (l : List ℕ). x .m ∷ l) records ∙ ap (λ (j : ℕ). j ∷ drop (x .first) s) (shape .records) ∙ sym (one s bytes (1 + 5 * x .n) (x .first) (omega (arith, shape .begins)) (omega (arith, shape .size))) in
+      let e : q ≡ drop (1 + 5 * x .n) s = ap (λ (l : List ℕ). x .m ∷ l) records
+          ∙ ap (λ (j : ℕ). j ∷ drop (x .first) s) (shape .records)
+          ∙ sym (one s bytes (1 + 5 * x .n) (x .first) (omega (arith, shape .begins)) (omega (arith, shape .size))) in
       ap (λ (a : List ℕ). (countOf a ∷ componentBytes 0 a) ++ q) (filled .filled)
       ∙ ap (λ (j : ℕ). (j ∷ componentBytes 1 (filled .ys)) ++ q) (filled .count)
       ∙ ap (λ (l : List ℕ). (x .n ∷ componentBytes 1 (filled .ys)) ++ l) e
@@ -312,8 +330,10 @@ written-read s bytes code h b code' l =
     let r = read-good s code (x .n) (x .m) (x .first) (x .sections) (x .codes) (x .amounts) in
     let a : List ℕ = readOf s code .analysis .amounts in
     let p : Split = readOf s code .split in
-    let j : analysisRefusal a ≡ 0 = ap (λ (y : Sheet). analysisRefusal (y .analysis .amounts)) r ∙ amounts-back (x .n) s (x .amounts) .1 in
-    let m : allowedCount (p .count) ≡ true = ap (λ (y : Sheet). allowedCount (y .split .count)) r ∙ sectioned s (x .sections) .allowed in
+    let j : analysisRefusal a ≡ 0 = ap (λ (y : Sheet). analysisRefusal (y .analysis .amounts)) r
+        ∙ amounts-back (x .n) s (x .amounts) .1 in
+    let m : allowedCount (p .count) ≡ true = ap (λ (y : Sheet). allowedCount (y .split .count)) r
+        ∙ sectioned s (x .sections) .allowed in
     let k : length (sheetOf a p) ≤ length b = subst (λ (y : List ℕ). length y ≤ length b) (sym e) l in
     let z = number-none a p (length b) m j k in (
       written-length a p (length b) code' z ∙ ap (λ (y : List ℕ). w.Length (length y)) e,

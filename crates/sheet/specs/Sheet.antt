@@ -25,8 +25,8 @@ LISTED = 12
 abbrev pub SHEET : ℕ
 SHEET = 2 + COMPONENT_BYTES * LISTED + RECORD_BYTES * LONGEST_SPLIT
 
--- section by section: the components at the start, the split's records where those end, and nothing after the split; torn
--- where a count is not allowed, bytes are missing or bytes are left over
+-- section by section: the components at the start, the split's records where those end, and nothing after the split;
+-- torn where a count is not allowed, bytes are missing or bytes are left over
 abbrev pub withSplit : ℕ → Section → Bool → Sections
 withSplit n found.Torn left = Torn
 withSplit n (found.Records m first end) left = cond (allowedCount m) (cond left Torn (Both n m first)) Torn

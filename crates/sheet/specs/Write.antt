@@ -15,8 +15,8 @@ use Rattle.sheet.specs.WrittenCases.{numberOf, faultOf}
 use Rattle.sheet.specs.Split.{allowedCount}
 use Rattle.sheet.specs.Sheet.{sheetOf}
 
--- the number for an analysis and a split written into a buffer of `size` bytes: 1 for a count that no sheet has, then 5, 6
--- and 14; or 0
+-- the number for an analysis and a split written into a buffer of `size` bytes: 1 for a count that no sheet has, then
+-- 5, 6 and 14; or 0
 unfoldable pub writeRefusal : List ℕ → Split → ℕ → ℕ
 writeRefusal a p size =
     cond (allowedCount (p .count))

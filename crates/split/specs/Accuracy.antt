@@ -24,7 +24,8 @@ use Rattle.split.specs.declared.Answer.the-variants.{Rated}
 module _ (ch : List ℕ) (k : ℕ) (mix a : List ℕ) (chosen : Chosen ch k) where
   -- cells that re-sum to a million parts at most, with no system empty, can be worked out
   pub fit-sound : length a ≡ CELLS → totalOf mix ≤ MILLION → Resums mix k a → NoneEmpty ch k a → Sound ch k a
-  fit-sound long few sums some = record { stock = record { chosen = chosen; long = long; few = rw (resummed mix k a sums) few }; some = some }
+  fit-sound long few sums some =
+      record { stock = record { chosen = chosen; long = long; few = rw (resummed mix k a sums) few }; some = some }
 
   pub fit-few : totalOf mix ≤ MILLION → Resums mix k a → sumTo (partsOf ch a) k ≤ MILLION
   fit-few few sums = omega (arith, parts-le ch k a chosen, resummed mix k a sums)

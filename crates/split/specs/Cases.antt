@@ -33,5 +33,6 @@ pub halved : runOf (4 ∷ 8 ∷ []) 2 0 1 3 few 1 0 .cells
     ≡ 1 ∷ 0 ∷ 1 ∷ 0 ∷ 0 ∷ 0 ∷ 1 ∷ 0 ∷ 0 ∷ 0 ∷ replicate (CELLS - 2 * COMPONENTS) 0
 unfolding worked rowsOf horner coefs sumAbs placeIn keepsRule isSystem tableOf partialNumber memberOf hasOf
     sumTo greatestTo leastTo first partsOf
-    rowNumber spreadOf squareOf imbalanceOf shift movedOf betweenOf affordsOf lowersOf canOf firstOf goOn turnOf runOf isIn
+    rowNumber spreadOf squareOf imbalanceOf shift movedOf betweenOf affordsOf lowersOf canOf firstOf goOn turnOf runOf
+        isIn
 halved = refl

@@ -11,12 +11,15 @@ use Rattle.split.specs.Split.{systemOf, amountOf, partsOf}
 
 -- row s's exact number
 unfoldable pub exactAt : List ℕ → List ℕ → ℕ → Fraction
-exactAt systems cells s = exactNumber (systemOf systems s) (amountOf systems cells s 0) (amountOf systems cells s 1) (amountOf systems cells s 2)
+exactAt systems cells s =
+    exactNumber (systemOf systems s) (amountOf systems cells s 0) (amountOf systems cells s 1)
+    (amountOf systems cells s 2)
 
 -- each exact number times its system's parts, added; the mean is that over 1000000
 unfoldable pub exactSum : List ℕ → ℕ → List ℕ → Fraction
 exactSum systems zero cells = whole (pos 0)
-exactSum systems (suc count) cells = plus (exactSum systems count cells) (times (exactAt systems cells count) (partsOf systems cells count))
+exactSum systems (suc count) cells =
+    plus (exactSum systems count cells) (times (exactAt systems cells count) (partsOf systems cells count))
 
 unfoldable pub exactMean : List ℕ → ℕ → List ℕ → Fraction
 exactMean systems count cells = over (exactSum systems count cells) MILLION
@@ -25,7 +28,8 @@ unfoldable pub exactInert : ℕ → Fraction
 exactInert n1 = exactNumber 20 n1 (MILLION - n1) 0
 
 unfoldable pub exactRating : List ℕ → ℕ → List ℕ → ℕ → Fraction
-exactRating systems count cells n1 = plus (plus (exactMean systems count cells) (exactInert n1)) (whole (neg PURE_METHANE))
+exactRating systems count cells n1 =
+    plus (plus (exactMean systems count cells) (exactInert n1)) (whole (neg PURE_METHANE))
 
 -- no row is empty
 abbrev pub NoneEmpty : List ℕ → ℕ → List ℕ → Type 0

@@ -1,4 +1,5 @@
--- A split of the gas of 001 Table A.1 among its systems 4, 7 and 8, as a search finds it, put back: computed. Assumes nothing.
+-- A split of the gas of 001 Table A.1 among its systems 4, 7 and 8, as a search finds it, put back: computed. Assumes
+-- nothing.
 use mathlib.Core.Path.{_≡_, refl}
 use mathlib.Core.List.{List, [], _∷_}
 use Prim.Native.Nat.{ℕ}
@@ -23,7 +24,8 @@ abbrev pub amounts : List ℕ
 amounts = 310026 ∷ 8402 ∷ 1219 ∷ 201482 ∷ 1219 ∷ 765 ∷ 467721 ∷ 8401 ∷ 765 ∷ []
 
 -- numbers that differ below a thousandth of a methane number are cut to the same, also on either side of 0
-pub cut : (squareOf (pos 19999) (pos 10000) ≡ 0) × (squareOf (pos 9999) (neg 9999) ≡ 0) × (squareOf (pos 20000) (neg 10000) ≡ 9)
+pub cut : (squareOf (pos 19999) (pos 10000) ≡ 0) × (squareOf (pos 9999) (neg 9999) ≡ 0)
+    × (squareOf (pos 20000) (neg 10000) ≡ 9)
 unfolding squareOf
 cut = (refl, refl, refl)
 

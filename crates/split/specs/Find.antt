@@ -25,7 +25,9 @@ mixtureFit mix = leb (sumTo (λ c. getD mix c 0) COMPONENTS) MILLION
 
 -- both, a first stride of 65536 at most, and a start that leaves no system empty
 unfoldable pub searchFit : List ℕ → List ℕ → ℕ → ℕ → Bool
-searchFit mix systems count level = leb level FIRST_LEVEL && (mixtureFit mix && (chosenFit systems count && not (someEmpty systems count (startOf mix systems count))))
+searchFit mix systems count level =
+    leb level FIRST_LEVEL && (mixtureFit mix
+    && (chosenFit systems count && not (someEmpty systems count (startOf mix systems count))))
 
 -- the search from the start; any other input is unfit, and finds nothing
 unfoldable pub findOf : List ℕ → List ℕ → ℕ → ℕ → ℕ → ℕ → Found

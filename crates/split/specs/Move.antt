@@ -1,4 +1,5 @@
--- Moves: which there are, in their order, what one does, and the first that lowers the imbalance (document 01, "The search"). Assumes nothing.
+-- Moves: which there are, in their order, what one does, and the first that lowers the imbalance (document 01, "The
+-- search"). Assumes nothing.
 use Prim.Native.Nat.{ℕ, _+_, _*_, _-_, _/_, _%_}
 use mathlib.Core.List.{List}
 use mathlib.Core.Bool.{Bool, not, _&&_}
@@ -36,7 +37,8 @@ unfoldable pub shift : List ℕ → ℕ → ℕ → ℕ → List ℕ
 shift cells i j stride = set (set cells i (getD cells i 0 - stride)) j (getD cells j 0 + stride)
 
 unfoldable pub movedOf : List ℕ → ℕ → ℕ → List ℕ
-movedOf cells move stride = shift cells (giverOf move * COMPONENTS + componentOf move) (takerOf move * COMPONENTS + componentOf move) stride
+movedOf cells move stride =
+    shift cells (giverOf move * COMPONENTS + componentOf move) (takerOf move * COMPONENTS + componentOf move) stride
 
 -- both are chosen systems, they differ, and both contain the component
 unfoldable pub betweenOf : List ℕ → ℕ → ℕ → Bool
@@ -44,17 +46,22 @@ betweenOf systems count move =
     ltb (giverOf move) count
     && (ltb (takerOf move) count
     && (not (eqb (giverOf move) (takerOf move))
-    && (hasOf (systemOf systems (giverOf move)) (componentOf move) && hasOf (systemOf systems (takerOf move)) (componentOf move))))
+    && (hasOf (systemOf systems (giverOf move)) (componentOf move)
+    && hasOf (systemOf systems (takerOf move)) (componentOf move))))
 
 -- the giver has the stride, and does not end empty
 unfoldable pub affordsOf : List ℕ → List ℕ → ℕ → ℕ → Bool
-affordsOf systems cells stride move = leb stride (cellOf cells (giverOf move) (componentOf move)) && ltb stride (partsOf systems cells (giverOf move))
+affordsOf systems cells stride move =
+    leb stride (cellOf cells (giverOf move) (componentOf move)) && ltb stride (partsOf systems cells (giverOf move))
 
 unfoldable pub lowersOf : List ℕ → ℕ → List ℕ → ℕ → ℕ → Bool
-lowersOf systems count cells stride move = ltb (imbalanceOf (rowNumber systems (movedOf cells move stride)) count) (imbalanceOf (rowNumber systems cells) count)
+lowersOf systems count cells stride move =
+    ltb (imbalanceOf (rowNumber systems (movedOf cells move stride)) count)
+    (imbalanceOf (rowNumber systems cells) count)
 
 unfoldable pub canOf : List ℕ → ℕ → List ℕ → ℕ → ℕ → Bool
-canOf systems count cells stride move = betweenOf systems count move && (affordsOf systems cells stride move && lowersOf systems count cells stride move)
+canOf systems count cells stride move =
+    betweenOf systems count move && (affordsOf systems cells stride move && lowersOf systems count cells stride move)
 
 -- the first move that can be made and lowers the imbalance, or MOVES
 unfoldable pub firstOf : List ℕ → ℕ → List ℕ → ℕ → ℕ

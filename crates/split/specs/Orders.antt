@@ -1,4 +1,5 @@
--- The move that is taken is the first that can be, in the order of components, from-systems and to-systems. Assumes nothing.
+-- The move that is taken is the first that can be, in the order of components, from-systems and to-systems. Assumes
+-- nothing.
 use Prim.Native.Nat.{ℕ, zero, suc, _+_, _*_, _-_, _≤_, _<_}
 use mathlib.Core.Path.{_≡_, refl, sym, ap, _∙_}
 use mathlib.Core.Bool.{Bool, true, false}
@@ -34,5 +35,6 @@ taken-first ch k a d s h = first-before (canOf ch k a d) MOVES 0 s (omega arith)
 pub numbered : (m : ℕ) → m ≡ (componentOf m * SYSTEMS + giverOf m) * SYSTEMS + takerOf m
 numbered m = omega arith
 
-pub number-of : (c f t : ℕ) → f < SYSTEMS → t < SYSTEMS → (componentOf ((c * SYSTEMS + f) * SYSTEMS + t) ≡ c) × (giverOf ((c * SYSTEMS + f) * SYSTEMS + t) ≡ f) × (takerOf ((c * SYSTEMS + f) * SYSTEMS + t) ≡ t)
+pub number-of : (c f t : ℕ) → f < SYSTEMS → t < SYSTEMS → (componentOf ((c * SYSTEMS + f) * SYSTEMS + t) ≡ c)
+    × (giverOf ((c * SYSTEMS + f) * SYSTEMS + t) ≡ f) × (takerOf ((c * SYSTEMS + f) * SYSTEMS + t) ≡ t)
 number-of c f t h l = (omega arith, omega arith, omega arith)

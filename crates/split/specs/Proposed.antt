@@ -1,4 +1,5 @@
--- The answer to cells proposed as a split of a mixture, for every input (document 01, "The split and the rating"). Assumes nothing.
+-- The answer to cells proposed as a split of a mixture, for every input (document 01, "The split and the rating").
+-- Assumes nothing.
 use mathlib.Core.Bool.{Bool, _&&_, cond}
 use mathlib.Core.List.{List}
 use Prim.Native.Nat.{ℕ, _≤_}

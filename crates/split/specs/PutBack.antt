@@ -20,7 +20,8 @@ use Rattle.split.specs.Accuracy.{rated-within}
 use Rattle.split.specs.Laws.Records.{cells-back}
 use Rattle.split.specs.declared.Answer.the-variants.{Rated}
 
-module _ (mix ch : List ℕ) (k limit allowance : ℕ) (a : List ℕ) (s r : ℕ) (balance : Balance mix ch k limit allowance a s r) (shared : (c : ℕ) → c < COMPONENTS → Shared mix ch k c) where
+module _ (mix ch : List ℕ) (k limit allowance : ℕ) (a : List ℕ) (s r : ℕ)
+    (balance : Balance mix ch k limit allowance a s r) (shared : (c : ℕ) → c < COMPONENTS → Shared mix ch k c) where
   pub balance-fit : Fit limit ch k mix a
   balance-fit = record {
     sums = λ c l. balance .sums c l (shared c l);
@@ -30,11 +31,18 @@ module _ (mix ch : List ℕ) (k limit allowance : ℕ) (a : List ℕ) (s r : ℕ
 
   -- the same rating and the same spread
   pub put-back : (n1 : ℕ) → proposedOf limit ch k mix a n1 ≡ Rated (ratingOf ch k a n1) s 0
-  put-back n1 = fit-rated limit ch k mix a n1 balance-fit ∙ ap (λ (x : ℕ). Rated (ratingOf ch k a n1) x 0) (sym (balance .spread))
+  put-back n1 =
+      fit-rated limit ch k mix a n1 balance-fit
+      ∙ ap (λ (x : ℕ). Rated (ratingOf ch k a n1) x 0) (sym (balance .spread))
 
   -- also where it is put back as records
-  pub put-back-records : (n1 : ℕ) → 3 * k ≤ RECORDS → proposedOf limit ch k mix (cellsOf ch k (amountsOf ch k a)) n1 ≡ Rated (ratingOf ch k a n1) s 0
-  put-back-records n1 room = ap (λ (b : List ℕ). proposedOf limit ch k mix b n1) (cells-back ch k (balance .chosen) room a (balance .sound .stock .long) (balance .clean)) ∙ put-back n1
+  pub put-back-records : (n1 : ℕ) → 3 * k ≤ RECORDS
+      → proposedOf limit ch k mix (cellsOf ch k (amountsOf ch k a)) n1 ≡ Rated (ratingOf ch k a n1) s 0
+  put-back-records n1 room =
+      ap (λ (b : List ℕ). proposedOf limit ch k mix b n1)
+      (cells-back ch k (balance .chosen) room a (balance .sound .stock .long) (balance .clean)) ∙ put-back n1
 
-  pub found-within : (n1 : ℕ) → totalOf mix ≤ MILLION → n1 ≤ MILLION → Within (ratingOf ch k a n1) (exactRating ch k a n1) 40
-  found-within n1 few l = rated-within ch k mix a (balance .chosen) limit n1 (ratingOf ch k a n1) s 0 (put-back n1) few l
+  pub found-within : (n1 : ℕ) → totalOf mix ≤ MILLION → n1 ≤ MILLION
+      → Within (ratingOf ch k a n1) (exactRating ch k a n1) 40
+  found-within n1 few l =
+      rated-within ch k mix a (balance .chosen) limit n1 (ratingOf ch k a n1) s 0 (put-back n1) few l

@@ -1,5 +1,6 @@
--- A proposed split is rated exactly when it re-sums, no chosen system is empty and every two partial numbers lie at most
--- the limit apart, and then with its rating and its spread (document 01, "The split and the rating"). Assumes nothing.
+-- A proposed split is rated exactly when it re-sums, no chosen system is empty and every two partial numbers lie at
+-- most the limit apart, and then with its rating and its spread (document 01, "The split and the rating"). Assumes
+-- nothing.
 use mathlib.Core.Path.{_≡_, refl, sym, ap, ap₂, _∙_, subst}
 use mathlib.Core.Bool.{Bool, true, false}
 use mathlib.Core.Logic.{_↔_}
@@ -47,19 +48,24 @@ module _ (limit : ℕ) (ch : List ℕ) (k : ℕ) (mix a : List ℕ) (n1 : ℕ) w
   unfolding proposedOf
   proposed-empty h e = verdict-9 (resums mix k a) (someEmpty ch k a) _ rated h e
 
-  pub proposed-wide : resums mix k a ≡ true → someEmpty ch k a ≡ false → ltb limit spread ≡ true → proposedOf limit ch k mix a n1 ≡ Refused 10 0
+  pub proposed-wide : resums mix k a ≡ true → someEmpty ch k a ≡ false → ltb limit spread ≡ true
+      → proposedOf limit ch k mix a n1 ≡ Refused 10 0
   unfolding proposedOf
   proposed-wide h e w = verdict-last (resums mix k a) (someEmpty ch k a) (ltb limit spread) true rated h e w
 
-  pub proposed-rated : resums mix k a ≡ true → someEmpty ch k a ≡ false → ltb limit spread ≡ false → proposedOf limit ch k mix a n1 ≡ Rated (ratingOf ch k a n1) (spreadOf (rowNumber ch a) k) 0
+  pub proposed-rated : resums mix k a ≡ true → someEmpty ch k a ≡ false → ltb limit spread ≡ false
+      → proposedOf limit ch k mix a n1 ≡ Rated (ratingOf ch k a n1) (spreadOf (rowNumber ch a) k) 0
   unfolding proposedOf
   proposed-rated h e w = verdict-last (resums mix k a) (someEmpty ch k a) (ltb limit spread) false rated h e w
 
   -- ---- rated exactly when
 
   -- rated, with the rating and the spread, when the split is fit
-  pub fit-rated : Fit limit ch k mix a → proposedOf limit ch k mix a n1 ≡ Rated (ratingOf ch k a n1) (spreadOf (rowNumber ch a) k) 0
-  fit-rated f = proposed-rated (yes-resums mix k a (f .sums)) (no-empty ch k a (f .some)) (le-ltb limit spread (near-spread limit (rowNumber ch a) k (f .near)))
+  pub fit-rated : Fit limit ch k mix a → proposedOf limit ch k mix a n1 ≡ Rated (ratingOf ch k a n1)
+      (spreadOf (rowNumber ch a) k) 0
+  fit-rated f =
+      proposed-rated (yes-resums mix k a (f .sums)) (no-empty ch k a (f .some))
+      (le-ltb limit spread (near-spread limit (rowNumber ch a) k (f .near)))
 
   passed : (b e w : Bool) (r : Answer) → IsRated (verdict b e w r) → (b ≡ true) × (e ≡ false) × (w ≡ false)
   passed false e w r t = absurd t
@@ -72,13 +78,16 @@ module _ (limit : ℕ) (ch : List ℕ) (k : ℕ) (mix a : List ℕ) (n1 : ℕ) w
   unfolding proposedOf
   rated-fit t =
       let (b, e, w) = passed (resums mix k a) (someEmpty ch k a) (ltb limit spread) rated t in
-      record { sums = resums-yes mix k a b; some = empty-no ch k a e; near = spread-near limit (rowNumber ch a) k (ltb-false limit spread w) }
+      record { sums = resums-yes mix k a b; some = empty-no ch k a e; near = spread-near limit (rowNumber ch a) k
+          (ltb-false limit spread w) }
 
   pub rated-exactly-when : IsRated (proposedOf limit ch k mix a n1) ↔ Fit limit ch k mix a
   rated-exactly-when = (rated-fit, λ f. subst IsRated (sym (fit-rated f)) tt)
 
   -- and then with this rating and this spread
-  pub rated-is : (w : ℤ) (s n : ℕ) → proposedOf limit ch k mix a n1 ≡ Rated w s n → (w ≡ ratingOf ch k a n1) × (s ≡ spreadOf (rowNumber ch a) k) × (n ≡ 0)
+  pub rated-is : (w : ℤ) (s n : ℕ) → proposedOf limit ch k mix a n1 ≡ Rated w s n → (w ≡ ratingOf ch k a n1)
+      × (s ≡ spreadOf (rowNumber ch a) k) × (n ≡ 0)
   rated-is w s n is =
-      let same : Rated w s n ≡ Rated (ratingOf ch k a n1) spread 0 = sym is ∙ fit-rated (rated-fit (subst IsRated (sym is) tt)) in
+      let same : Rated w s n ≡ Rated (ratingOf ch k a n1) spread 0 = sym is
+          ∙ fit-rated (rated-fit (subst IsRated (sym is) tt)) in
       (cc, cc, cc)

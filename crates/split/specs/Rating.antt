@@ -1,4 +1,5 @@
--- Spread, mean and rating of a split, and the answer to a proposed one (document 01, "The split and the rating"). Assumes nothing.
+-- Spread, mean and rating of a split, and the answer to a proposed one (document 01, "The split and the rating").
+-- Assumes nothing.
 use Prim.Native.Nat.{ℕ, _+_, _*_, _-_}
 use mathlib.Core.List.{List}
 use mathlib.Core.Bool.{Bool, true, false}
@@ -50,7 +51,8 @@ resums mix count cells = allTo (λ c. eqb (columnOf count cells c) (getD mix c 0
 unfoldable pub someEmpty : List ℕ → ℕ → List ℕ → Bool
 someEmpty systems count cells = someTo (λ s. eqb (partsOf systems cells s) 0) count
 
--- whether it re-sums, whether a system is empty, whether the spread is above the limit: refusals 8, 9, 10 in their order
+-- whether it re-sums, whether a system is empty, whether the spread is above the limit: refusals 8, 9, 10 in their
+-- order
 abbrev pub verdict : Bool → Bool → Bool → Answer → Answer
 verdict false empty wide rated = Refused UNSUMMED 0
 verdict true true wide rated = Refused EMPTY_SYSTEM 0
@@ -60,5 +62,6 @@ verdict true false false rated = rated
 -- the answer to the cells, proposed as a split of the mixture, under a spread limit
 unfoldable pub proposedOf : ℕ → List ℕ → ℕ → List ℕ → List ℕ → ℕ → Answer
 proposedOf limit systems count mix cells n1 =
-    verdict (resums mix count cells) (someEmpty systems count cells) (ltb limit (spreadOf (rowNumber systems cells) count))
+    verdict (resums mix count cells) (someEmpty systems count cells)
+        (ltb limit (spreadOf (rowNumber systems cells) count))
     (Rated (ratingOf systems count cells n1) (spreadOf (rowNumber systems cells) count) 0)

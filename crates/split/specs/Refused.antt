@@ -1,5 +1,5 @@
--- A proposed split is refused 8, 9 or 10 exactly when it does not re-sum, else a chosen system is empty, else two partial
--- numbers lie further apart than the limit; a wider limit keeps every rating. Assumes nothing.
+-- A proposed split is refused 8, 9 or 10 exactly when it does not re-sum, else a chosen system is empty, else two
+-- partial numbers lie further apart than the limit; a wider limit keeps every rating. Assumes nothing.
 use mathlib.Core.Path.{_≡_, refl, sym, ap, _∙_, subst}
 use mathlib.Core.Bool.{Bool, true, false}
 use mathlib.Core.Logic.{_↔_}
@@ -45,7 +45,8 @@ at-9 true true w x y h = (refl, refl)
 at-9 true false true x y h = absurd (omega (arith, ap numberOf h))
 at-9 true false false x y h = absurd (omega (arith, ap numberOf h))
 
-at-10 : (b e w : Bool) (x : ℤ) (y : ℕ) → verdict b e w (Rated x y 0) ≡ Refused 10 0 → (b ≡ true) × (e ≡ false) × (w ≡ true)
+at-10 : (b e w : Bool) (x : ℤ) (y : ℕ) → verdict b e w (Rated x y 0) ≡ Refused 10 0 → (b ≡ true) × (e ≡ false)
+    × (w ≡ true)
 at-10 false e w x y h = absurd (omega (arith, ap numberOf h))
 at-10 true true w x y h = absurd (omega (arith, ap numberOf h))
 at-10 true false true x y h = (refl, refl, refl)
@@ -64,29 +65,38 @@ module _ (limit : ℕ) (ch : List ℕ) (k : ℕ) (mix a : List ℕ) (n1 : ℕ) w
   pub refused-8-exactly-when : (proposedOf limit ch k mix a n1 ≡ Refused 8 0) ↔ (Resums mix k a → ⊥)
   unfolding proposedOf
   refused-8-exactly-when = (
-    λ h r. differ (resums mix k a) (yes-resums mix k a r) (at-8 (resums mix k a) (someEmpty ch k a) wide (ratingOf ch k a n1) (spreadOf (rowNumber ch a) k) h),
+    λ h r. differ (resums mix k a) (yes-resums mix k a r)
+    (at-8 (resums mix k a) (someEmpty ch k a) wide (ratingOf ch k a n1) (spreadOf (rowNumber ch a) k) h),
     λ n. proposed-unsummed limit ch k mix a n1 (fails (resums mix k a) (resums-yes mix k a) n),
   )
 
-  pub refused-9-exactly-when : (proposedOf limit ch k mix a n1 ≡ Refused 9 0) ↔ (Resums mix k a × (NoneEmpty ch k a → ⊥))
+  pub refused-9-exactly-when : (proposedOf limit ch k mix a n1 ≡ Refused 9 0)
+      ↔ (Resums mix k a × (NoneEmpty ch k a → ⊥))
   unfolding proposedOf
   refused-9-exactly-when = (
-    λ h. let (b, e) = at-9 (resums mix k a) (someEmpty ch k a) wide (ratingOf ch k a n1) (spreadOf (rowNumber ch a) k) h in
+    λ h. let (b, e) = at-9 (resums mix k a) (someEmpty ch k a) wide (ratingOf ch k a n1) (spreadOf (rowNumber ch a) k)
+    h in
         (resums-yes mix k a b, λ n. differ (someEmpty ch k a) e (no-empty ch k a n)),
-    λ g. proposed-empty limit ch k mix a n1 (yes-resums mix k a (g .0)) (holds (someEmpty ch k a) (empty-no ch k a) (g .1)),
+    λ g. proposed-empty limit ch k mix a n1 (yes-resums mix k a (g .0))
+    (holds (someEmpty ch k a) (empty-no ch k a) (g .1)),
   )
 
-  pub refused-10-exactly-when : (proposedOf limit ch k mix a n1 ≡ Refused 10 0) ↔ (Resums mix k a × NoneEmpty ch k a × (EveryTwo limit (rowNumber ch a) k → ⊥))
+  pub refused-10-exactly-when : (proposedOf limit ch k mix a n1 ≡ Refused 10 0)
+      ↔ (Resums mix k a × NoneEmpty ch k a × (EveryTwo limit (rowNumber ch a) k → ⊥))
   unfolding proposedOf
   refused-10-exactly-when = (
-    λ h. let (b, e, w) = at-10 (resums mix k a) (someEmpty ch k a) wide (ratingOf ch k a n1) (spreadOf (rowNumber ch a) k) h in
+    λ h. let (b, e, w) = at-10 (resums mix k a) (someEmpty ch k a) wide (ratingOf ch k a n1)
+    (spreadOf (rowNumber ch a) k) h in
         (resums-yes mix k a b, empty-no ch k a e, λ n. differ wide w (near-not-wide n)),
-    λ g. proposed-wide limit ch k mix a n1 (yes-resums mix k a (g .0)) (no-empty ch k a (g .1)) (holds wide not-wide (g .2)),
+    λ g. proposed-wide limit ch k mix a n1 (yes-resums mix k a (g .0)) (no-empty ch k a (g .1))
+    (holds wide not-wide (g .2)),
   )
 
 -- a wider limit never turns a rated split into a refused one, and the rating stays
-pub wider : (limit limit′ : ℕ) (ch : List ℕ) (k : ℕ) (mix a : List ℕ) (n1 : ℕ) (w : ℤ) (s n : ℕ) → limit ≤ limit′ → proposedOf limit ch k mix a n1 ≡ Rated w s n → proposedOf limit′ ch k mix a n1 ≡ Rated w s n
+pub wider : (limit limit′ : ℕ) (ch : List ℕ) (k : ℕ) (mix a : List ℕ) (n1 : ℕ) (w : ℤ) (s n : ℕ) → limit ≤ limit′
+    → proposedOf limit ch k mix a n1 ≡ Rated w s n → proposedOf limit′ ch k mix a n1 ≡ Rated w s n
 wider limit limit′ ch k mix a n1 w s n l is =
     let f = rated-fit limit ch k mix a n1 (subst IsRated (sym is) tt) in
-    fit-rated limit′ ch k mix a n1 (record { sums = f .sums; some = f .some; near = λ i j p q. N.le-trans (f .near i j p q) l })
+    fit-rated limit′ ch k mix a n1
+        (record { sums = f .sums; some = f .some; near = λ i j p q. N.le-trans (f .near i j p q) l })
     ∙ sym (fit-rated limit ch k mix a n1 f) ∙ is

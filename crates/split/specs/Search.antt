@@ -1,4 +1,5 @@
--- The search (document 01, "The search"): what is done before and in each round, and what the rounds come to. Assumes nothing.
+-- The search (document 01, "The search"): what is done before and in each round, and what the rounds come to. Assumes
+-- nothing.
 use Prim.Native.Nat.{ℕ, zero, suc, _+_, _-_, _^_}
 use mathlib.Core.List.{List}
 use mathlib.Core.Bool.{cond}
@@ -46,4 +47,5 @@ runOf systems count limit allowance (suc n) cells level rounds =
 
 -- the search from the cells: each turn counts a round or halves the stride, so there are allowance + level + 1 at most
 unfoldable pub searchOf : List ℕ → ℕ → ℕ → ℕ → ℕ → List ℕ → Found
-searchOf systems count limit level allowance cells = runOf systems count limit allowance (allowance + level + 1) cells level 0
+searchOf systems count limit level allowance cells =
+    runOf systems count limit allowance (allowance + level + 1) cells level 0

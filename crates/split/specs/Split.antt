@@ -1,8 +1,9 @@
 -- A split: for each chosen system its amounts of the components that it contains
 -- (document 01, "The split and the rating"). Assumes nothing.
 --
--- The chosen systems are a list `systems` of system numbers, of which the first `count` count. The amounts are one list `cells`
--- of cells, a row of COMPONENTS cells for each chosen system; a cell of a component that the system lacks is 0.
+-- The chosen systems are a list `systems` of system numbers, of which the first `count` count. The amounts are one
+-- list `cells` of cells, a row of COMPONENTS cells for each chosen system; a cell of a component that the system
+-- lacks is 0.
 use Prim.Native.Nat.{ℕ, _+_, _*_, _/_, _%_, _≤_, _<_}
 use mathlib.Core.List.{List}
 use mathlib.Core.Bool.{Bool, cond, _&&_}
@@ -47,7 +48,9 @@ columnOf count cells c = sumTo (λ s. cellOf cells s c) count
 
 -- row s's partial number, as worked out
 unfoldable pub rowNumber : List ℕ → List ℕ → ℕ → ℤ
-rowNumber systems cells s = partialNumber (systemOf systems s) (amountOf systems cells s 0) (amountOf systems cells s 1) (amountOf systems cells s 2)
+rowNumber systems cells s =
+    partialNumber (systemOf systems s) (amountOf systems cells s 0) (amountOf systems cells s 1)
+    (amountOf systems cells s 2)
 
 -- row s is one of those that count, and its system contains component c
 unfoldable pub heldOf : List ℕ → ℕ → ℕ → ℕ → Bool

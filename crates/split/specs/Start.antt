@@ -18,7 +18,8 @@ shareOf t n r = t / n + cond (ltb r (t % n)) 1 0
 
 -- row s's amount of component c
 unfoldable pub startAmount : List ℕ → List ℕ → ℕ → ℕ → ℕ → ℕ
-startAmount mix systems count s c = cond (heldOf systems count s c) (shareOf (getD mix c 0) (sharersOf systems c count) (sharersOf systems c s)) 0
+startAmount mix systems count s c =
+    cond (heldOf systems count s c) (shareOf (getD mix c 0) (sharersOf systems c count) (sharersOf systems c s)) 0
 
 abbrev pub startCell : List ℕ → List ℕ → ℕ → ℕ → ℕ
 startCell mix systems count i = startAmount mix systems count (i / COMPONENTS) (i % COMPONENTS)

@@ -21,13 +21,15 @@ listed numbers i = getD numbers i (pos 0)
 
 -- row s's parts as a row of the system
 unfoldable pub partsIn : ℕ → List ℕ → ℕ → ℕ
-partsIn system cells s = cellOf cells s (memberOf system 0) + cellOf cells s (memberOf system 1) + cellOf cells s (memberOf system 2)
+partsIn system cells s =
+    cellOf cells s (memberOf system 0) + cellOf cells s (memberOf system 1) + cellOf cells s (memberOf system 2)
 
 -- its partial number, or why it has none
 unfoldable pub answerIn : ℕ → List ℕ → ℕ → Partial
 answerIn system cells s =
     cond (isIn system candidates)
-    (formulaOf system (cellOf cells s (memberOf system 0)) (cellOf cells s (memberOf system 1)) (cellOf cells s (memberOf system 2)))
+    (formulaOf system (cellOf cells s (memberOf system 0)) (cellOf cells s (memberOf system 1))
+    (cellOf cells s (memberOf system 2)))
     (Refused NO_SYSTEM)
 
 -- row s has a partial number: its system is a candidate and its parts make a mixture
@@ -50,5 +52,6 @@ none = record { fit = false; numbers = replicate SYSTEMS (pos 0); parts = replic
 unfoldable pub rowsOf : List ℕ → ℕ → List ℕ → Rows
 rowsOf systems count cells =
     cond (rowsFit systems count cells)
-    (record { fit = true; numbers = upTo (pos 0) count (rowNumber systems cells) SYSTEMS 0; parts = upTo 0 count (partsOf systems cells) SYSTEMS 0 })
+    (record { fit = true; numbers = upTo (pos 0) count (rowNumber systems cells) SYSTEMS 0; parts = upTo 0 count
+    (partsOf systems cells) SYSTEMS 0 })
     none

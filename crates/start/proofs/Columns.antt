@@ -25,29 +25,36 @@ module _ (ch : List ℕ) (c share odd : ℕ) (a : List ℕ) where
   column-length : (n : ℕ) → length (columnTo ch c share odd a n) ≡ length a
   unfolding columnTo
   column-length zero = refl
-  column-length (suc n) = length-set (columnTo ch c share odd a n) (n * COMPONENTS + c) (sharedRow ch c share odd n) ∙ column-length n
+  column-length (suc n) =
+      length-set (columnTo ch c share odd a n) (n * COMPONENTS + c) (sharedRow ch c share odd n) ∙ column-length n
 
   -- the other cells stay
-  column-other : (n j : ℕ) → ((i : ℕ) → i < n → j ≡ i * COMPONENTS + c → ⊥) → getD (columnTo ch c share odd a n) j 0 ≡ getD a j 0
+  column-other : (n j : ℕ) → ((i : ℕ) → i < n → j ≡ i * COMPONENTS + c → ⊥)
+      → getD (columnTo ch c share odd a n) j 0 ≡ getD a j 0
   unfolding columnTo
   column-other zero j h = refl
   column-other (suc n) j h =
-      getD-set-other (columnTo ch c share odd a n) (n * COMPONENTS + c) j (sharedRow ch c share odd n) 0 (h n (omega arith))
+      getD-set-other (columnTo ch c share odd a n) (n * COMPONENTS + c) j (sharedRow ch c share odd n) 0
+          (h n (omega arith))
       ∙ column-other n j (λ i l. h i (omega arith))
 
   -- each of the rows has its part
-  column-row : (n s : ℕ) → s < n → c < COMPONENTS → n * COMPONENTS ≤ length a → getD (columnTo ch c share odd a n) (s * COMPONENTS + c) 0 ≡ sharedRow ch c share odd s
+  column-row : (n s : ℕ) → s < n → c < COMPONENTS → n * COMPONENTS ≤ length a
+      → getD (columnTo ch c share odd a n) (s * COMPONENTS + c) 0 ≡ sharedRow ch c share odd s
   unfolding columnTo
   column-row zero s h l m = absurd (not-suc-le-zero h)
   column-row (suc n) s h l m = go (eqb s n) refl (λ h′. column-row n s h′ l (omega arith))
     where
-      go : (b : Bool) → eqb s n ≡ b → (s < n → getD (columnTo ch c share odd a n) (s * COMPONENTS + c) 0 ≡ sharedRow ch c share odd s)
+      go : (b : Bool) → eqb s n ≡ b → (s < n
+          → getD (columnTo ch c share odd a n) (s * COMPONENTS + c) 0 ≡ sharedRow ch c share odd s)
           → getD (columnTo ch c share odd a (suc n)) (s * COMPONENTS + c) 0 ≡ sharedRow ch c share odd s
       go true e next =
-          rw (eqb-true s n e) (getD-set-same (columnTo ch c share odd a n) (n * COMPONENTS + c) (sharedRow ch c share odd n) 0 (omega (arith, column-length n)))
+          rw (eqb-true s n e) (getD-set-same (columnTo ch c share odd a n) (n * COMPONENTS + c)
+              (sharedRow ch c share odd n) 0 (omega (arith, column-length n)))
       go false e next =
           let d = eqb-false s n e in
-          getD-set-other (columnTo ch c share odd a n) (n * COMPONENTS + c) (s * COMPONENTS + c) (sharedRow ch c share odd n) 0 (λ q. d (omega arith)) ∙ next (omega arith)
+          getD-set-other (columnTo ch c share odd a n) (n * COMPONENTS + c) (s * COMPONENTS + c)
+              (sharedRow ch c share odd n) 0 (λ q. d (omega arith)) ∙ next (omega arith)
 
 -- ---- a column of marks: shares of 1
 
@@ -88,7 +95,8 @@ module _ (ch : List ℕ) (c : ℕ) (a : List ℕ) (low : c < COMPONENTS) (n : �
           ∙ sym (column-row ch c share odd a n (j / COMPONENTS) q low room)
           ∙ sym (ap (λ x. getD (columnTo ch c share odd a n) x 0) p)
 
-pub marks : (ch : List ℕ) (end c : ℕ) (a b : List ℕ) → Cells end c → length a ≡ CELLS → b ≡ columnTo ch c 1 0 a (end / COMPONENTS)
+pub marks : (ch : List ℕ) (end c : ℕ) (a b : List ℕ) → Cells end c → length a ≡ CELLS
+    → b ≡ columnTo ch c 1 0 a (end / COMPONENTS)
     → Marked ch end c b
 marks ch end c a b z long e = record {
   mark = λ s h. ap (λ l. getD l (s * COMPONENTS + c) 0) e
@@ -99,7 +107,8 @@ marks ch end c a b z long e = record {
 
 -- row s's part of component c
 abbrev share-of : List ℕ → List ℕ → ℕ → ℕ → ℕ → ℕ
-share-of mix ch k c s = sharedRow ch c (getD mix c 0 / max 1 (sharersOf ch c k)) (getD mix c 0 % max 1 (sharersOf ch c k)) s
+share-of mix ch k c s =
+    sharedRow ch c (getD mix c 0 / max 1 (sharersOf ch c k)) (getD mix c 0 % max 1 (sharersOf ch c k)) s
 
 module _ (mix ch : List ℕ) (k : ℕ) (a : List ℕ) where
   shared-length : (n : ℕ) → length (sharedTo mix ch k a n) ≡ length a
@@ -109,29 +118,36 @@ module _ (mix ch : List ℕ) (k : ℕ) (a : List ℕ) where
 
   module _ (s c : ℕ) (low : c < COMPONENTS) where
     -- cells of later components, and of rows past the k, stay
-    shared-other : (n : ℕ) → n ≤ COMPONENTS → ((i d : ℕ) → i < k → d < n → d < COMPONENTS → s * COMPONENTS + c ≡ i * COMPONENTS + d → ⊥)
+    shared-other : (n : ℕ) → n ≤ COMPONENTS
+        → ((i d : ℕ) → i < k → d < n → d < COMPONENTS → s * COMPONENTS + c ≡ i * COMPONENTS + d → ⊥)
         → getD (sharedTo mix ch k a n) (s * COMPONENTS + c) 0 ≡ getD a (s * COMPONENTS + c) 0
     unfolding sharedTo sharedOf
     shared-other zero m h = refl
     shared-other (suc n) m h =
-        column-other ch n _ _ (sharedTo mix ch k a n) k (s * COMPONENTS + c) (λ i l. h i n l (omega arith) (omega arith))
+        column-other ch n _ _ (sharedTo mix ch k a n) k (s * COMPONENTS + c)
+            (λ i l. h i n l (omega arith) (omega arith))
         ∙ shared-other n (omega arith) (λ i d l u. h i d l (omega arith))
 
-    shared-past : (n : ℕ) → n ≤ COMPONENTS → k ≤ s → getD (sharedTo mix ch k a n) (s * COMPONENTS + c) 0 ≡ getD a (s * COMPONENTS + c) 0
+    shared-past : (n : ℕ) → n ≤ COMPONENTS → k ≤ s → getD (sharedTo mix ch k a n) (s * COMPONENTS + c) 0 ≡ getD a
+        (s * COMPONENTS + c) 0
     shared-past n m h = shared-other n m (λ i d l u v e. omega arith)
 
-    shared-row : (n : ℕ) → n ≤ COMPONENTS → c < n → s < k → k * COMPONENTS ≤ length a → getD (sharedTo mix ch k a n) (s * COMPONENTS + c) 0 ≡ share-of mix ch k c s
+    shared-row : (n : ℕ) → n ≤ COMPONENTS → c < n → s < k → k * COMPONENTS ≤ length a
+        → getD (sharedTo mix ch k a n) (s * COMPONENTS + c) 0 ≡ share-of mix ch k c s
     unfolding sharedTo sharedOf
     shared-row zero m l h z = absurd (not-suc-le-zero l)
     shared-row (suc n) m l h z = go (eqb c n) refl (λ l′. shared-row n (omega arith) l′ h z)
       where
-        go : (b : Bool) → eqb c n ≡ b → (c < n → getD (sharedTo mix ch k a n) (s * COMPONENTS + c) 0 ≡ share-of mix ch k c s)
+        go : (b : Bool) → eqb c n ≡ b → (c < n
+            → getD (sharedTo mix ch k a n) (s * COMPONENTS + c) 0 ≡ share-of mix ch k c s)
             → getD (sharedTo mix ch k a (suc n)) (s * COMPONENTS + c) 0 ≡ share-of mix ch k c s
         go true e next =
-            rw (eqb-true c n e) (column-row ch n _ _ (sharedTo mix ch k a n) k s h (omega arith) (omega (arith, shared-length n)))
+            rw (eqb-true c n e) (column-row ch n _ _ (sharedTo mix ch k a n) k s h (omega arith)
+                (omega (arith, shared-length n)))
         go false e next =
             let d = eqb-false c n e in
-            column-other ch n _ _ (sharedTo mix ch k a n) k (s * COMPONENTS + c) (λ i u q. d (omega arith)) ∙ next (omega arith)
+            column-other ch n _ _ (sharedTo mix ch k a n) k (s * COMPONENTS + c) (λ i u q. d (omega arith))
+                ∙ next (omega arith)
 
 -- ---- rows beyond those that there is room for hold system 0, which contains no component
 
@@ -146,7 +162,8 @@ module _ (ch : List ℕ) (long : length ch ≤ SYSTEMS) (c : ℕ) (low : c < COM
       ap (sharersOf ch c) q
   sharers-room (suc k) = go (ltb k SYSTEMS) refl (sharers-room k)
     where
-      go : (b : Bool) → ltb k SYSTEMS ≡ b → sharersOf ch c (min SYSTEMS k) ≡ sharersOf ch c k → sharersOf ch c (min SYSTEMS (suc k)) ≡ sharersOf ch c (suc k)
+      go : (b : Bool) → ltb k SYSTEMS ≡ b → sharersOf ch c (min SYSTEMS k) ≡ sharersOf ch c k
+          → sharersOf ch c (min SYSTEMS (suc k)) ≡ sharersOf ch c (suc k)
       go true e ih =
           let l = ltb-true k SYSTEMS e in
           let q : min SYSTEMS (suc k) ≡ suc k = omega arith in
@@ -167,20 +184,26 @@ module _ (mix ch : List ℕ) (k : ℕ) (long : length ch ≤ SYSTEMS) where
       go : (b : Bool) → hasOf (systemOf ch s) c ≡ b → share-of mix ch (min SYSTEMS k) c s ≡ startAmount mix ch k s c
       go false e = rw e (cell-off mix ch k s c h (systemOf ch s) false refl (sym e) refl)
       go true e =
-          let some : 0 < sharersOf ch c k = some-sharer mix ch k s c h (systemOf ch s) true refl (sym e) (sharersOf ch c k) refl refl in
-          let n : max 1 (sharersOf ch c (min SYSTEMS k)) ≡ sharersOf ch c k = omega (arith, sharers-room ch long c l k) in
-          rw (e, n) (cell-on mix ch k s c h (systemOf ch s) true refl (sym e) _ (sharersOf ch c k) (sharersOf ch c s) refl refl refl refl)
+          let some : 0 < sharersOf ch c k = some-sharer mix ch k s c h (systemOf ch s) true refl (sym e)
+              (sharersOf ch c k) refl refl in
+          let n : max 1 (sharersOf ch c (min SYSTEMS k)) ≡ sharersOf ch c k =
+              omega (arith, sharers-room ch long c l k) in
+          rw (e, n) (cell-on mix ch k s c h (systemOf ch s) true refl (sym e) _ (sharersOf ch c k)
+              (sharersOf ch c s) refl refl refl refl)
 
   abbrev zeros : List ℕ
   zeros = replicate CELLS 0
 
-  cell-is : (s c : ℕ) → s < SYSTEMS → c < COMPONENTS → getD (sharedTo mix ch (min SYSTEMS k) zeros COMPONENTS) (s * COMPONENTS + c) 0 ≡ startAmount mix ch k s c
+  cell-is : (s c : ℕ) → s < SYSTEMS → c < COMPONENTS → getD (sharedTo mix ch (min SYSTEMS k) zeros COMPONENTS)
+      (s * COMPONENTS + c) 0 ≡ startAmount mix ch k s c
   cell-is s c h l = go (ltb s k) refl
     where
-      go : (b : Bool) → ltb s k ≡ b → getD (sharedTo mix ch (min SYSTEMS k) zeros COMPONENTS) (s * COMPONENTS + c) 0 ≡ startAmount mix ch k s c
+      go : (b : Bool) → ltb s k ≡ b → getD (sharedTo mix ch (min SYSTEMS k) zeros COMPONENTS)
+          (s * COMPONENTS + c) 0 ≡ startAmount mix ch k s c
       go true e =
           let u = ltb-true s k e in
-          shared-row mix ch (min SYSTEMS k) zeros s c l COMPONENTS (omega arith) l (omega arith) (omega (arith, length-replicate {A = ℕ} CELLS 0)) ∙ given-is s c u l
+          shared-row mix ch (min SYSTEMS k) zeros s c l COMPONENTS (omega arith) l (omega arith)
+              (omega (arith, length-replicate {A = ℕ} CELLS 0)) ∙ given-is s c u l
       go false e =
           let u = ltb-false s k e in
           shared-past mix ch (min SYSTEMS k) zeros s c l COMPONENTS (omega arith) (omega arith)
@@ -212,9 +235,11 @@ pub done-none : (mix ch : List ℕ) (k : ℕ) → Done mix ch k (replicate CELLS
 unfolding sharedTo
 done-none mix ch k = record { most = omega arith; cells = refl }
 
-pub done-more : (mix ch : List ℕ) (k : ℕ) (a b : List ℕ) (n : ℕ) → n < COMPONENTS → Done mix ch k a n → b ≡ sharedOf ch k n (getD mix n 0) a → Done mix ch k b (n + 1)
+pub done-more : (mix ch : List ℕ) (k : ℕ) (a b : List ℕ) (n : ℕ) → n < COMPONENTS → Done mix ch k a n
+    → b ≡ sharedOf ch k n (getD mix n 0) a → Done mix ch k b (n + 1)
 unfolding sharedTo
-done-more mix ch k a b n h z e = record { most = omega arith; cells = rw (add-one n) (e ∙ ap (sharedOf ch k n (getD mix n 0)) (z .cells)) }
+done-more mix ch k a b n h z e =
+    record { most = omega arith; cells = rw (add-one n) (e ∙ ap (sharedOf ch k n (getD mix n 0)) (z .cells)) }
 
 -- a component of which the mixture has nothing is passed over: its cells hold 0
 row-none : (ch : List ℕ) (c s : ℕ) → sharedRow ch c 0 0 s ≡ 0
@@ -238,7 +263,8 @@ shared-none : (ch : List ℕ) (k c : ℕ) (a : List ℕ) → ((s : ℕ) → s < 
     → sharedOf ch k c 0 a ≡ a
 unfolding sharedOf
 shared-none ch k c a h =
-    ap₂ (λ (share odd : ℕ). columnTo ch c share odd a k) (zero-div (max 1 (sharersOf ch c k))) (zero-mod (max 1 (sharersOf ch c k)))
+    ap₂ (λ (share odd : ℕ). columnTo ch c share odd a k) (zero-div (max 1 (sharersOf ch c k)))
+        (zero-mod (max 1 (sharersOf ch c k)))
     ∙ column-none ch c a k h
 
 pub done-skip : (mix ch : List ℕ) (k : ℕ) (a : List ℕ) (n : ℕ) → n < COMPONENTS → k ≤ SYSTEMS → getD mix n 0 ≡ 0
@@ -254,15 +280,18 @@ done-skip mix ch k a n h few e z = record {
       ∙ getD-replicate {A = ℕ} CELLS (s * COMPONENTS + n) 0 0 (omega arith))));
 }
 
-pub done-all : (mix ch : List ℕ) (k : ℕ) (a : List ℕ) (n : ℕ) → COMPONENTS ≤ n → Done mix ch k a n → a ≡ sharedTo mix ch k (replicate CELLS 0) COMPONENTS
+pub done-all : (mix ch : List ℕ) (k : ℕ) (a : List ℕ) (n : ℕ) → COMPONENTS ≤ n → Done mix ch k a n
+    → a ≡ sharedTo mix ch k (replicate CELLS 0) COMPONENTS
 done-all mix ch k a n h z =
     let q : n ≡ COMPONENTS = omega (arith, z .most) in
     z .cells ∙ ap (sharedTo mix ch k (replicate CELLS 0)) q
 
 pub done-length : (mix ch : List ℕ) (k : ℕ) (a : List ℕ) (n : ℕ) → Done mix ch k a n → length a ≡ CELLS
-done-length mix ch k a n z = ap length (z .cells) ∙ shared-length mix ch k (replicate CELLS 0) n ∙ length-replicate {A = ℕ} CELLS 0
+done-length mix ch k a n z =
+    ap length (z .cells) ∙ shared-length mix ch k (replicate CELLS 0) n ∙ length-replicate {A = ℕ} CELLS 0
 
-pub start-is : (mix ch : List ℕ) (k r : ℕ) (a : List ℕ) → length ch ≤ SYSTEMS → r ≡ min SYSTEMS k * COMPONENTS → a ≡ sharedTo mix ch (r / COMPONENTS) (replicate CELLS 0) COMPONENTS → a ≡ startOf mix ch k
+pub start-is : (mix ch : List ℕ) (k r : ℕ) (a : List ℕ) → length ch ≤ SYSTEMS → r ≡ min SYSTEMS k * COMPONENTS
+    → a ≡ sharedTo mix ch (r / COMPONENTS) (replicate CELLS 0) COMPONENTS → a ≡ startOf mix ch k
 start-is mix ch k r a long e z =
     let q : r / COMPONENTS ≡ min SYSTEMS k = omega arith in
     z ∙ ap (λ x. sharedTo mix ch x (replicate CELLS 0) COMPONENTS) q ∙ all-shared mix ch k long

@@ -52,7 +52,9 @@ pub record Counted (ch : List ℕ) (end c r i : ℕ) : Type 0 where
 module _ (ch : List ℕ) (end c : ℕ) (z : Cells end c) where
   pub counted-none : Counted ch end c 0 c
   unfolding sharersOf
-  counted-none = record { row = 0; at = omega arith; past = omega arith; count = sum-none (λ s. cond (hasOf (systemOf ch s) c) 1 0); few = omega arith }
+  counted-none =
+      record { row = 0; at = omega arith; past = omega arith; count = sum-none
+      (λ s. cond (hasOf (systemOf ch s) c) 1 0); few = omega arith }
 
   -- a cell's system and component
   here-is : (i row y : ℕ) → i ≡ row * COMPONENTS + c → y ≡ containedAt ch i → y ≡ cond (hasOf (systemOf ch row) c) 1 0
@@ -68,7 +70,9 @@ module _ (ch : List ℕ) (end c : ℕ) (z : Cells end c) where
       row = w .row + 1;
       at = omega (arith, w .at);
       past = omega (arith, w .at, z .whole, z .low);
-      count = sum-more (λ s. cond (hasOf (systemOf ch s) c) 1 0) (w .row) r y (w .count) (here-is i (w .row) y (w .at) (e .0));
+      count =
+          sum-more (λ s. cond (hasOf (systemOf ch s) c) 1 0) (w .row) r y (w .count)
+          (here-is i (w .row) y (w .at) (e .0));
       few = omega (arith, w .few, e .1);
     }
 
@@ -109,7 +113,8 @@ module _ (ch : List ℕ) (end c share odd : ℕ) (a : List ℕ) (z : Cells end c
       cells =
           rw (add-one (w .counted .row), w .counted .at)
           (ap₂ (λ l x. set l (w .counted .row * COMPONENTS + c) x) (w .cells)
-          (p ∙ ap₂ (λ x y. partOf x share odd y) (here-is ch end c z i (w .counted .row) here (w .counted .at) (e .0)) (w .counted .count)));
+          (p ∙ ap₂ (λ x y. partOf x share odd y) (here-is ch end c z i (w .counted .row) here (w .counted .at) (e .0))
+          (w .counted .count)));
     }
 
     pub written-all : end ≤ i → b ≡ columnTo ch c share odd a (end / COMPONENTS)
@@ -138,7 +143,8 @@ module _ (ch : List ℕ) (end c share odd : ℕ) (a : List ℕ) (z : Cells end c
         let d : i % COMPONENTS ≡ c = omega (arith, n .at, z .low) in
         let m = w .rest (n .row) (omega arith) (omega (arith, n .at, z .whole, z .low)) in
         let is : here ≡ cond (hasOf (systemOf ch (n .row)) c) 1 0 = e ∙ ap (λ x. getD b x 0) (n .at) ∙ m in
-        (is ∙ sym (ap₂ (λ x u. cond (hasOf (systemOf ch x) u) 1 0) row d), subst⁻¹ (λ (x : ℕ). x ≤ 1) is (one-most (hasOf (systemOf ch (n .row)) c)))
+        (is ∙ sym (ap₂ (λ x u. cond (hasOf (systemOf ch x) u) 1 0) row d),
+        subst⁻¹ (λ (x : ℕ). x ≤ 1) is (one-most (hasOf (systemOf ch (n .row)) c)))
 
     pub rewritten-more : (here v : ℕ) → i < end → here ≡ getD b i 0 → v ≡ partOf here share odd rank
         → Rewritten ch end c share odd a (set b i v) (rank + here) (i + COMPONENTS)
@@ -164,8 +170,10 @@ small q (suc n) r t h e = omega (arith, N.mul-suc q n, e)
 pub shares-fit : (t n : ℕ) → 1 ≤ n → t / n + t % n ≤ t
 shares-fit t n h = small (t / n) n (t % n) t h (N.div-add-mod' t n)
 
-pub shared-is : (ch : List ℕ) (end c t n : ℕ) (a m b : List ℕ) → Cells end c → length a ≡ CELLS → n ≡ max 1 (sharersOf ch c (end / COMPONENTS))
-    → m ≡ columnTo ch c 1 0 a (end / COMPONENTS) → b ≡ columnTo ch c (t / n) (t % n) m (end / COMPONENTS) → b ≡ sharedOf ch (end / COMPONENTS) c t a
+pub shared-is : (ch : List ℕ) (end c t n : ℕ) (a m b : List ℕ) → Cells end c → length a ≡ CELLS
+    → n ≡ max 1 (sharersOf ch c (end / COMPONENTS))
+    → m ≡ columnTo ch c 1 0 a (end / COMPONENTS) → b ≡ columnTo ch c (t / n) (t % n) m (end / COMPONENTS)
+    → b ≡ sharedOf ch (end / COMPONENTS) c t a
 unfolding sharedOf
 shared-is ch end c t n a m b z long e q p =
     p ∙ ap (λ l. columnTo ch c (t / n) (t % n) l (end / COMPONENTS)) q

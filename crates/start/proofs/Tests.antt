@@ -27,8 +27,11 @@ module _ (mix : List ℕ) where
   pub added-none : Added mix 0 0
   added-none = record { most = omega arith; all = sum-none (λ e. getD mix e 0); few = omega arith }
 
-  pub added-more : (sum c x : ℕ) → c < COMPONENTS → Added mix sum c → (x ≡ getD mix c 0) × (x ≤ 4294967295) → Added mix (sum + x) (c + 1)
-  added-more sum c x h z e = record { most = omega arith; all = sum-more (λ e. getD mix e 0) c sum x (z .all) (e .0); few = omega (arith, z .few, e .1) }
+  pub added-more : (sum c x : ℕ) → c < COMPONENTS → Added mix sum c → (x ≡ getD mix c 0) × (x ≤ 4294967295)
+      → Added mix (sum + x) (c + 1)
+  added-more sum c x h z e =
+      record { most = omega arith; all = sum-more (λ e. getD mix e 0) c sum x (z .all) (e .0); few = omega
+      (arith, z .few, e .1) }
 
   pub added-fit : (sum c : ℕ) → COMPONENTS ≤ c → Added mix sum c → leb sum MILLION ≡ mixtureFit mix
   unfolding mixtureFit
@@ -69,7 +72,9 @@ module _ (ch : List ℕ) (k : ℕ) where
 
   module _ (s : ℕ) (z : Tested ch k s) where
     pub tested-more : (r : ℕ) → 0 < s → r ≡ memberOf (systemOf ch (s - 1)) 0 → r < COMPONENTS → Tested ch k (s - 1)
-    tested-more r h e n = record { low = omega (arith, z .low); rest = all-next (passes ch) k s h (on-candidate (systemOf ch (s - 1)) r e n) (z .rest) }
+    tested-more r h e n =
+        record { low = omega (arith, z .low); rest = all-next (passes ch) k s h
+        (on-candidate (systemOf ch (s - 1)) r e n) (z .rest) }
 
     module _ (some : k ≡ 0 → ⊥) (most : k ≤ SYSTEMS) where
       is-all : (b : Bool) → allTo (passes ch) k ≡ b → b ≡ chosenFit ch k
@@ -77,7 +82,8 @@ module _ (ch : List ℕ) (k : ℕ) where
       is-all b e = rw (lt-ltb 0 k (omega (arith, some)), le-leb k SYSTEMS most, chosenFit) (sym e)
 
       pub tested-off : (r : ℕ) → 0 < s → r ≡ memberOf (systemOf ch (s - 1)) 0 → COMPONENTS ≤ r → false ≡ chosenFit ch k
-      tested-off r h e n = is-all false (sym (all-false (passes ch) k s h (off-candidate (systemOf ch (s - 1)) r e n) (z .rest)))
+      tested-off r h e n =
+          is-all false (sym (all-false (passes ch) k s h (off-candidate (systemOf ch (s - 1)) r e n) (z .rest)))
 
       pub tested-all : s ≤ 0 → true ≡ chosenFit ch k
       tested-all h = is-all true (sym (all-end (passes ch) k s h (z .rest)))

@@ -15,7 +15,8 @@ use Rattle.systems.specs.Laws.Table.{everyTo, eachTo, agree, agree-at, b
 abbrev pub digitAt : ℕ → ℕ → ℕ
 digitAt table place = table / 2 ^ (place * 3) % 8
 
-pub member-is : (table j : ℕ) → T (agree (digitAt table) (λ s. memberOf s j) NUMBERS) → (system r : ℕ) → system < NUMBERS → r ≡ digitAt table system → r ≡ memberOf system j
+pub member-is : (table j : ℕ) → T (agree (digitAt table) (λ s. memberOf s j) NUMBERS) → (system r : ℕ)
+    → system < NUMBERS → r ≡ digitAt table system → r ≡ memberOf system j
 member-is table j t system r h e = e ∙ agree-at (digitAt table) (λ s. memberOf s j) NUMBERS t system h
 
 -- ---- what a system contains: a bit for each system number and component, and for COMPONENTS
@@ -29,9 +30,11 @@ holds table system c = Bool·beq (bitAt table system c) (hasOf system c)
 abbrev pub holdsAll : ℕ → ℕ → Bool
 holdsAll table system = everyTo (holds table system) (COMPONENTS + 1)
 
-pub held-is : (table : ℕ) → T (everyTo (holdsAll table) NUMBERS) → (system c : ℕ) → system < NUMBERS → c ≤ COMPONENTS → bitAt table system c ≡ hasOf system c
+pub held-is : (table : ℕ) → T (everyTo (holdsAll table) NUMBERS) → (system c : ℕ) → system < NUMBERS → c ≤ COMPONENTS
+    → bitAt table system c ≡ hasOf system c
 held-is table t system c h l =
-    beq-is (bitAt table system c) (hasOf system c) (eachTo (holds table system) (COMPONENTS + 1) (eachTo (holdsAll table) NUMBERS t system h) c (omega arith))
+    beq-is (bitAt table system c) (hasOf system c)
+        (eachTo (holds table system) (COMPONENTS + 1) (eachTo (holdsAll table) NUMBERS t system h) c (omega arith))
 
 -- a number past the table has no members but COMPONENTS
 pub has-none : (system c : ℕ) → NUMBERS ≤ system → eqb c COMPONENTS ≡ hasOf system c
@@ -55,7 +58,8 @@ has-past system c h l = rw (other 0 (omega arith), other 1 (omega arith), other 
   where
     other : (j : ℕ) → j < 3 → eqb c (memberOf system j) ≡ false
     other j k =
-        let m : memberOf system j ≤ COMPONENTS = leb→le (memberOf system j) COMPONENTS (eachTo (λ j. leb (memberOf system j) COMPONENTS) 3 (eachTo few NUMBERS tt system h) j k) in
+        let m : memberOf system j ≤ COMPONENTS = leb→le (memberOf system j) COMPONENTS
+            (eachTo (λ j. leb (memberOf system j) COMPONENTS) 3 (eachTo few NUMBERS tt system h) j k) in
         ne-eqb c (memberOf system j) (λ e. absurd (omega arith))
 
 -- ---- a system's components as a mask
@@ -63,7 +67,8 @@ has-past system c h l = rw (other 0 (omega arith), other 1 (omega arith), other 
 abbrev pub maskAt : ℕ → ℕ → ℕ
 maskAt table system = table / 2 ^ (system * (COMPONENTS + 1)) % 2 ^ COMPONENTS
 
-pub mask-is : (table : ℕ) → T (agree (maskAt table) maskOf NUMBERS) → (system : ℕ) → system < NUMBERS → maskAt table system ≡ maskOf system
+pub mask-is : (table : ℕ) → T (agree (maskAt table) maskOf NUMBERS) → (system : ℕ) → system < NUMBERS
+    → maskAt table system ≡ maskOf system
 mask-is table t system h = agree-at (maskAt table) maskOf NUMBERS t system h
 
 -- a number past the table has none

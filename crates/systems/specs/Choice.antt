@@ -23,7 +23,8 @@ weightedParts mix c = getD weights c 0 * getD mix c 0
 -- a system's fitness times 480, over the three components that it contains
 unfoldable pub fitnessOf : List ℕ → ℕ → ℕ
 fitnessOf mix system =
-    weightedParts mix (memberOf system 0) + weightedParts mix (memberOf system 1) + weightedParts mix (memberOf system 2)
+    weightedParts mix (memberOf system 0) + weightedParts mix (memberOf system 1) + weightedParts mix
+        (memberOf system 2)
 
 -- the weighted parts of all components below n
 unfoldable pub allTo : List ℕ → ℕ → ℕ

@@ -22,7 +22,10 @@ use Rattle.systems.specs.Laws.Table.{of-true, to-true, every, each, ever
 use Rattle.systems.specs.Laws.Members.{countTo}
 use Rattle.systems.specs.Laws.Presence.{present-is, present-lt, standing-more, offered-candidate}
 use Rattle.systems.specs.Fittest.{elem-here, elem-there, rises, Fittest, fittest-is}
-use Rattle.systems.specs.Choice.{NUMBERS, order, fold, maskFrom, maskOf, inMask, presentOf, presentCount, presentIn, keep, containingOf, openOf, fittestOf, takeOf, passOf, marksOf, listOf, chosenOf, chooseBy, chooseOf, paddedOf, choiceOf, standingOf, candidatesFor, candidatesOf}
+use Rattle.systems.specs.Choice.{NUMBERS, order, fold, maskFrom, maskOf, inMask, presentOf, presentCount}
+use Rattle.systems.specs.Choice.{presentIn, keep, containingOf, openOf, fittestOf, takeOf, passOf, marksOf}
+use Rattle.systems.specs.Choice.{listOf, chosenOf, chooseBy, chooseOf, paddedOf, choiceOf, standingOf}
+use Rattle.systems.specs.Choice.{candidatesFor, candidatesOf}
 
 -- the test passes at some number of the list
 abbrev pub some : (ℕ → Bool) → List ℕ → Bool
@@ -68,7 +71,8 @@ abbrev pub always : (List Bool → Bool) → (ℕ → ℕ) → List ℕ → ℕ 
 always good rank systems wanted [] marks = good marks
 always good rank systems wanted (c ∷ cs) marks =
     cond (ltb (containingOf systems marks c) wanted)
-    (not (openOf marks c 0) && (some (openOf marks c) systems && eachTop rank systems marks c (λ s. always good rank systems wanted cs (set marks s true))))
+    (not (openOf marks c 0) && (some (openOf marks c) systems
+    && eachTop rank systems marks c (λ s. always good rank systems wanted cs (set marks s true))))
     (always good rank systems wanted cs marks)
 
 -- a key that puts higher ranks first takes a system of the highest rank

@@ -13,5 +13,6 @@ pub result-back : {z x : ℤ} → mag z < 2 ^ 63 → z ≡ x → toZ w64 (ofZ w6
 result-back {z} h e = read-back z h ∙ e
 
 -- the result of a step of what stands in bits
-pub step-back : {z acc acc′ c c′ : ℤ} (n d : ℕ) → mag z < 2 ^ 63 → z ≡ stepZ acc′ n d c′ → acc′ ≡ acc → c′ ≡ c → toZ w64 (ofZ w64 z) ≡ stepZ acc n d c
+pub step-back : {z acc acc′ c c′ : ℤ} (n d : ℕ) → mag z < 2 ^ 63 → z ≡ stepZ acc′ n d c′ → acc′ ≡ acc → c′ ≡ c
+    → toZ w64 (ofZ w64 z) ≡ stepZ acc n d c
 step-back n d h e p q = result-back h e ∙ ap₂ (λ (x y : ℤ). stepZ x n d y) p q

@@ -10,7 +10,8 @@ use Rattle.formula.specs.WorkingRule.{stepZ, horner, coefs, sumAbs, worked, row
 abbrev pub stepsOf : ℕ → ℕ → ℤ → ℤ → ℤ → ℤ → ℤ → ℤ
 stepsOf n d h r3 r2 r1 r0 = stepZ (stepZ (stepZ (stepZ h n d r3) n d r2) n d r1) n d r0
 
-module _ (h r3 r2 r1 r0 : ℤ) (n d : ℕ) (n≤d : n ≤ d) (small : natAbs h + natAbs r3 + natAbs r2 + natAbs r1 + natAbs r0 ≤ LARGEST) where
+module _ (h r3 r2 r1 r0 : ℤ) (n d : ℕ) (n≤d : n ≤ d)
+    (small : natAbs h + natAbs r3 + natAbs r2 + natAbs r1 + natAbs r0 ≤ LARGEST) where
   pub room-3 : natAbs h + natAbs r3 ≤ LARGEST
   room-3 = omega arith
 
@@ -21,7 +22,8 @@ module _ (h r3 r2 r1 r0 : ℤ) (n d : ℕ) (n≤d : n ≤ d) (small : natAbs h +
   room-1 = omega (arith, step-le h r3 n≤d, step-le (stepZ h n d r3) r2 n≤d)
 
   pub room-0 : natAbs (stepZ (stepZ (stepZ h n d r3) n d r2) n d r1) + natAbs r0 ≤ LARGEST
-  room-0 = omega (arith, step-le h r3 n≤d, step-le (stepZ h n d r3) r2 n≤d, step-le (stepZ (stepZ h n d r3) n d r2) r1 n≤d)
+  room-0 =
+      omega (arith, step-le h r3 n≤d, step-le (stepZ h n d r3) r2 n≤d, step-le (stepZ (stepZ h n d r3) n d r2) r1 n≤d)
 
 -- room for two numbers is room for their equals
 pub room-moved : {x x′ y y′ : ℤ} → x′ ≡ x → y′ ≡ y → natAbs x + natAbs y ≤ LARGEST → natAbs x′ + natAbs y′ ≤ LARGEST
@@ -29,27 +31,37 @@ room-moved e f h = omega (arith, ap natAbs e, ap natAbs f)
 
 -- ---- the rows of a list of coefficients
 
-sums : (a : ℕ → ℤ) → sumAbs (coefs a 16 4) + sumAbs (coefs a 14 2) + sumAbs (coefs a 11 3) + sumAbs (coefs a 7 4) + sumAbs (coefs a 0 7) ≤ sumAbs (coefs a 0 20)
+sums : (a : ℕ → ℤ) → sumAbs (coefs a 16 4) + sumAbs (coefs a 14 2) + sumAbs (coefs a 11 3) + sumAbs
+    (coefs a 7 4) + sumAbs (coefs a 0 7) ≤ sumAbs (coefs a 0 20)
 unfolding coefs sumAbs
 sums a = omega arith
 
-steps-worked : (a : ℕ → ℤ) (n1 n2 d : ℕ) → stepsOf n1 d (horner n1 d (coefs a 16 4)) (horner n2 d (coefs a 14 2)) (horner n2 d (coefs a 11 3)) (horner n2 d (coefs a 7 4)) (horner n2 d (coefs a 0 7)) ≡ worked n1 n2 d (rowsOf a)
+steps-worked : (a : ℕ → ℤ) (n1 n2 d : ℕ) → stepsOf n1 d (horner n1 d (coefs a 16 4)) (horner n2 d (coefs a 14 2))
+    (horner n2 d (coefs a 11 3)) (horner n2 d (coefs a 7 4)) (horner n2 d (coefs a 0 7)) ≡ worked n1 n2 d (rowsOf a)
 unfolding worked rowsOf coefs horner
 steps-worked a n1 n2 d = refl
 
-steps-moved : (n d : ℕ) {h h′ x x′ y y′ z z′ u u′ : ℤ} → h ≡ h′ → x ≡ x′ → y ≡ y′ → z ≡ z′ → u ≡ u′ → stepsOf n d h x y z u ≡ stepsOf n d h′ x′ y′ z′ u′
+steps-moved : (n d : ℕ) {h h′ x x′ y y′ z z′ u u′ : ℤ} → h ≡ h′ → x ≡ x′ → y ≡ y′ → z ≡ z′ → u ≡ u′
+    → stepsOf n d h x y z u ≡ stepsOf n d h′ x′ y′ z′ u′
 steps-moved n d p q r s t =
-    ap₂ (λ (x y : ℤ). stepZ x n d y) (ap₂ (λ (x y : ℤ). stepZ x n d y) (ap₂ (λ (x y : ℤ). stepZ x n d y) (ap₂ (λ (x y : ℤ). stepZ x n d y) p q) r) s) t
+    ap₂ (λ (x y : ℤ). stepZ x n d y)
+        (ap₂ (λ (x y : ℤ). stepZ x n d y) (ap₂ (λ (x y : ℤ). stepZ x n d y) (ap₂ (λ (x y : ℤ). stepZ x n d y) p q) r)
+        s) t
 
-module _ (a : ℕ → ℤ) (n1 n2 d e : ℕ) {h r3 r2 r1 r0 : ℤ} (h-is : h ≡ horner n1 d (coefs a 16 4)) (r3-is : r3 ≡ horner n2 e (coefs a 14 2)) (r2-is : r2 ≡ horner n2 e (coefs a 11 3)) (r1-is : r1 ≡ horner n2 e (coefs a 7 4)) (r0-is : r0 ≡ horner n2 e (coefs a 0 7)) where
+module _ (a : ℕ → ℤ) (n1 n2 d e : ℕ) {h r3 r2 r1 r0 : ℤ} (h-is : h ≡ horner n1 d (coefs a 16 4))
+    (r3-is : r3 ≡ horner n2 e (coefs a 14 2)) (r2-is : r2 ≡ horner n2 e (coefs a 11 3))
+    (r1-is : r1 ≡ horner n2 e (coefs a 7 4)) (r0-is : r0 ≡ horner n2 e (coefs a 0 7)) where
   -- the rule of the coefficients leaves the rows room together
-  pub rows-room : n1 ≤ d → n2 ≤ e → sumAbs (coefs a 0 20) ≤ LARGEST → natAbs h + natAbs r3 + natAbs r2 + natAbs r1 + natAbs r0 ≤ LARGEST
+  pub rows-room : n1 ≤ d → n2 ≤ e → sumAbs (coefs a 0 20) ≤ LARGEST
+      → natAbs h + natAbs r3 + natAbs r2 + natAbs r1 + natAbs r0 ≤ LARGEST
   rows-room n1≤d n2≤e small =
       rw (h-is, r3-is, r2-is, r1-is, r0-is)
-      (omega (arith, sums a, horner-le n1 d (coefs a 16 4) n1≤d, horner-le n2 e (coefs a 14 2) n2≤e, horner-le n2 e (coefs a 11 3) n2≤e, horner-le n2 e (coefs a 7 4) n2≤e, horner-le n2 e (coefs a 0 7) n2≤e))
+      (omega (arith, sums a, horner-le n1 d (coefs a 16 4) n1≤d, horner-le n2 e (coefs a 14 2) n2≤e,
+      horner-le n2 e (coefs a 11 3) n2≤e, horner-le n2 e (coefs a 7 4) n2≤e, horner-le n2 e (coefs a 0 7) n2≤e))
 
   pub rows-worked : d ≡ e → stepsOf n1 d h r3 r2 r1 r0 ≡ worked n1 n2 d (rowsOf a)
   rows-worked p =
       steps-moved n1 d h-is r3-is r2-is r1-is r0-is
-      ∙ ap (λ (x : ℕ). stepsOf n1 d (horner n1 d (coefs a 16 4)) (horner n2 x (coefs a 14 2)) (horner n2 x (coefs a 11 3)) (horner n2 x (coefs a 7 4)) (horner n2 x (coefs a 0 7))) (sym p)
+      ∙ ap (λ (x : ℕ). stepsOf n1 d (horner n1 d (coefs a 16 4)) (horner n2 x (coefs a 14 2))
+      (horner n2 x (coefs a 11 3)) (horner n2 x (coefs a 7 4)) (horner n2 x (coefs a 0 7))) (sym p)
       ∙ steps-worked a n1 n2 d

@@ -65,7 +65,9 @@ module _ (system n1 n2 n3 : ℕ) (r : List ℕ) (e : r ≡ rangesOf system) (d :
 
   all-is : x && (y && z) ≡ sharesInRange system n1 n2 n3
   unfolding sharesInRange
-  all-is = ap (λ (u : ℕ). shareIn (getD r 0 0) (getD r 1 0) n1 u && (shareIn (getD r 2 0) (getD r 3 0) n2 u && shareIn (getD r 4 0) (getD r 5 0) n3 u)) f
+  all-is =
+      ap (λ (u : ℕ). shareIn (getD r 0 0) (getD r 1 0) n1 u
+      && (shareIn (getD r 2 0) (getD r 3 0) n2 u && shareIn (getD r 4 0) (getD r 5 0) n3 u)) f
       ∙ ap (λ (u : List ℕ). sharesIn u n1 n2 n3) e
 
   pub first-out : x ≡ false → false ≡ sharesInRange system n1 n2 n3
@@ -99,7 +101,8 @@ pub with-ranged : (s n1 n2 n3 : ℕ) (r : Partial) → r ≡ partialOf s n1 n2 n
 with-ranged s n1 n2 n3 r e = (e, ap numberOf e ∙ partial-refusal s n1 n2 n3)
 
 -- the refusal of a sum d that is that of the three amounts
-pub out-of-range : (s n1 n2 n3 d : ℕ) → d ≡ n1 + n2 + n3 → (n : ℕ) → n ≡ cond (isSystem s) (cond (isMixture d) SHARE NO_MIXTURE) NO_SYSTEM
+pub out-of-range : (s n1 n2 n3 d : ℕ) → d ≡ n1 + n2 + n3 → (n : ℕ)
+    → n ≡ cond (isSystem s) (cond (isMixture d) SHARE NO_MIXTURE) NO_SYSTEM
     → sharesInRange s n1 n2 n3 ≡ false → Refused n ≡ partialOf s n1 n2 n3
 out-of-range s n1 n2 n3 d e n q h =
     ap Refused (q ∙ ap (λ (x : ℕ). cond (isSystem s) (cond (isMixture x) SHARE NO_MIXTURE) NO_SYSTEM) e)

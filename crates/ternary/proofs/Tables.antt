@@ -21,7 +21,8 @@ pub small-table : (s : ℕ) (t : List ℤ) → t ≡ tableOf s → Bounded t
 small-table s t e = subst⁻¹ Bounded e (record { sum = small s })
 
 -- a result for a table and ratios that are those of a system, n1, n2 and d
-pub number-is : (s n1 n2 d n1′ n2′ d′ : ℕ) (t : List ℤ) → t ≡ tableOf s → n1′ ≡ n1 → n2′ ≡ n2 → d′ ≡ d → worked n1′ n2′ d′ (rowsOf (inTable t)) ≡ worked n1 n2 d (rowsOf (coeffOf s))
+pub number-is : (s n1 n2 d n1′ n2′ d′ : ℕ) (t : List ℤ) → t ≡ tableOf s → n1′ ≡ n1 → n2′ ≡ n2 → d′ ≡ d
+    → worked n1′ n2′ d′ (rowsOf (inTable t)) ≡ worked n1 n2 d (rowsOf (coeffOf s))
 number-is s n1 n2 d n1′ n2′ d′ t h e f g =
     ap (λ (x : ℕ). worked x n2′ d′ (rowsOf (inTable t))) e
     ∙ ap (λ (x : ℕ). worked n1 x d′ (rowsOf (inTable t))) f
@@ -37,14 +38,16 @@ module _ (s n1 n2 d : ℕ) (known : isSystem s ≡ true) (h : n1 + n2 ≤ d) whe
   pub sum-refused : isMixture d ≡ false → Refused 12 ≡ formulaOf s n1 n2 (d - n1 - n2)
   sum-refused k = sym (formula-12 s n1 n2 (d - n1 - n2) known (ap isMixture whole ∙ k))
 
-  pub sum-number : (z : ℤ) → z ≡ worked n1 n2 d (rowsOf (coeffOf s)) → 0 < d → d ≤ MILLION → Number z ≡ formulaOf s n1 n2 (d - n1 - n2)
+  pub sum-number : (z : ℤ) → z ≡ worked n1 n2 d (rowsOf (coeffOf s)) → 0 < d → d ≤ MILLION
+      → Number z ≡ formulaOf s n1 n2 (d - n1 - n2)
   unfolding partialNumber
   sum-number z e k l =
       ap Number (e ∙ ap (λ (x : ℕ). worked n1 n2 x (rowsOf (coeffOf s))) (sym whole))
       ∙ sym (formula-is s n1 n2 (d - n1 - n2) known (omega (arith, whole)) (omega (arith, whole)))
 
 -- an answer that is so has this number
-pub with-number : (s n1 n2 n3 : ℕ) (r : Partial) → r ≡ formulaOf s n1 n2 n3 → (r ≡ formulaOf s n1 n2 n3) × (numberOf r ≡ formulaRefusal s (n1 + n2 + n3))
+pub with-number : (s n1 n2 n3 : ℕ) (r : Partial) → r ≡ formulaOf s n1 n2 n3 → (r ≡ formulaOf s n1 n2 n3)
+    × (numberOf r ≡ formulaRefusal s (n1 + n2 + n3))
 with-number s n1 n2 n3 r e = (e, ap numberOf e ∙ formula-refusal s n1 n2 n3)
 
 -- and from there to the three amounts

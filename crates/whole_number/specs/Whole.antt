@@ -1,4 +1,5 @@
--- The whole number of a rating (document 01, "The split and the rating"): (rating + 5000000) / 10000000 rounded down. Assumes nothing.
+-- The whole number of a rating (document 01, "The split and the rating"): (rating + 5000000) / 10000000 rounded down.
+-- Assumes nothing.
 use lib.IntN.{ℤ, pos, _+ℤ_}
 use Rattle.integer.specs.Floor.{floorOver}
 

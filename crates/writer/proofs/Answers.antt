@@ -17,7 +17,9 @@ use Rattle.sheet.specs.Split.{allowedCount}
 use Rattle.sheet.specs.Components.{countOf}
 use Rattle.sheet.specs.Sheet.{sheetOf}
 use Rattle.sheet.specs.Write.{writeRefusal, writtenOf, WrittenAs}
-use Rattle.sheet.specs.Laws.Cases.{never, length-sheet, number-count, number-check, number-short, number-none, number-back, written-length, written-refused, written-back, left-sheet, left-same}
+use Rattle.sheet.specs.Laws.Cases.{never, length-sheet, number-count, number-check, number-short, number-none}
+use Rattle.sheet.specs.Laws.Cases.{number-back, written-length, written-refused, written-back, left-sheet}
+use Rattle.sheet.specs.Laws.Cases.{left-same}
 use Rattle.writer.specs.Inner.Answered.{Answered, roomFor}
 
 -- room or none
@@ -32,7 +34,8 @@ room-length len size h = ap (λ (t : Bool). cond t (Refused 14 0) (Length len)) 
 module _ (a : List ℕ) (p : Split) (size : ℕ) where
   pub answer-count : allowedCount (p .count) ≡ false → Answered a p size (Refused 1 0)
   answer-count h =
-      record { answer = sym (written-refused a p size 0 1 (number-count a p size h) (λ z. omega arith)); code = λ z. absurd (omega arith) }
+      record { answer = sym (written-refused a p size 0 1 (number-count a p size h) (λ z. omega arith)); code = λ z.
+          absurd (omega arith) }
 
   module _ (h : allowedCount (p .count) ≡ true) where
     -- what a refusal by the check says of the number
@@ -41,32 +44,39 @@ module _ (a : List ℕ) (p : Split) (size : ℕ) where
     refused-number number code e = go (eqb (analysisRefusal a) 0) refl e
       where
         go : (t : Bool) → eqb (analysisRefusal a) 0 ≡ t
-            → checked.Refused number code ≡ cond t checked.InRange (checked.Refused (analysisRefusal a) (cond (eqb (analysisRefusal a) 5) code 0))
-            → (analysisRefusal a ≡ 0 → ⊥) × (analysisRefusal a ≡ number) × (cond (eqb (analysisRefusal a) 5) code 0 ≡ code)
+            → checked.Refused number code ≡ cond t checked.InRange
+            (checked.Refused (analysisRefusal a) (cond (eqb (analysisRefusal a) 5) code 0))
+            → (analysisRefusal a ≡ 0 → ⊥) × (analysisRefusal a ≡ number)
+            × (cond (eqb (analysisRefusal a) 5) code 0 ≡ code)
         go true q e = let z : _≡_ {A = ℕ} 0 1 = cc in absurd (never z)
         go false q e = (eqb-false _ _ q, cc, cc)
 
-    refused-answer : (number code : ℕ) → Checking a (checked.Refused number code) → Answered a p size (Refused number code)
+    refused-answer : (number code : ℕ) → Checking a (checked.Refused number code)
+        → Answered a p size (Refused number code)
     refused-answer number code k =
         let q = refused-number number code (k .answer) in
         let g = written-refused a p size code (analysisRefusal a) (number-check a p size h (q .0)) (q .0) in
         record {
-          answer = sym (g ∙ ap (λ (x : ℕ). Refused (analysisRefusal a) x) (q .2) ∙ ap (λ (x : ℕ). Refused x code) (q .1));
+          answer =
+              sym (g ∙ ap (λ (x : ℕ). Refused (analysisRefusal a) x) (q .2) ∙ ap (λ (x : ℕ). Refused x code) (q .1));
           code = k .code;
         }
 
-    pub answer-check : (number code : ℕ) (y : Checked) → Checking a y → y ≡ checked.Refused number code → Answered a p size (Refused number code)
+    pub answer-check : (number code : ℕ) (y : Checked) → Checking a y → y ≡ checked.Refused number code
+        → Answered a p size (Refused number code)
     answer-check number code y k e = refused-answer number code (subst (λ (x : Checked). Checking a x) e k)
 
     in-range : (y : Checked) → Checking a y → y ≡ checked.InRange → analysisRefusal a ≡ 0
     in-range y k e = go (eqb (analysisRefusal a) 0) refl (subst (λ (x : Checked). Checking a x) e k .answer)
       where
         go : (t : Bool) → eqb (analysisRefusal a) 0 ≡ t
-            → checked.InRange ≡ cond t checked.InRange (checked.Refused (analysisRefusal a) (cond (eqb (analysisRefusal a) 5) 0 0)) → analysisRefusal a ≡ 0
+            → checked.InRange ≡ cond t checked.InRange
+            (checked.Refused (analysisRefusal a) (cond (eqb (analysisRefusal a) 5) 0 0)) → analysisRefusal a ≡ 0
         go true q e = eqb-true _ _ q
         go false q e = let z : _≡_ {A = ℕ} 0 1 = cc in absurd (never z)
 
-    module _ (y : Checked) (k : Checking a y) (e : y ≡ checked.InRange) (n len : ℕ) (c : n ≡ countOf a) (l : len ≡ 2 + 5 * n + 6 * p .count) where
+    module _ (y : Checked) (k : Checking a y) (e : y ≡ checked.InRange) (n len : ℕ) (c : n ≡ countOf a)
+        (l : len ≡ 2 + 5 * n + 6 * p .count) where
       exact : len ≡ length (sheetOf a p)
       exact = omega (arith, length-sheet a p)
 
@@ -99,7 +109,8 @@ module _ (a : List ℕ) (p : Split) (b : List ℕ) (r : Written) (k : Answered a
       let g = number-back a p (length b) (written-back a p (length b) 0 (fits-of n e) .0) in
       (g .0, g .2)
 
-  pub wrote : (n : ℕ) → r ≡ Length n → (left : List ℕ) → left ≡ sheetOf a p ++ drop (length (sheetOf a p)) b → WrittenAs a p b r left
+  pub wrote : (n : ℕ) → r ≡ Length n → (left : List ℕ) → left ≡ sheetOf a p ++ drop (length (sheetOf a p)) b
+      → WrittenAs a p b r left
   wrote n e left d =
       record {
         answer = k .answer;
@@ -115,4 +126,5 @@ module _ (a : List ℕ) (p : Split) (b : List ℕ) (r : Written) (k : Answered a
       never w
 
   pub left-alone : (number code : ℕ) → r ≡ Refused number code → WrittenAs a p b r b
-  left-alone number code e = record { answer = k .answer; buffer = sym (left-same a p b (refused-not number code e)); code = k .code }
+  left-alone number code e =
+      record { answer = k .answer; buffer = sym (left-same a p b (refused-not number code e)); code = k .code }

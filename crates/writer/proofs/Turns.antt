@@ -21,15 +21,18 @@ add-three : (n : ℕ) → n + 3 ≡ suc (suc (suc n))
 add-three n = omega arith
 
 -- four bytes, one after the other, are a run
-pub four-bytes : (b b1 b2 b3 b4 : List ℕ) (at v0 v1 v2 v3 : ℕ) → b1 ≡ set b at v0 → b2 ≡ set b1 (at + 1) v1 → b3 ≡ set b2 (at + 2) v2
+pub four-bytes : (b b1 b2 b3 b4 : List ℕ) (at v0 v1 v2 v3 : ℕ) → b1 ≡ set b at v0 → b2 ≡ set b1 (at + 1) v1
+    → b3 ≡ set b2 (at + 2) v2
     → b4 ≡ set b3 (at + 3) v3 → b4 ≡ sets b at (v0 ∷ v1 ∷ v2 ∷ v3 ∷ [])
 four-bytes b b1 b2 b3 b4 at v0 v1 v2 v3 e1 e2 e3 e4 =
     e4
-    ∙ ap (λ (l : List ℕ). set l (at + 3) v3) (e3 ∙ ap (λ (l : List ℕ). set l (at + 2) v2) (e2 ∙ ap (λ (l : List ℕ). set l (at + 1) v1) e1))
+    ∙ ap (λ (l : List ℕ). set l (at + 3) v3)
+    (e3 ∙ ap (λ (l : List ℕ). set l (at + 2) v2) (e2 ∙ ap (λ (l : List ℕ). set l (at + 1) v1) e1))
     ∙ rw (add-one at, add-two at, add-three at)
 
 -- a byte and a run after it are a run
-pub byte-run : (b b1 b2 : List ℕ) (at v : ℕ) (u : List ℕ) → b1 ≡ set b at v → b2 ≡ sets b1 (at + 1) u → b2 ≡ sets b at (v ∷ u)
+pub byte-run : (b b1 b2 : List ℕ) (at v : ℕ) (u : List ℕ) → b1 ≡ set b at v → b2 ≡ sets b1 (at + 1) u
+    → b2 ≡ sets b at (v ∷ u)
 byte-run b b1 b2 at v u e1 e2 = e2 ∙ ap (λ (l : List ℕ). sets l (at + 1) u) e1 ∙ rw (add-one at)
 
 -- two runs, the second where the first ends, are one run
@@ -61,7 +64,8 @@ module _ (k : ℕ) (a : List ℕ) (h : k < length a) where
   pub component-none : getD a k 0 ≡ 0 → componentBytes k (drop k a) ≡ componentBytes (k + 1) (drop (k + 1) a)
   component-none z = rw (drop-cons a k 0 h, add-one) (simp (eq-eqb _ _ z))
 
-  pub component-one : (getD a k 0 ≡ 0 → ⊥) → componentBytes k (drop k a) ≡ k ∷ bytesOf (getD a k 0) ++ componentBytes (k + 1) (drop (k + 1) a)
+  pub component-one : (getD a k 0 ≡ 0 → ⊥) → componentBytes k (drop k a) ≡ k ∷ bytesOf (getD a k 0)
+      ++ componentBytes (k + 1) (drop (k + 1) a)
   component-one z = rw (drop-cons a k 0 h, add-one) (simp (ne-eqb _ _ z))
 
 module _ (k : ℕ) (a : List ℕ) (h : length a ≤ k) where
@@ -72,7 +76,8 @@ module _ (k : ℕ) (a : List ℕ) (h : length a ≤ k) where
   component-end = rw drop-of-length-le
 
 module _ (m i : ℕ) (xs ys zs : List ℕ) where
-  pub record-go : i < m → recordBytes (m - i) i xs ys zs ≡ getD xs i 0 ∷ getD ys i 0 ∷ bytesOf (getD zs i 0) ++ recordBytes (m - (i + 1)) (i + 1) xs ys zs
+  pub record-go : i < m → recordBytes (m - i) i xs ys zs ≡ getD xs i 0 ∷ getD ys i 0 ∷ bytesOf (getD zs i 0)
+      ++ recordBytes (m - (i + 1)) (i + 1) xs ys zs
   record-go h =
       let f : m - i ≡ suc (m - (i + 1)) = omega arith in
       rw f
@@ -83,7 +88,8 @@ module _ (m i : ℕ) (xs ys zs : List ℕ) where
       rw f
 
 -- the stores of a whole sheet
-pub sheet-put : (a : List ℕ) (p : Split) (b b1 b2 b3 b4 : List ℕ) (n at : ℕ) → n ≡ countOf a → b1 ≡ set b 0 n → at ≡ 1 + 5 * countOf a
+pub sheet-put : (a : List ℕ) (p : Split) (b b1 b2 b3 b4 : List ℕ) (n at : ℕ) → n ≡ countOf a → b1 ≡ set b 0 n
+    → at ≡ 1 + 5 * countOf a
     → b2 ≡ sets b1 1 (componentBytes 0 a) → b3 ≡ set b2 at (p .count) → b4 ≡ sets b3 (at + 1) (splitBytes p)
     → length (sheetOf a p) ≤ length b → b4 ≡ sheetOf a p ++ drop (length (sheetOf a p)) b
 sheet-put a p b b1 b2 b3 b4 n at en e1 ea e2 e3 e4 h =

@@ -1,4 +1,5 @@
--- `analysis::check` meets its contract. The loop's invariant: the lowest code at fault and the sum from this code on. Assumes nothing.
+-- `analysis::check` meets its contract. The loop's invariant: the lowest code at fault and the sum from this code on.
+-- Assumes nothing.
 use mathlib.Core.Path.{_≡_}
 use Prim.Native.Nat.{_-_, _<_}
 use lib.ListN.{length}

@@ -15,7 +15,8 @@ use Rattle.analysis.specs.Register.{CODES, register, statusOf}
 use Rattle.analysis.specs.declared.Checked.{Checked}
 use Rattle.analysis.specs.declared.Checked.the-variants.{InRange, Refused}
 use Rattle.analysis.specs.CheckedCases.{numberOf, faultOf}
-use Rattle.analysis.specs.Check.{leastOf, greatestOf, requiredOf, inRange, allInRange, totalOf, totalFits, analysisRefusal, checkedOf, Checking}
+use Rattle.analysis.specs.Check.{leastOf, greatestOf, requiredOf, inRange, allInRange, totalOf, totalFits}
+use Rattle.analysis.specs.Check.{analysisRefusal, checkedOf, Checking}
 use Rattle.analysis.specs.Laws.Required.{all-head, refusal-none, all-register, all-from}
 
 -- the number of the check's answer is the analysis's
@@ -46,13 +47,15 @@ module _ (least greatest x : ℕ) where
       → cond t absent (cond u (leb x greatest) false) ≡ true → (x ≡ 0 → ⊥) → least ≤ x
   by-least absent true u e d h n = absurd (n (eqb-true x 0 e))
   by-least absent false true e d h n = leb-true least x d
-  by-least absent false false e d h n = let z : _≡_ {A = Bool} false true = h in let y : _≡_ {A = ℕ} 0 1 = cc in absurd (omega arith)
+  by-least absent false false e d h n =
+      let z : _≡_ {A = Bool} false true = h in let y : _≡_ {A = ℕ} 0 1 = cc in absurd (omega arith)
 
   by-greatest : (absent t u : Bool) → eqb x 0 ≡ t → leb least x ≡ u
       → cond t absent (cond u (leb x greatest) false) ≡ true → x ≤ greatest
   by-greatest absent true u e d h = let z = eqb-true x 0 e in omega arith
   by-greatest absent false true e d h = leb-true x greatest h
-  by-greatest absent false false e d h = let z : _≡_ {A = Bool} false true = h in let y : _≡_ {A = ℕ} 0 1 = cc in absurd (omega arith)
+  by-greatest absent false false e d h =
+      let z : _≡_ {A = Bool} false true = h in let y : _≡_ {A = ℕ} 0 1 = cc in absurd (omega arith)
 
   by-required : (t u : Bool) → eqb x 0 ≡ t → leb least x ≡ u
       → cond t false (cond u (leb x greatest) false) ≡ true → x ≡ 0 → ⊥
@@ -62,11 +65,15 @@ module _ (least greatest x : ℕ) where
 module _ (code x : ℕ) (h : inRange code x ≡ true) where
   pub range-least : (x ≡ 0 → ⊥) → leastOf code ≤ x
   unfolding inRange
-  range-least n = by-least (leastOf code) (greatestOf code) x (not (requiredOf code)) (eqb x 0) (leb (leastOf code) x) refl refl h n
+  range-least n =
+      by-least (leastOf code) (greatestOf code) x (not (requiredOf code)) (eqb x 0) (leb (leastOf code) x) refl refl h
+      n
 
   pub range-greatest : x ≤ greatestOf code
   unfolding inRange
-  range-greatest = by-greatest (leastOf code) (greatestOf code) x (not (requiredOf code)) (eqb x 0) (leb (leastOf code) x) refl refl h
+  range-greatest =
+      by-greatest (leastOf code) (greatestOf code) x (not (requiredOf code)) (eqb x 0) (leb (leastOf code) x) refl
+      refl h
 
   pub range-present : requiredOf code ≡ true → x ≡ 0 → ⊥
   unfolding inRange
@@ -102,11 +109,13 @@ module _ (a : List ℕ) (h : analysisRefusal a ≡ 0) where
 
   pub passed-least : 999900 ≤ totalOf a
   unfolding totalFits
-  passed-least = leb-true 999900 (totalOf a) (all-head (leb 999900 (totalOf a)) (leb (totalOf a) 1000100) passed-total .0)
+  passed-least =
+      leb-true 999900 (totalOf a) (all-head (leb 999900 (totalOf a)) (leb (totalOf a) 1000100) passed-total .0)
 
   pub passed-greatest : totalOf a ≤ 1000100
   unfolding totalFits
-  passed-greatest = leb-true (totalOf a) 1000100 (all-head (leb 999900 (totalOf a)) (leb (totalOf a) 1000100) passed-total .1)
+  passed-greatest =
+      leb-true (totalOf a) 1000100 (all-head (leb 999900 (totalOf a)) (leb (totalOf a) 1000100) passed-total .1)
 
 -- the ranges as inequalities, code by code, and the total; what carbon dioxide and nitrogen have at least is not needed
 pub record WithinRanges (a : List ℕ) : Type 0 where
@@ -142,7 +151,8 @@ pub record WithinRanges (a : List ℕ) : Type 0 where
 module _ (a : List ℕ) (l : length a ≡ CODES) where
   -- the total is the sum over the codes
   pub total-sum : totalOf a
-      ≡ getD a 0 0 + getD a 1 0 + getD a 2 0 + getD a 3 0 + getD a 4 0 + getD a 5 0 + getD a 6 0 + getD a 7 0 + getD a 8 0
+      ≡ getD a 0 0 + getD a 1 0 + getD a 2 0 + getD a 3 0 + getD a 4 0 + getD a 5 0 + getD a 6 0 + getD a 7 0 + getD a
+      8 0
       + getD a 9 0 + getD a 10 0 + getD a 11 0 + getD a 12 0 + getD a 13 0 + getD a 14 0 + getD a 15 0
   total-sum =
       omega (

@@ -12,7 +12,9 @@ record-requires : tie.Need-record-requires
 record-requires c κs = search needs
 
 returns : tie.Need-returns
-returns c = c .«record» .ensures ∙ ap (λ (z : ℤ). recordOf z (c .before .args .spread)) (toZ-ofZ w64 (c .before .args .rating) (c .before .fits .rating))
+returns c =
+    c .«record» .ensures ∙ ap (λ (z : ℤ). recordOf z (c .before .args .spread))
+    (toZ-ofZ w64 (c .before .args .rating) (c .before .fits .rating))
 
 pub controller-record-spec : {M : Type 1} → statement M
 controller-record-spec = tie.close (tie.spec record-requires returns)

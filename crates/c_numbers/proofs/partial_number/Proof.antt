@@ -20,11 +20,14 @@ refused-requires : tie.Need-refused-requires
 refused-requires c κs = search needs
 
 returns : tie.Need-returns
-returns c = partial-done _ _ (sym (c .before .before .before .partial-number .ensures .0) ∙ c .before .partial .given .1) _ _
+returns c =
+    partial-done _ _ (sym (c .before .before .before .partial-number .ensures .0) ∙ c .before .partial .given .1) _ _
     (toZ-ofZ w64 _ (search needs))
 
 returns-2 : tie.Need-returns-2
-returns-2 c = partial-refused _ _ (sym (c .before .before .before .before .partial-number .ensures .0) ∙ c .before .before .partial2 .given .1) _ (c .refused .ensures) _
+returns-2 c =
+    partial-refused _ _ (sym (c .before .before .before .before .partial-number .ensures .0)
+    ∙ c .before .before .partial2 .given .1) _ (c .refused .ensures) _
 
 pub partial-number-spec : {M : Type 1} → statement M
 partial-number-spec =

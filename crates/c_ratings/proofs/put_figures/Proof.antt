@@ -17,7 +17,9 @@ enum-told : tie.Need-enum-told
 enum-told c = search needs
 
 returns : tie.Need-returns
-returns c = figures-put _ _ _ _ (c .before .before .answer .given .1) (c .before .before .before .before .pre) (cast-signed-rounds (c .before)) _
+returns c =
+    figures-put _ _ _ _ (c .before .before .answer .given .1) (c .before .before .before .before .pre)
+    (cast-signed-rounds (c .before)) _
 
 returns-2 : tie.Need-returns-2
 returns-2 c = figures-left _ _ _ (c .enum-told .given .1) _

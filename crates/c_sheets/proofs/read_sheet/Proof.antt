@@ -21,7 +21,8 @@ read-refused-requires c κs = search needs
 returns : tie.Need-returns
 returns c =
     let r = c .before .before .before .before .read in
-    let h : ReadAs (c .before .before .before .before .before .before .args .sheet .now) (r .result) = record { sheet = r .ensures .0; code = r .ensures .1 } in
+    let h : ReadAs (c .before .before .before .before .before .before .args .sheet .now) (r .result) =
+        record { sheet = r .ensures .0; code = r .ensures .1 } in
     let e = c .before .before .answer .given .1 in
     let o = c .read-refused .result in
     let q = c .read-refused .ensures in (
@@ -42,7 +43,8 @@ enum-told c = search needs
 returns-2 : tie.Need-returns-2
 returns-2 c =
     let r = c .before .before .before .before .before .before .read in
-    let h : ReadAs (c .before .before .before .before .before .before .before .before .args .sheet .now) (r .result) = record { sheet = r .ensures .0; code = r .ensures .1 } in
+    let h : ReadAs (c .before .before .before .before .before .before .before .before .args .sheet .now) (r .result) =
+        record { sheet = r .ensures .0; code = r .ensures .1 } in
     let e = c .before .before .before .before .enum-told .given .1 in
     let w = whole _ _ h e in (
       (

@@ -39,10 +39,14 @@ loop-less : tie.Need-loop-less Inv-loop μ-loop
 loop-less c = search needs
 
 loop-again : tie.Need-loop-again Inv-loop μ-loop
-loop-again c = (omega arith, omega (arith, c .weigh .ensures .1), all-next _ _ _ _ (c .before .before .loop .inv .2) (c .weigh .ensures .0))
+loop-again c =
+    (omega arith, omega (arith, c .weigh .ensures .1), all-next _ _ _ _ (c .before .before .loop .inv .2)
+    (c .weigh .ensures .0))
 
 returns : tie.Need-returns Inv-loop μ-loop
-returns c = let e : c .before .loop .c ≡ COMPONENTS = omega arith in (rw e at (c .before .loop .inv .2), rw e at (c .before .loop .inv .1))
+returns c =
+    let e : c .before .loop .c ≡ COMPONENTS = omega arith in
+    (rw e at (c .before .loop .inv .2), rw e at (c .before .loop .inv .1))
 
 pub above-spec : {M : Type 1} → statement M
 above-spec =

@@ -23,7 +23,11 @@ among-hydrocarbons-requires : tie.Need-among-hydrocarbons-requires
 among-hydrocarbons-requires c κs = search needs
 
 returns-2 : tie.Need-returns-2
-returns-2 c = choice-hydrocarbons _ _ _ (c .before .before .present .ensures) (c .before .if1 .left) (c .among-hydrocarbons .ensures)
+returns-2 c =
+    choice-hydrocarbons _ _ _ (c .before .before .present .ensures) (c .before .if1 .left)
+    (c .among-hydrocarbons .ensures)
 
 pub choose-spec : {M : Type 1} → statement M
-choose-spec = tie.close (tie.spec present-requires cast-if1 shr-if1 among-all-requires returns among-hydrocarbons-requires returns-2)
+choose-spec =
+    tie.close (tie.spec present-requires cast-if1 shr-if1 among-all-requires returns among-hydrocarbons-requires
+    returns-2)

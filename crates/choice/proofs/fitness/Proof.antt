@@ -41,10 +41,14 @@ loop-less : tie.Need-loop-less Inv-loop μ-loop
 loop-less c = search needs
 
 loop-again : tie.Need-loop-again Inv-loop μ-loop
-loop-again c = (omega arith, omega (arith, c .weighted .ensures .1), weighed-next _ _ _ _ _ (c .before .before .loop .inv .2) (c .weighted .ensures .0))
+loop-again c =
+    (omega arith, omega (arith, c .weighted .ensures .1), weighed-next _ _ _ _ _ (c .before .before .loop .inv .2)
+    (c .weighted .ensures .0))
 
 returns : tie.Need-returns Inv-loop μ-loop
-returns c = let e : c .before .loop .c ≡ COMPONENTS = omega arith in (rw e at (c .before .loop .inv .2), rw e at (c .before .loop .inv .1))
+returns c =
+    let e : c .before .loop .c ≡ COMPONENTS = omega arith in
+    (rw e at (c .before .loop .inv .2), rw e at (c .before .loop .inv .1))
 
 pub fitness-spec : {M : Type 1} → statement M
 fitness-spec =

@@ -33,7 +33,9 @@ ordered-requires : tie.Need-ordered-requires Inv-loop μ-loop
 ordered-requires c κs = omega arith
 
 cast-if1 : tie.Need-cast-if1 Inv-loop μ-loop
-cast-if1 c = record { fits = omega (arith, c .ordered .ensures, order-lt (c .before .before .loop .i % HYDROCARBONS + 1) (omega arith)) }
+cast-if1 c =
+    record { fits = omega (arith, c .ordered .ensures, order-lt (c .before .before .loop .i % HYDROCARBONS + 1)
+    (omega arith)) }
 
 shr-if1 : tie.Need-shr-if1 Inv-loop μ-loop
 shr-if1 c = omega (arith, c .ordered .ensures, order-lt (c .before .before .loop .i % HYDROCARBONS + 1) (omega arith))
@@ -42,7 +44,9 @@ add-take : tie.Need-add-take Inv-loop μ-loop
 add-take c = search needs
 
 take-requires : tie.Need-take-requires Inv-loop μ-loop
-take-requires c κs = rw (c .before .before .ordered .ensures) (order-lt (c .before .before .before .before .loop .i % HYDROCARBONS + 1) (omega arith))
+take-requires c κs =
+    rw (c .before .before .ordered .ensures)
+    (order-lt (c .before .before .before .before .loop .i % HYDROCARBONS + 1) (omega arith))
 
 add-i : tie.Need-add-i Inv-loop μ-loop
 add-i c = search needs
@@ -54,8 +58,11 @@ loop-again : tie.Need-loop-again Inv-loop μ-loop
 loop-again c = (
   omega arith,
   ⊎-elim
-      (λ w. rw (w .3) (turns-next false wantedAt turnAt _ _ _ _ _ _ (c .before .before .before .loop .inv .1) (c .before .ordered .ensures ∙ order-next (c .before .before .before .loop .i % HYDROCARBONS)) (w .0 .taken) (w .2 .ensures)))
-      (λ w. rw (w .1) (turns-over false wantedAt turnAt _ _ _ _ _ (c .before .before .before .loop .inv .1) (c .before .ordered .ensures ∙ order-next (c .before .before .before .loop .i % HYDROCARBONS)) (w .0 .left)))
+      (λ w. rw (w .3) (turns-next false wantedAt turnAt _ _ _ _ _ _ (c .before .before .before .loop .inv .1)
+      (c .before .ordered .ensures ∙ order-next (c .before .before .before .loop .i % HYDROCARBONS)) (w .0 .taken)
+      (w .2 .ensures)))
+      (λ w. rw (w .1) (turns-over false wantedAt turnAt _ _ _ _ _ (c .before .before .before .loop .inv .1)
+      (c .before .ordered .ensures ∙ order-next (c .before .before .before .loop .i % HYDROCARBONS)) (w .0 .left)))
       (c .if1 .came),
 )
 

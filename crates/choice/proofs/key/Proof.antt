@@ -20,10 +20,15 @@ fitness-requires : tie.Need-fitness-requires
 fitness-requires c κs = search needs
 
 add-result : tie.Need-add-result
-add-result c = record { fits = omega (arith, standing-fits _ _ (c .before .count .ensures .1) (c .before .before .pre .1 .1), c .fitness .ensures .1) }
+add-result c =
+    record { fits = omega (arith, standing-fits _ _ (c .before .count .ensures .1) (c .before .before .pre .1 .1),
+    c .fitness .ensures .1) }
 
 returns : tie.Need-returns
-returns c = standing-is (c .before .before .args .hydrogen) _ _ _ _ _ _ (c .before .before .pre .0 .0) (c .before .before .pre .0 .1) (c .before .before .pre .1 .0) (c .before .count .ensures .0) (c .fitness .ensures .0)
+returns c =
+    standing-is (c .before .before .args .hydrogen) _ _ _ _ _ _ (c .before .before .pre .0 .0)
+    (c .before .before .pre .0 .1) (c .before .before .pre .1 .0) (c .before .count .ensures .0)
+    (c .fitness .ensures .0)
 
 pub key-spec : {M : Type 1} → statement M
 key-spec =

@@ -25,7 +25,8 @@ loop-holds c = fresh-none _ _
 
 key-requires : tie.Need-key-requires Inv-loop μ-loop
 key-requires c κs = (
-  (omega (arith, c .loop-test .taken, c .before .before .candidates .ensures .0), c .before .before .before .before .pre),
+  (omega (arith, c .loop-test .taken, c .before .before .candidates .ensures .0),
+  c .before .before .before .before .pre),
   c .before .before .before .above .ensures,
 )
 
@@ -42,10 +43,14 @@ loop-less : tie.Need-loop-less Inv-loop μ-loop
 loop-less c = search needs
 
 loop-again : tie.Need-loop-again Inv-loop μ-loop
-loop-again c = fresh-next _ _ _ _ _ (c .before .before .loop .inv) (omega (arith, c .before .loop-test .taken, c .before .before .before .candidates .ensures .0)) (c .key .ensures)
+loop-again c =
+    fresh-next _ _ _ _ _ (c .before .before .loop .inv)
+    (omega (arith, c .before .loop-test .taken, c .before .before .before .candidates .ensures .0)) (c .key .ensures)
 
 returns : tie.Need-returns Inv-loop μ-loop
-returns c = fresh-all _ _ _ _ (c .before .loop .inv) (omega (arith, c .loop-test .left, c .before .before .candidates .ensures .0))
+returns c =
+    fresh-all _ _ _ _ (c .before .loop .inv)
+    (omega (arith, c .loop-test .left, c .before .before .candidates .ensures .0))
 
 pub keys-of-spec : {M : Type 1} → statement M
 keys-of-spec =

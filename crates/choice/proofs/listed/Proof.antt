@@ -8,7 +8,8 @@ use Rattle.choice.proofs.listed.Statement.{statement}
 use Rattle.choice.proofs.listed.Tie as tie
 
 abbrev Inv-loop : tie.InvT-loop
-Inv-loop hydrogen keys n count₀ systems₀ i₀ count systems i = (count ≤ i) × (i ≤ n) × Lists hydrogen keys count systems i
+Inv-loop hydrogen keys n count₀ systems₀ i₀ count systems i =
+    (count ≤ i) × (i ≤ n) × Lists hydrogen keys count systems i
 
 abbrev μ-loop : tie.MeasureT-loop
 μ-loop hydrogen keys n count₀ systems₀ i₀ count systems i = n - i
@@ -43,12 +44,19 @@ loop-less c = search needs
 loop-again : tie.Need-loop-again Inv-loop μ-loop
 loop-again c =
     ⊎-elim
-    (λ w. (omega (arith, w .2), omega arith, rw (w .2, w .3) (lists-more _ _ _ _ _ (c .before .before .loop .inv .2) (omega (arith, c .before .loop-test .taken, c .before .before .before .candidates .ensures .0)) _ (w .1 .ensures) (w .0 .taken))))
-    (λ w. (omega (arith, w .1), omega arith, rw (w .1, w .2) (lists-same _ _ _ _ _ (c .before .before .loop .inv .2) (omega (arith, c .before .loop-test .taken, c .before .before .before .candidates .ensures .0)) (w .0 .left))))
+    (λ w. (omega (arith, w .2), omega arith,
+    rw (w .2, w .3) (lists-more _ _ _ _ _ (c .before .before .loop .inv .2)
+    (omega (arith, c .before .loop-test .taken, c .before .before .before .candidates .ensures .0)) _ (w .1 .ensures)
+    (w .0 .taken))))
+    (λ w. (omega (arith, w .1), omega arith,
+    rw (w .1, w .2) (lists-same _ _ _ _ _ (c .before .before .loop .inv .2)
+    (omega (arith, c .before .loop-test .taken, c .before .before .before .candidates .ensures .0)) (w .0 .left))))
     (c .if1 .came)
 
 returns : tie.Need-returns Inv-loop μ-loop
-returns c = lists-all _ _ _ _ _ (c .before .loop .inv .2) (omega (arith, c .loop-test .left, c .before .before .candidates .ensures .0))
+returns c =
+    lists-all _ _ _ _ _ (c .before .loop .inv .2)
+    (omega (arith, c .loop-test .left, c .before .before .candidates .ensures .0))
 
 pub listed-spec : {M : Type 1} → statement M
 listed-spec =

@@ -32,7 +32,8 @@ shr-if1 : tie.Need-shr-if1 Inv-loop μ-loop
 shr-if1 c = omega (arith, c .ordered .ensures, order-lt (c .before .before .loop .i) (omega arith))
 
 take-requires : tie.Need-take-requires Inv-loop μ-loop
-take-requires c κs = rw (c .before .before .ordered .ensures) (order-lt (c .before .before .before .before .loop .i) (omega arith))
+take-requires c κs =
+    rw (c .before .before .ordered .ensures) (order-lt (c .before .before .before .before .loop .i) (omega arith))
 
 add-i : tie.Need-add-i Inv-loop μ-loop
 add-i c = search needs
@@ -44,8 +45,10 @@ loop-again : tie.Need-loop-again Inv-loop μ-loop
 loop-again c = (
   omega arith,
   ⊎-elim
-      (λ w. rw (w .3) (turns-next true _ passAt _ _ _ _ _ _ (c .before .before .before .loop .inv .1) (c .before .ordered .ensures) (w .0 .taken) (w .2 .ensures)))
-      (λ w. rw (w .1) (turns-over true _ passAt _ _ _ _ _ (c .before .before .before .loop .inv .1) (c .before .ordered .ensures) (w .0 .left)))
+      (λ w. rw (w .3) (turns-next true _ passAt _ _ _ _ _ _ (c .before .before .before .loop .inv .1)
+      (c .before .ordered .ensures) (w .0 .taken) (w .2 .ensures)))
+      (λ w. rw (w .1) (turns-over true _ passAt _ _ _ _ _ (c .before .before .before .loop .inv .1)
+      (c .before .ordered .ensures) (w .0 .left)))
       (c .if1 .came),
 )
 

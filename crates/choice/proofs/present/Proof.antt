@@ -24,7 +24,9 @@ sub-c : tie.Need-sub-c Inv-loop μ-loop
 sub-c c = search needs
 
 mul-p : tie.Need-mul-p Inv-loop μ-loop
-mul-p c = let h : c .before .loop .p < 2 ^ COMPONENTS = mask-small _ _ _ (c .before .loop .inv .1) in record { fits = omega arith }
+mul-p c =
+    let h : c .before .loop .p < 2 ^ COMPONENTS = mask-small _ _ _ (c .before .loop .inv .1) in
+    record { fits = omega arith }
 
 mul-one-if : tie.Need-mul-one-if Inv-loop μ-loop
 mul-one-if c = search needs
@@ -36,13 +38,18 @@ one-if-requires : tie.Need-one-if-requires Inv-loop μ-loop
 one-if-requires c κs = search needs
 
 add-p : tie.Need-add-p Inv-loop μ-loop
-add-p c = let h : c .before .before .loop .p < 2 ^ COMPONENTS = mask-small _ _ _ (c .before .before .loop .inv .1) in record { fits = omega (arith, c .one-if .ensures .1) }
+add-p c =
+    let h : c .before .before .loop .p < 2 ^ COMPONENTS = mask-small _ _ _ (c .before .before .loop .inv .1) in
+    record { fits = omega (arith, c .one-if .ensures .1) }
 
 loop-less : tie.Need-loop-less Inv-loop μ-loop
 loop-less c = search needs
 
 loop-again : tie.Need-loop-again Inv-loop μ-loop
-loop-again c = let e : c .before .before .loop .c - 1 + 1 ≡ c .before .before .loop .c = omega arith in (omega arith, mask-next _ _ _ _ _ e (c .before .before .loop .inv .0) (c .before .before .loop .inv .1) (c .one-if .ensures .0))
+loop-again c =
+    let e : c .before .before .loop .c - 1 + 1 ≡ c .before .before .loop .c = omega arith in
+    (omega arith, mask-next _ _ _ _ _ e (c .before .before .loop .inv .0) (c .before .before .loop .inv .1)
+    (c .one-if .ensures .0))
 
 returns : tie.Need-returns Inv-loop μ-loop
 unfolding presentOf

@@ -4,7 +4,8 @@ use mathlib.Core.Path.{sym, _∙_}
 use mathlib.Core.Logic.{⊎-elim}
 use native.Mathlib.Omega.{arith}
 use borrow.Author.Needs.{needs}
-use Rattle.choice.proofs.Keying.{Tally, tally-none, tally-chosen, tally-more, tally-less, tally-lacks, take-one, take-none}
+use Rattle.choice.proofs.Keying.{Tally, tally-none, tally-chosen, tally-more, tally-less, tally-lacks}
+use Rattle.choice.proofs.Keying.{take-one, take-none}
 use Rattle.choice.proofs.take.Statement.{statement}
 use Rattle.choice.proofs.take.Tie as tie
 
@@ -40,12 +41,20 @@ loop-less c = search needs
 
 loop-again : tie.Need-loop-again Inv-loop μ-loop
 loop-again c = ⊎-elim
-    (λ w. tally-chosen _ _ _ _ _ _ _ (c .before .before .before .loop .inv) (omega (arith, c .before .before .loop-test .taken, c .before .before .before .before .candidates .ensures .0)) _ _ _ (sym (c .before .contains .ensures) ∙ w .0 .taken) (w .2 .taken) (w .3) (w .4) (w .5))
+    (λ w. tally-chosen _ _ _ _ _ _ _ (c .before .before .before .loop .inv)
+    (omega (arith, c .before .before .loop-test .taken, c .before .before .before .before .candidates .ensures .0)) _
+    _ _ (sym (c .before .contains .ensures) ∙ w .0 .taken) (w .2 .taken) (w .3) (w .4) (w .5))
     (⊎-elim
-    (λ w. tally-more _ _ _ _ _ _ _ (c .before .before .before .loop .inv) (omega (arith, c .before .before .loop-test .taken, c .before .before .before .before .candidates .ensures .0)) _ _ _ (sym (c .before .contains .ensures) ∙ w .0 .taken) (w .2 .left) (w .4) (w .3 .taken) (w .5) (w .6))
+    (λ w. tally-more _ _ _ _ _ _ _ (c .before .before .before .loop .inv)
+    (omega (arith, c .before .before .loop-test .taken, c .before .before .before .before .candidates .ensures .0)) _
+    _ _ (sym (c .before .contains .ensures) ∙ w .0 .taken) (w .2 .left) (w .4) (w .3 .taken) (w .5) (w .6))
     (⊎-elim
-    (λ w. tally-less _ _ _ _ _ _ _ (c .before .before .before .loop .inv) (omega (arith, c .before .before .loop-test .taken, c .before .before .before .before .candidates .ensures .0)) _ _ _ (sym (c .before .contains .ensures) ∙ w .0 .taken) (w .2 .left) (w .4) (w .3 .left) (w .5) (w .6))
-    (λ w. tally-lacks _ _ _ _ _ _ _ (c .before .before .before .loop .inv) (omega (arith, c .before .before .loop-test .taken, c .before .before .before .before .candidates .ensures .0)) _ _ _ (sym (c .before .contains .ensures) ∙ w .0 .left) (w .1) (w .2) (w .3))))
+    (λ w. tally-less _ _ _ _ _ _ _ (c .before .before .before .loop .inv)
+    (omega (arith, c .before .before .loop-test .taken, c .before .before .before .before .candidates .ensures .0)) _
+    _ _ (sym (c .before .contains .ensures) ∙ w .0 .taken) (w .2 .left) (w .4) (w .3 .left) (w .5) (w .6))
+    (λ w. tally-lacks _ _ _ _ _ _ _ (c .before .before .before .loop .inv)
+    (omega (arith, c .before .before .loop-test .taken, c .before .before .before .before .candidates .ensures .0)) _
+    _ _ (sym (c .before .contains .ensures) ∙ w .0 .left) (w .1) (w .2) (w .3))))
     (c .if1 .came)
 
 mul-keys : tie.Need-mul-keys Inv-loop μ-loop
@@ -55,10 +64,16 @@ element-write-keys : tie.Need-element-write-keys Inv-loop μ-loop
 element-write-keys c = search needs
 
 returns : tie.Need-returns Inv-loop μ-loop
-returns c fit marks d = take-one _ _ _ _ _ _ _ (c .before .before .loop .inv) (omega (arith, c .before .loop-test .left, c .before .before .before .candidates .ensures .0)) _ fit marks d (c .if4 .taken)
+returns c fit marks d =
+    take-one _ _ _ _ _ _ _ (c .before .before .loop .inv)
+    (omega (arith, c .before .loop-test .left, c .before .before .before .candidates .ensures .0)) _ fit marks d
+    (c .if4 .taken)
 
 returns-2 : tie.Need-returns-2 Inv-loop μ-loop
-returns-2 c fit marks d = take-none _ _ _ _ _ _ _ (c .before .before .loop .inv) (omega (arith, c .before .loop-test .left, c .before .before .before .candidates .ensures .0)) _ fit marks d (c .if4 .left)
+returns-2 c fit marks d =
+    take-none _ _ _ _ _ _ _ (c .before .before .loop .inv)
+    (omega (arith, c .before .loop-test .left, c .before .before .before .candidates .ensures .0)) _ fit marks d
+    (c .if4 .left)
 
 pub take-spec : {M : Type 1} → statement M
 take-spec =

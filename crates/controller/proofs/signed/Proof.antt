@@ -15,7 +15,8 @@ returns : tie.Need-returns
 unfolding methaneNumber
 returns c =
     ap (λ (x : Float). div binary64 x (ofBits binary64 0x4163_12d0_0000_0000))
-    (c .nearest-i64-to-f64 .ensures ∙ ap (ofInt binary64) (toZ-ofZ w64 (c .before .args .units) (c .before .fits .units)))
+    (c .nearest-i64-to-f64 .ensures
+    ∙ ap (ofInt binary64) (toZ-ofZ w64 (c .before .args .units) (c .before .fits .units)))
 
 pub signed-spec : {M : Type 1} → statement M
 signed-spec = tie.close (tie.spec nearest-i64-to-f64-requires returns)

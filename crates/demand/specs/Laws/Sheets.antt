@@ -28,7 +28,8 @@ use Rattle.split.specs.declared.Answer.{Answer}
 use Rattle.split.specs.declared.Answer.the-variants.{Refused}
 use Rattle.rating.specs.Rate.{ROUNDS, ratingRefusal, splitAnswer, searchOutcome, outcome, readBy, sheetOutcome}
 use Rattle.rating.specs.RatedOn.{InRange, RatedOn}
-use Rattle.rating.specs.Laws.Ends.{RatedOr, RatedOrFew, search-ends, search-few, split-few, search-in-range, split-in-range, read-passed}
+use Rattle.rating.specs.Laws.Ends.{RatedOr, RatedOrFew, search-ends, search-few, split-few, search-in-range}
+use Rattle.rating.specs.Laws.Ends.{split-in-range, read-passed}
 use Rattle.rating.specs.declared.Outcome.{Outcome}
 
 -- ---- reading: 1 to 6
@@ -54,13 +55,16 @@ Numbered low high (reading.Refused number place code) = (low ≤ number) × (num
 
 codes-number : (n : ℕ) (s : List ℕ) (at i p : ℕ) → Numbered 1 6 (codesReading n s at i p)
 codes-number zero s at i p = tt
-codes-number (suc n) s at i p = go (codes-number n s (at + 5) (i + 1) (getD s at 0)) (eqb (codeRefusal (getD s at 0) p) 0) refl
+codes-number (suc n) s at i p =
+    go (codes-number n s (at + 5) (i + 1) (getD s at 0)) (eqb (codeRefusal (getD s at 0) p) 0) refl
   where
     go : Numbered 1 6 (codesReading n s (at + 5) (i + 1) (getD s at 0)) → (t : Bool)
         → eqb (codeRefusal (getD s at 0) p) 0 ≡ t
-        → Numbered 1 6 (cond t (codesReading n s (at + 5) (i + 1) (getD s at 0)) (reading.Refused (codeRefusal (getD s at 0) p) i 0))
+        → Numbered 1 6 (cond t (codesReading n s (at + 5) (i + 1) (getD s at 0))
+        (reading.Refused (codeRefusal (getD s at 0) p) i 0))
     go rest true e = rest
-    go rest false e = (omega (arith, eqb-false (codeRefusal (getD s at 0) p) 0 e), omega (arith, code-number (getD s at 0) p))
+    go rest false e =
+        (omega (arith, eqb-false (codeRefusal (getD s at 0) p) 0 e), omega (arith, code-number (getD s at 0) p))
 
 check-number : (a : List ℕ) → analysisRefusal a ≤ 6
 unfolding analysisRefusal
@@ -102,7 +106,9 @@ read-number s code = go (sectionsOf s)
   where
     go : (x : Sections) → Numbered 1 6 (read.readBy x s code .answer)
     go sections.Torn = (omega arith, omega arith)
-    go (sections.Both n m first) = with-number (afterCodes (codesReading n s 1 0 0) n s code) (contentOf n m first s) refl (after-number (codesReading n s 1 0 0) n s code (codes-number n s 1 0 0))
+    go (sections.Both n m first) =
+        with-number (afterCodes (codesReading n s 1 0 0) n s code) (contentOf n m first s) refl
+        (after-number (codesReading n s 1 0 0) n s code (codes-number n s 1 0 0))
 
 -- ---- a sheet
 

@@ -1,4 +1,5 @@
--- The proof of the cycle of calls {put_digits}. The measure is the number, of which each call takes a tenth. Assumes nothing.
+-- The proof of the cycle of calls {put_digits}. The measure is the number, of which each call takes a tenth. Assumes
+-- nothing.
 use mathlib.Core.Path.{ap, subst}
 use native.Mathlib.Omega.{arith}
 use lib.ListN.{length}

@@ -7,7 +7,8 @@ use mir.Val.{Fits, SFits, toZ, ofZ}
 use Rattle.whole_number.specs.Whole.{wholeNumber}
 use Rattle.display.specs.Decimal.{figureOf}
 use Rattle.display.specs.Longest.{spread-length, count-length}
-use Rattle.display.proofs.Fields.{length-two, rating-room, whole-room, rated-room, rated-put, refused-room, refused-put}
+use Rattle.display.proofs.Fields.{length-two, rating-room, whole-room, rated-room, rated-put, refused-room}
+use Rattle.display.proofs.Fields.{refused-put}
 use borrow.Author.Needs.{needs}
 use Rattle.display.proofs.put_fields.Statement.{statement}
 use Rattle.display.proofs.put_fields.Tie as tie
@@ -85,7 +86,9 @@ returns c =
     let g = k .before .answer .given .0 in
     let x = k .before .before .before .args .answer in
     let e = k .before .answer .given .1 in (
-      rated-put x (g .0) (g .1 .0) (g .1 .1 .0) e (rating-held k) (c .before .before .before .before .put-word .ensures) (c .before .before .put-rating .ensures) (c .put-counts .ensures),
+      rated-put x (g .0) (g .1 .0) (g .1 .1 .0) e (rating-held k)
+          (c .before .before .before .before .put-word .ensures) (c .before .before .put-rating .ensures)
+          (c .put-counts .ensures),
       rated-room x (g .0) (g .1 .0) (g .1 .1 .0) e (rating-held k) (spread-held k) (rounds-held k),
     )
 

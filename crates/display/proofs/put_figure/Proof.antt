@@ -25,7 +25,8 @@ put-digits-requires c κs =
     let s = c .before .before .before .before .before .before .before in
     let t = c .before .before .before .before in
     let e = below-zero (s .args .figure) (s .fits .figure) (c .size .result) (c .size .ensures) (t .if1 .taken) in
-    omega (arith, t .before .put-byte .ensures .ended, c .before .before .put-byte2 .ensures .ended, ap length e, s .pre)
+    omega (arith, t .before .put-byte .ensures .ended, c .before .before .put-byte2 .ensures .ended, ap length e,
+        s .pre)
 
 returns : tie.Need-returns
 returns c =
@@ -33,7 +34,8 @@ returns c =
     let t = c .before .before .before .before .before in
     let z = c .before .size in
     rw (below-zero (s .args .figure) (s .fits .figure) (z .result) (z .ensures) (t .if1 .taken))
-    (then (t .before .put-byte .ensures) (then (c .before .before .before .put-byte2 .ensures) (c .put-digits .ensures)))
+    (then (t .before .put-byte .ensures)
+    (then (c .before .before .before .put-byte2 .ensures) (c .put-digits .ensures)))
 
 size-requires-2 : tie.Need-size-requires-2
 size-requires-2 c κs = search needs

@@ -41,7 +41,8 @@ returns c =
     let w = c .before .whole-number in
     let e = whole-held (s .args .rating) (w .result) (s .fits .rating) (record { sfits = w .ok }) (w .ensures) in
     then
-    (put-as (ap (λ (z : ℤ). SPACE ∷ figureOf z) (toZ-ofZ w64 (s .args .rating) (s .fits .rating))) (c .before .before .before .put-figure .ensures))
+    (put-as (ap (λ (z : ℤ). SPACE ∷ figureOf z) (toZ-ofZ w64 (s .args .rating) (s .fits .rating)))
+    (c .before .before .before .put-figure .ensures))
     (put-as (ap (λ (z : ℤ). SPACE ∷ figureOf z) e) (c .put-figure2 .ensures))
 
 pub put-rating-spec : {M : Type 1} → statement M

@@ -1,5 +1,5 @@
--- `display::put_word` meets its contract. The loop's invariant: the bytes so far and those of the word from i on make the
--- whole run. Assumes nothing.
+-- `display::put_word` meets its contract. The loop's invariant: the bytes so far and those of the word from i on make
+-- the whole run. Assumes nothing.
 use mathlib.Core.Path.{_≡_, refl, sym, ap, _∙_}
 use Prim.Native.Nat.{ℕ, _+_, _-_, _≤_, _<_}
 use native.Mathlib.Omega.{arith}
@@ -42,7 +42,8 @@ loop-again c =
     let a = c .before .before .before .args in
     let l = c .before .before .loop in
     let h : l .i < length (a .word .now) = omega arith in
-    (omega arith, length-set (l .buffer) (a .at + l .i) _ ∙ l .inv .1, run-next (l .buffer) (a .word .now) (a .at) (l .i) h ∙ l .inv .2)
+    (omega arith, length-set (l .buffer) (a .at + l .i) _ ∙ l .inv .1, run-next (l .buffer) (a .word .now) (a .at)
+    (l .i) h ∙ l .inv .2)
 
 add-result : tie.Need-add-result Inv-loop μ-loop
 add-result c = search needs

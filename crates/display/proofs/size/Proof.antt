@@ -18,19 +18,22 @@ use Rattle.display.proofs.size.Tie as tie
 flipped : (z : ℤ) → ltZ z (pos 0) ≡ true → neg 1 -ℤ z ≡ pos (mag z)
 flipped (pos n) h = absurd (subst (λ (b : Bool). T b → ⊥) (sym (le-ltb n 0 (omega arith)) ∙ h) (λ x. x) tt)
 flipped (negsuc k) h =
-    ap (λ (b : Bool). cond b (negsuc (1 - suc (suc k))) (pos (suc k - 1))) (le-ltb (suc k) 1 (omega arith)) ∙ ap pos (omega arith)
+    ap (λ (b : Bool). cond b (negsuc (1 - suc (suc k))) (pos (suc k - 1))) (le-ltb (suc k) 1 (omega arith))
+        ∙ ap pos (omega arith)
 
 sign : (c : tie.Then1) → ltZ (c .before .args .n) (pos 0) ≡ true
 sign c = subst (λ (z : ℤ). ltZ z (pos 0) ≡ true) (toZ-ofZ w64 (c .before .args .n) (c .before .fits .n)) (c .if1 .taken)
 
 value : (c : tie.Then1) → neg 1 -ℤ toZ w64 (ofZ w64 (c .before .args .n)) ≡ pos (mag (c .before .args .n))
 value c =
-    ap (λ (z : ℤ). neg 1 -ℤ z) (toZ-ofZ w64 (c .before .args .n) (c .before .fits .n)) ∙ flipped (c .before .args .n) (sign c)
+    ap (λ (z : ℤ). neg 1 -ℤ z) (toZ-ofZ w64 (c .before .args .n) (c .before .fits .n))
+        ∙ flipped (c .before .args .n) (sign c)
 
 sub-result : tie.Need-sub-result
 sub-result c = subst (SFits w64) (sym (value c)) (record { sfits = c .before .fits .n .sfits })
 
-read : (c : tie.Then1) → toZ w64 (ofZ w64 (negsuc 0 -ℤ toZ w64 (ofZ w64 (c .before .args .n)))) ≡ pos (mag (c .before .args .n))
+read : (c : tie.Then1) → toZ w64 (ofZ w64 (negsuc 0 -ℤ toZ w64 (ofZ w64 (c .before .args .n)))) ≡ pos
+    (mag (c .before .args .n))
 read c = toZ-ofZ w64 (negsuc 0 -ℤ toZ w64 (ofZ w64 (c .before .args .n))) (sub-result c) ∙ value c
 
 cast-result : tie.Need-cast-result
@@ -40,10 +43,12 @@ cast-result c =
 
 add-result : tie.Need-add-result
 add-result c =
-    subst (λ (z : ℤ). Fits w64 (natAbs z + 1)) (sym (read c)) (record { fits = omega (arith, c .before .fits .n .sfits) })
+    subst (λ (z : ℤ). Fits w64 (natAbs z + 1)) (sym (read c))
+        (record { fits = omega (arith, c .before .fits .n .sfits) })
 
 at-least : (c : tie.Else1) → ltZ (c .before .args .n) (pos 0) ≡ false
-at-least c = subst (λ (z : ℤ). ltZ z (pos 0) ≡ false) (toZ-ofZ w64 (c .before .args .n) (c .before .fits .n)) (c .if1 .left)
+at-least c =
+    subst (λ (z : ℤ). ltZ z (pos 0) ≡ false) (toZ-ofZ w64 (c .before .args .n) (c .before .fits .n)) (c .if1 .left)
 
 whole : (z : ℤ) → SFits w64 z → ltZ z (pos 0) ≡ false → T (nonNeg z) × Fits w64 (natAbs z)
 whole (pos n) f h = (tt, record { fits = omega (arith, f .sfits) })

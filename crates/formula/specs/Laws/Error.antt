@@ -1,4 +1,5 @@
--- The working rule is less than one unit from the exact value for each of its divisions, whatever the coefficients are. Assumes nothing.
+-- The working rule is less than one unit from the exact value for each of its divisions, whatever the coefficients
+-- are. Assumes nothing.
 use mathlib.Core.Path.{_≡_, sym, _∙_, ap, ap₂}
 use mathlib.Core.List.{List, [], _∷_}
 use Prim.Native.Nat.{ℕ, zero, suc, _+_, _*_, _-_, _^_, _<_, _≤_}
@@ -43,7 +44,8 @@ module _ (n d : ℕ) (n≤d : n ≤ d) (d>0 : 0 < d) where
   near-row zero c (b ∷ cs) h = absurd (N.not-suc-le-zero h)
   near-row (suc m) c (b ∷ cs) h =
       rw (one-less m, ← N.add-zero (suc (length cs)))
-      (close (next n d m n≤d d>0 (near-row m b cs (N.le-of-suc-le-suc h)) (close-over c (d ^ suc m) (pow-pos d (suc m) d>0))))
+      (close (next n d m n≤d d>0 (near-row m b cs (N.le-of-suc-le-suc h))
+      (close-over c (d ^ suc m) (pow-pos d (suc m) d>0))))
 
 collect : (c A B D s n : ℤ) → c *ℤ (A *ℤ B *ℤ D) +ℤ s *ℤ (A *ℤ (B *ℤ n)) ≡ (s *ℤ n +ℤ c *ℤ D) *ℤ (A *ℤ B)
 collect c A B D s n = simp ring
@@ -76,7 +78,8 @@ unfolding tableSum tableOver
 table-is n1 n2 d m k [] = sym (zero-*ℤ (pos (n1 ^ k)))
 table-is n1 n2 d m k (r ∷ rs) =
     ap₂ _+ℤ_
-    (row-is n1 n2 d m k 0 r ∙ ap₂ (λ (i j : ℕ). rowOver n2 d (m - i) r *ℤ pos j) (N.add-zero k) (ap (λ (x : ℕ). n1 ^ k * x) (N.pow-zero n2) ∙ N.mul-one (n1 ^ k)))
+    (row-is n1 n2 d m k 0 r ∙ ap₂ (λ (i j : ℕ). rowOver n2 d (m - i) r *ℤ pos j) (N.add-zero k)
+    (ap (λ (x : ℕ). n1 ^ k * x) (N.pow-zero n2) ∙ N.mul-one (n1 ^ k)))
     (table-is n1 n2 d m (suc k) rs ∙ ap₂ (λ (i j : ℕ). tableOver n1 n2 d i rs *ℤ pos j) one-more (N.pow-suc n1 k))
     ∙ collect2 (rowOver n2 d (m - k) r) (pos (n1 ^ k)) (tableOver n1 n2 d (m - k - 1) rs) (pos n1)
   where
@@ -85,7 +88,9 @@ table-is n1 n2 d m k (r ∷ rs) =
 
 exact-is : (n1 n2 d m : ℕ) (rs : List (List ℤ)) → tableSum n1 n2 d m 0 rs ≡ tableOver n1 n2 d m rs
 unfolding one
-exact-is n1 n2 d m rs = table-is n1 n2 d m 0 rs ∙ ap₂ (λ (i j : ℕ). tableOver n1 n2 d i rs *ℤ pos j) same (N.pow-zero n1) ∙ *ℤ-one (tableOver n1 n2 d m rs)
+exact-is n1 n2 d m rs =
+    table-is n1 n2 d m 0 rs ∙ ap₂ (λ (i j : ℕ). tableOver n1 n2 d i rs *ℤ pos j) same (N.pow-zero n1)
+    ∙ *ℤ-one (tableOver n1 n2 d m rs)
   where
     same : m - 0 ≡ m
     same = omega arith
@@ -110,21 +115,28 @@ module _ (n1 n2 d : ℕ) (n1≤d : n1 ≤ d) (n2≤d : n2 ≤ d) (d>0 : 0 < d) w
   unfolding worked tableOver horner
   near-table m [] h = absurd h
   near-table m ([] ∷ rs) h = absurd h
-  near-table m ((c ∷ cs) ∷ []) h = rw (zero-*ℤ (pos n1), +ℤ-idl (rowOver n2 d m (c ∷ cs))) (near-row n2 d n2≤d d>0 m c cs h)
+  near-table m ((c ∷ cs) ∷ []) h =
+      rw (zero-*ℤ (pos n1), +ℤ-idl (rowOver n2 d m (c ∷ cs))) (near-row n2 d n2≤d d>0 m c cs h)
   near-table zero ((c ∷ cs) ∷ (r ∷ rs)) h = absurd (N.not-suc-le-zero (h .1))
   near-table (suc m) ((c ∷ cs) ∷ (r ∷ rs)) h =
       rw (one-less m)
-      (close (next n1 d m n1≤d d>0 (near-table m (r ∷ rs) (rw (one-less m) at (h .2))) (near-row n2 d n2≤d d>0 (suc m) c cs (h .0))))
+      (close (next n1 d m n1≤d d>0 (near-table m (r ∷ rs) (rw (one-less m) at (h .2)))
+      (near-row n2 d n2≤d d>0 (suc m) c cs (h .0))))
 
   -- two rows or more: less than a unit for each division
-  nearer-table : (m : ℕ) (c : ℤ) (cs : List ℤ) (r : List ℤ) (rs : List (List ℤ)) → Shaped (suc m) ((c ∷ cs) ∷ (r ∷ rs)) → Within (worked n1 n2 d ((c ∷ cs) ∷ (r ∷ rs))) (ratio (tableOver n1 n2 d (suc m) ((c ∷ cs) ∷ (r ∷ rs))) (d ^ suc m)) (units ((c ∷ cs) ∷ (r ∷ rs)))
+  nearer-table : (m : ℕ) (c : ℤ) (cs : List ℤ) (r : List ℤ) (rs : List (List ℤ))
+      → Shaped (suc m) ((c ∷ cs) ∷ (r ∷ rs))
+      → Within (worked n1 n2 d ((c ∷ cs) ∷ (r ∷ rs)))
+      (ratio (tableOver n1 n2 d (suc m) ((c ∷ cs) ∷ (r ∷ rs))) (d ^ suc m)) (units ((c ∷ cs) ∷ (r ∷ rs)))
   unfolding worked tableOver horner
   nearer-table m c cs r rs h =
       rw (one-less m)
-      (next n1 d m n1≤d d>0 (near-table m (r ∷ rs) (rw (one-less m) at (h .2))) (near-row n2 d n2≤d d>0 (suc m) c cs (h .0)))
+      (next n1 d m n1≤d d>0 (near-table m (r ∷ rs) (rw (one-less m) at (h .2)))
+      (near-row n2 d n2≤d d>0 (suc m) c cs (h .0)))
 
   -- the whole table, over d ^ 7: nineteen units, whatever the coefficients are
   pub within : (a : ℕ → ℤ) → natAbs (worked n1 n2 d (rowsOf a) *ℤ pos (d ^ 7) -ℤ exact n1 n2 d (rowsOf a)) < 19 * d ^ 7
   unfolding rowsOf coefs
   within a = rw (exact-is n1 n2 d 7 (rowsOf a))
-      (nearer-table 6 (a 0) (a 1 ∷ a 2 ∷ a 3 ∷ a 4 ∷ a 5 ∷ a 6 ∷ []) (coefs a 7 4) (coefs a 11 3 ∷ coefs a 14 2 ∷ coefs a 16 1 ∷ coefs a 17 1 ∷ coefs a 18 1 ∷ coefs a 19 1 ∷ []) (omega arith) .near)
+      (nearer-table 6 (a 0) (a 1 ∷ a 2 ∷ a 3 ∷ a 4 ∷ a 5 ∷ a 6 ∷ []) (coefs a 7 4) (coefs a 11 3 ∷ coefs a 14 2
+      ∷ coefs a 16 1 ∷ coefs a 17 1 ∷ coefs a 18 1 ∷ coefs a 19 1 ∷ []) (omega arith) .near)

@@ -34,7 +34,9 @@ prefix-le a at (suc j) (suc k) h = omega (arith, prefix-le a (suc at) j k (N.le-
 pub suffix-le : (a : ℕ → ℤ) (at i j : ℕ) → sumAbs (coefs a (at + i) j) ≤ sumAbs (coefs a at (i + j))
 unfolding coefs sumAbs
 suffix-le a at zero j = rw (N.add-zero at, N.zero-add j) (N.le-refl (sumAbs (coefs a at j)))
-suffix-le a at (suc i) j = rw (N.suc-add i j, N.add-suc at i, ← N.suc-add at i) (N.le-trans (suffix-le a (suc at) i j) (N.le-add-left (sumAbs (coefs a (suc at) (i + j))) (natAbs (a at))))
+suffix-le a at (suc i) j =
+    rw (N.suc-add i j, N.add-suc at i, ← N.suc-add at i)
+    (N.le-trans (suffix-le a (suc at) i j) (N.le-add-left (sumAbs (coefs a (suc at) (i + j))) (natAbs (a at))))
 
 pub part-le : (a : ℕ → ℤ) (at j k : ℕ) → at + j ≤ k → sumAbs (coefs a at j) ≤ sumAbs (coefs a 0 k)
 part-le a at j k h = N.le-trans (rw (N.zero-add at) at (suffix-le a 0 at j)) (prefix-le a 0 (at + j) k h)
@@ -56,4 +58,7 @@ worked-is a n1 n2 d = refl
 
 pub inner-le : (a : ℕ → ℤ) (n d : ℕ) → n ≤ d → sumAbs (coefs (innerOf a n d) 0 8) ≤ sumAbs (coefs a 0 20)
 unfolding innerOf coefs sumAbs
-inner-le a n d h = omega (arith, horner-le n d (coefs a 0 7) h, horner-le n d (coefs a 7 4) h, horner-le n d (coefs a 11 3) h, horner-le n d (coefs a 14 2) h, horner-le n d (coefs a 16 1) h, horner-le n d (coefs a 17 1) h, horner-le n d (coefs a 18 1) h, horner-le n d (coefs a 19 1) h)
+inner-le a n d h =
+    omega (arith, horner-le n d (coefs a 0 7) h, horner-le n d (coefs a 7 4) h, horner-le n d (coefs a 11 3) h,
+    horner-le n d (coefs a 14 2) h, horner-le n d (coefs a 16 1) h, horner-le n d (coefs a 17 1) h,
+    horner-le n d (coefs a 18 1) h, horner-le n d (coefs a 19 1) h)

@@ -10,7 +10,8 @@ use Rattle.integer.specs.Laws.Order.{sub-lt, ≤ℤ-more, <ℤ-more}
 use Rattle.integer.specs.Floor.{floorOver, restOver}
 
 pub neg-split : (q d r : ℕ) → r < d → negsuc q *ℤ pos d +ℤ pos r ≡ negsuc (q * d + (d - 1 - r))
-neg-split q d r h = ap (λ (n : ℕ). negℤ (pos n) +ℤ pos r) whole ∙ sub-lt r (suc (q * d + (d - 1))) (omega arith) ∙ ap negsuc left
+neg-split q d r h =
+    ap (λ (n : ℕ). negℤ (pos n) +ℤ pos r) whole ∙ sub-lt r (suc (q * d + (d - 1))) (omega arith) ∙ ap negsuc left
   where
     whole : suc q * d ≡ suc (q * d + (d - 1))
     whole = omega (arith, N.suc-mul q d)
@@ -19,12 +20,15 @@ neg-split q d r h = ap (λ (n : ℕ). negℤ (pos n) +ℤ pos r) whole ∙ sub-l
     left = omega arith
 
 quot : (q d r : ℕ) → r < d → (q * d + r) / d ≡ q
-quot q d r h = ap (λ (n : ℕ). n / d) (N.add-comm (q * d) r) ∙ N.add-mul-div-right r q (omega arith) ∙ ap (λ (n : ℕ). n + q) (N.div-eq-of-lt h) ∙ N.zero-add q
+quot q d r h =
+    ap (λ (n : ℕ). n / d) (N.add-comm (q * d) r) ∙ N.add-mul-div-right r q (omega arith)
+    ∙ ap (λ (n : ℕ). n + q) (N.div-eq-of-lt h) ∙ N.zero-add q
 
 -- no other number leaves such a remainder
 pub floor-unique : (z q : ℤ) (d r : ℕ) → r < d → z ≡ q *ℤ pos d +ℤ pos r → floorOver z d ≡ q
 floor-unique z (pos q) d r h e = ap (λ (y : ℤ). floorOver y d) e ∙ ap pos (quot q d r h)
-floor-unique z (negsuc q) d r h e = ap (λ (y : ℤ). floorOver y d) (e ∙ neg-split q d r h) ∙ ap negsuc (quot q d (d - 1 - r) (omega arith))
+floor-unique z (negsuc q) d r h e =
+    ap (λ (y : ℤ). floorOver y d) (e ∙ neg-split q d r h) ∙ ap negsuc (quot q d (d - 1 - r) (omega arith))
 
 pub rest-lt : (z : ℤ) (d : ℕ) → 0 < d → restOver z d < d
 rest-lt (pos a) d h = N.mod-lt a h
@@ -40,7 +44,9 @@ floor-rest (negsuc a) d h = ap negsuc same ∙ sym (neg-split (a / d) d (d - 1 -
 
 -- floor q of z / d: q * d ≤ z < (q + 1) * d
 pub floor-low : (z : ℤ) (d : ℕ) → 0 < d → (floorOver z d *ℤ pos d) ≤ℤ z
-floor-low z d h = subst (λ (x : ℤ). (floorOver z d *ℤ pos d) ≤ℤ x) (sym (floor-rest z d h)) (≤ℤ-more (floorOver z d *ℤ pos d) (restOver z d))
+floor-low z d h =
+    subst (λ (x : ℤ). (floorOver z d *ℤ pos d) ≤ℤ x) (sym (floor-rest z d h))
+    (≤ℤ-more (floorOver z d *ℤ pos d) (restOver z d))
 
 next : (q d : ℤ) → (q +ℤ pos 1) *ℤ d ≡ q *ℤ d +ℤ d
 unfolding one
@@ -58,7 +64,8 @@ split q d r h = next q (pos d) ∙ ap (λ (n : ℕ). q *ℤ pos d +ℤ pos n) wh
 pub floor-high : (z : ℤ) (d : ℕ) → 0 < d → z <ℤ ((floorOver z d +ℤ pos 1) *ℤ pos d)
 floor-high z d h =
     subst (λ (x : ℤ). x <ℤ ((floorOver z d +ℤ pos 1) *ℤ pos d)) (sym (floor-rest z d h))
-    (subst (λ (x : ℤ). (floorOver z d *ℤ pos d +ℤ pos (restOver z d)) <ℤ x) (sym (split (floorOver z d) d (restOver z d) (rest-lt z d h)))
+    (subst (λ (x : ℤ). (floorOver z d *ℤ pos d +ℤ pos (restOver z d)) <ℤ x)
+    (sym (split (floorOver z d) d (restOver z d) (rest-lt z d h)))
     (<ℤ-more (floorOver z d *ℤ pos d +ℤ pos (restOver z d)) (left (rest-lt z d h))))
   where
     left : restOver z d < d → 0 < d - restOver z d

@@ -1,4 +1,5 @@
--- Equations of the integers' ring by computing normal forms: terms are collected, and those that cancel go. Assumes nothing.
+-- Equations of the integers' ring by computing normal forms: terms are collected, and those that cancel go. Assumes
+-- nothing.
 use mathlib.Core.Path.{_≡_, refl, sym, _∙_, ap, ap₂}
 use mathlib.Core.Bool.{Bool, true, false, cond, _&&_}
 use mathlib.Core.List.{List, [], _∷_}
@@ -54,7 +55,8 @@ keep c m p = cond (isZero c) p (term c m p)
 
 abbrev ins : ℤ → List ℕ → P → P
 ins c m none = keep c m none
-ins c m (term c′ m′ p) = cond (same m m′) (keep (c +ℤ c′) m p) (cond (before m m′) (keep c m (term c′ m′ p)) (term c′ m′ (ins c m p)))
+ins c m (term c′ m′ p) =
+    cond (same m m′) (keep (c +ℤ c′) m p) (cond (before m m′) (keep c m (term c′ m′ p)) (term c′ m′ (ins c m p)))
 
 abbrev plus : P → P → P
 plus none q = q
@@ -81,7 +83,8 @@ same-eq : (l m : List ℕ) → T (same l m) → l ≡ m
 same-eq [] [] t = refl
 same-eq [] (y ∷ m) t = absurd t
 same-eq (x ∷ l) [] t = absurd t
-same-eq (x ∷ l) (y ∷ m) t = ap₂ _∷_ (eqb→eq x y (and-l (eqb x y) (same l m) t)) (same-eq l m (and-r (eqb x y) (same l m) t))
+same-eq (x ∷ l) (y ∷ m) t =
+    ap₂ _∷_ (eqb→eq x y (and-l (eqb x y) (same l m) t)) (same-eq l m (and-r (eqb x y) (same l m) t))
 
 zero-eq : (c : ℤ) → T (isZero c) → c ≡ pos 0
 zero-eq (pos zero) t = refl
@@ -126,33 +129,42 @@ module _ (ρ : ℕ → ℤ) where
   insV-is : (x : ℕ) (m : List ℕ) → mono (insV x m) ≡ ρ x *ℤ mono m
   unfolding mono
   insV-is x [] = refl
-  insV-is x (y ∷ m) = at-cond (leb x y) (x ∷ y ∷ m) (y ∷ insV x m) (λ (l : List ℕ). mono l ≡ ρ x *ℤ (ρ y *ℤ mono m)) (λ t. refl)
+  insV-is x (y ∷ m) =
+      at-cond (leb x y) (x ∷ y ∷ m) (y ∷ insV x m) (λ (l : List ℕ). mono l ≡ ρ x *ℤ (ρ y *ℤ mono m)) (λ t. refl)
       (λ t. ap (λ (z : ℤ). ρ y *ℤ z) (insV-is x m) ∙ exchange (ρ x) (ρ y) (mono m))
 
   times-is : (l m : List ℕ) → mono (times l m) ≡ mono l *ℤ mono m
   unfolding mono
   times-is [] m = sym (one-times (mono m))
-  times-is (x ∷ l) m = insV-is x (times l m) ∙ ap (λ (z : ℤ). ρ x *ℤ z) (times-is l m) ∙ sym (*ℤ-assoc (ρ x) (mono l) (mono m))
+  times-is (x ∷ l) m =
+      insV-is x (times l m) ∙ ap (λ (z : ℤ). ρ x *ℤ z) (times-is l m) ∙ sym (*ℤ-assoc (ρ x) (mono l) (mono m))
 
   keep-is : (c : ℤ) (m : List ℕ) (p : P) → poly (keep c m p) ≡ c *ℤ mono m +ℤ poly p
   unfolding poly
   keep-is c m p = at-cond (isZero c) p (term c m p) (λ (q : P). poly q ≡ c *ℤ mono m +ℤ poly p)
-      (λ t. sym (ap (λ (z : ℤ). z *ℤ mono m +ℤ poly p) (zero-eq c t) ∙ ap (λ (z : ℤ). z +ℤ poly p) (zero-*ℤ (mono m)) ∙ +ℤ-idl (poly p)))
+      (λ t. sym (ap (λ (z : ℤ). z *ℤ mono m +ℤ poly p) (zero-eq c t) ∙ ap (λ (z : ℤ). z +ℤ poly p) (zero-*ℤ (mono m))
+      ∙ +ℤ-idl (poly p)))
       (λ t. refl)
 
   ins-is : (c : ℤ) (m : List ℕ) (p : P) → poly (ins c m p) ≡ c *ℤ mono m +ℤ poly p
   unfolding poly
   ins-is c m none = keep-is c m none
-  ins-is c m (term c′ m′ p) = at-cond (same m m′) (keep (c +ℤ c′) m p) (cond (before m m′) (keep c m (term c′ m′ p)) (term c′ m′ (ins c m p))) (λ (q : P). poly q ≡ c *ℤ mono m +ℤ (c′ *ℤ mono m′ +ℤ poly p))
-      (λ t. keep-is (c +ℤ c′) m p ∙ joined c c′ (mono m) (poly p) ∙ ap (λ (l : List ℕ). c *ℤ mono m +ℤ (c′ *ℤ mono l +ℤ poly p)) (same-eq m m′ t))
-      (λ t. at-cond (before m m′) (keep c m (term c′ m′ p)) (term c′ m′ (ins c m p)) (λ (q : P). poly q ≡ c *ℤ mono m +ℤ (c′ *ℤ mono m′ +ℤ poly p))
+  ins-is c m (term c′ m′ p) =
+      at-cond (same m m′) (keep (c +ℤ c′) m p) (cond (before m m′) (keep c m (term c′ m′ p)) (term c′ m′ (ins c m p)))
+      (λ (q : P). poly q ≡ c *ℤ mono m +ℤ (c′ *ℤ mono m′ +ℤ poly p))
+      (λ t. keep-is (c +ℤ c′) m p ∙ joined c c′ (mono m) (poly p)
+      ∙ ap (λ (l : List ℕ). c *ℤ mono m +ℤ (c′ *ℤ mono l +ℤ poly p)) (same-eq m m′ t))
+      (λ t. at-cond (before m m′) (keep c m (term c′ m′ p)) (term c′ m′ (ins c m p))
+      (λ (q : P). poly q ≡ c *ℤ mono m +ℤ (c′ *ℤ mono m′ +ℤ poly p))
       (λ u. keep-is c m (term c′ m′ p))
       (λ u. ap (λ (z : ℤ). c′ *ℤ mono m′ +ℤ z) (ins-is c m p) ∙ passed (c *ℤ mono m) (c′ *ℤ mono m′) (poly p)))
 
   plus-is : (p q : P) → poly (plus p q) ≡ poly p +ℤ poly q
   unfolding poly
   plus-is none q = sym (+ℤ-idl (poly q))
-  plus-is (term c m p) q = ins-is c m (plus p q) ∙ ap (λ (z : ℤ). c *ℤ mono m +ℤ z) (plus-is p q) ∙ sym (+ℤ-assoc (c *ℤ mono m) (poly p) (poly q))
+  plus-is (term c m p) q =
+      ins-is c m (plus p q) ∙ ap (λ (z : ℤ). c *ℤ mono m +ℤ z) (plus-is p q)
+      ∙ sym (+ℤ-assoc (c *ℤ mono m) (poly p) (poly q))
 
   scale-is : (c : ℤ) (m : List ℕ) (p : P) → poly (scale c m p) ≡ (c *ℤ mono m) *ℤ poly p
   unfolding poly
@@ -166,7 +178,8 @@ module _ (ρ : ℕ → ℤ) where
   unfolding poly
   prod-is none q = sym (zero-*ℤ (poly q))
   prod-is (term c m p) q =
-      plus-is (scale c m q) (prod p q) ∙ ap₂ _+ℤ_ (scale-is c m q) (prod-is p q) ∙ sym (distr (c *ℤ mono m) (poly p) (poly q))
+      plus-is (scale c m q) (prod p q) ∙ ap₂ _+ℤ_ (scale-is c m q) (prod-is p q)
+          ∙ sym (distr (c *ℤ mono m) (poly p) (poly q))
 
   norm-is : (e : E) → poly (norm e) ≡ ⟦_⟧ e
   unfolding poly mono
@@ -174,7 +187,9 @@ module _ (ρ : ℕ → ℤ) where
   norm-is (K c) = keep-is c [] none ∙ +ℤ-idr (c *ℤ pos 1) ∙ times-one c
   norm-is (a ⊕ b) = plus-is (norm a) (norm b) ∙ ap₂ _+ℤ_ (norm-is a) (norm-is b)
   norm-is (a ⊗ b) = prod-is (norm a) (norm b) ∙ ap₂ _*ℤ_ (norm-is a) (norm-is b)
-  norm-is (⊖ a) = scale-is (negsuc 0) [] (norm a) ∙ neg-* (pos 1) (poly (norm a)) ∙ ap negℤ (one-times (poly (norm a)) ∙ norm-is a)
+  norm-is (⊖ a) =
+      scale-is (negsuc 0) [] (norm a) ∙ neg-* (pos 1) (poly (norm a))
+      ∙ ap negℤ (one-times (poly (norm a)) ∙ norm-is a)
 
   pub solve : (a b : E) → norm a ≡ norm b → ⟦_⟧ a ≡ ⟦_⟧ b
   solve a b e = sym (norm-is a) ∙ ap poly e ∙ norm-is b
@@ -188,4 +203,6 @@ telescope : (a b c : ℤ) → (a -ℤ b) +ℤ (b -ℤ c) ≡ a -ℤ c
 telescope a b c = solve (env (a ∷ b ∷ c ∷ [])) ((X 0 ⊕ ⊖ (X 1)) ⊕ (X 1 ⊕ ⊖ (X 2))) (X 0 ⊕ ⊖ (X 2)) refl
 
 cube : (a b : ℤ) → (a -ℤ b) *ℤ (a *ℤ a +ℤ a *ℤ b +ℤ b *ℤ b) ≡ a *ℤ a *ℤ a -ℤ b *ℤ b *ℤ b
-cube a b = solve (env (a ∷ b ∷ [])) ((X 0 ⊕ ⊖ (X 1)) ⊗ (X 0 ⊗ X 0 ⊕ X 0 ⊗ X 1 ⊕ X 1 ⊗ X 1)) (X 0 ⊗ X 0 ⊗ X 0 ⊕ ⊖ (X 1 ⊗ X 1 ⊗ X 1)) refl
+cube a b =
+    solve (env (a ∷ b ∷ [])) ((X 0 ⊕ ⊖ (X 1)) ⊗ (X 0 ⊗ X 0 ⊕ X 0 ⊗ X 1 ⊕ X 1 ⊗ X 1))
+    (X 0 ⊗ X 0 ⊗ X 0 ⊕ ⊖ (X 1 ⊗ X 1 ⊗ X 1)) refl

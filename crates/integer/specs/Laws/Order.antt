@@ -11,13 +11,17 @@ use Rattle.integer.specs.Laws.Ring.{ring, distr}
 
 -- a − b for b ≤ a, and for a < b
 pub sub-ge : (a b : ℕ) → b ≤ a → subℕ a b ≡ pos (a - b)
-sub-ge a b h = at-cond (ltb a b) (negsuc (b - suc a)) (pos (a - b)) (λ (z : ℤ). z ≡ pos (a - b)) (λ t. absurd (clash (ltb→lt a b t))) (λ t. refl)
+sub-ge a b h =
+    at-cond (ltb a b) (negsuc (b - suc a)) (pos (a - b)) (λ (z : ℤ). z ≡ pos (a - b))
+    (λ t. absurd (clash (ltb→lt a b t))) (λ t. refl)
   where
     clash : a < b → ⊥
     clash k = omega arith
 
 pub sub-lt : (a b : ℕ) → a < b → subℕ a b ≡ negsuc (b - suc a)
-sub-lt a b h = at-cond (ltb a b) (negsuc (b - suc a)) (pos (a - b)) (λ (z : ℤ). z ≡ negsuc (b - suc a)) (λ t. refl) (λ t. absurd (clash (nltb→le a b t)))
+sub-lt a b h =
+    at-cond (ltb a b) (negsuc (b - suc a)) (pos (a - b)) (λ (z : ℤ). z ≡ negsuc (b - suc a)) (λ t. refl)
+    (λ t. absurd (clash (nltb→le a b t)))
   where
     clash : b ≤ a → ⊥
     clash k = omega arith
@@ -42,7 +46,9 @@ pub ≤ℤ-diff : {a b : ℤ} → a ≤ℤ b → (n : ℕ) × (b ≡ a +ℤ pos 
 
 more : (a : ℤ) (n : ℕ) → T (leZ a (a +ℤ pos n))
 more (pos a) n = le→leb a (a + n) (omega arith)
-more (negsuc a) n = at-cond (ltb n (suc a)) (negsuc (suc a - suc n)) (pos (n - suc a)) (λ (z : ℤ). T (leZ (negsuc a) z)) (λ t. le→leb (suc a - suc n) a (omega arith)) (λ t. tt)
+more (negsuc a) n =
+    at-cond (ltb n (suc a)) (negsuc (suc a - suc n)) (pos (n - suc a)) (λ (z : ℤ). T (leZ (negsuc a) z))
+    (λ t. le→leb (suc a - suc n) a (omega arith)) (λ t. tt)
 
 pub ≤ℤ-more : (a : ℤ) (n : ℕ) → a ≤ℤ (a +ℤ pos n)
 ≤ℤ-more a n = leZ-yes (more a n)
@@ -67,7 +73,9 @@ pub ≤ℤ-* : {a b : ℤ} (k : ℕ) → a ≤ℤ b → (a *ℤ pos k) ≤ℤ (b
 
 -- two orders at once, under a sum
 pub ≤ℤ-+ℤ : {a b c d : ℤ} → a ≤ℤ b → c ≤ℤ d → (a +ℤ c) ≤ℤ (b +ℤ d)
-≤ℤ-+ℤ {a} {b} {c} {d} h k = ≤ℤ-trans (≤ℤ-+ c h) (subst (λ (x : ℤ). x ≤ℤ (b +ℤ d)) (+ℤ-comm c b) (subst (λ (x : ℤ). (c +ℤ b) ≤ℤ x) (+ℤ-comm d b) (≤ℤ-+ b k)))
+≤ℤ-+ℤ {a} {b} {c} {d} h k =
+    ≤ℤ-trans (≤ℤ-+ c h) (subst (λ (x : ℤ). x ≤ℤ (b +ℤ d)) (+ℤ-comm c b)
+    (subst (λ (x : ℤ). (c +ℤ b) ≤ℤ x) (+ℤ-comm d b) (≤ℤ-+ b k)))
 
 -- under a product with any factor that is not negative
 pub ≤ℤ-*ℤ : {a b : ℤ} (c : ℤ) → pos 0 ≤ℤ c → a ≤ℤ b → (a *ℤ c) ≤ℤ (b *ℤ c)
@@ -75,7 +83,9 @@ pub ≤ℤ-*ℤ : {a b : ℤ} (c : ℤ) → pos 0 ≤ℤ c → a ≤ℤ b → (a
 ≤ℤ-*ℤ (negsuc k) n h = absurd (n .le)
 
 back : (a n : ℤ) → negℤ a ≡ negℤ (a +ℤ n) +ℤ n
-back a n = sym (ap (λ (x : ℤ). x +ℤ n) (negℤ-+ℤ a n) ∙ +ℤ-assoc (negℤ a) (negℤ n) n ∙ ap (λ (x : ℤ). negℤ a +ℤ x) (+ℤ-invl n) ∙ +ℤ-idr (negℤ a))
+back a n =
+    sym (ap (λ (x : ℤ). x +ℤ n) (negℤ-+ℤ a n) ∙ +ℤ-assoc (negℤ a) (negℤ n) n ∙ ap (λ (x : ℤ). negℤ a +ℤ x) (+ℤ-invl n)
+    ∙ +ℤ-idr (negℤ a))
 
 -- a negation turns the order round
 pub ≤ℤ-neg : {a b : ℤ} → a ≤ℤ b → negℤ b ≤ℤ negℤ a
@@ -103,7 +113,8 @@ strictly (negsuc a) (pos b) t = (b + suc a, omega arith, sym (sub-ge (b + suc a)
   where
     there : b + suc a - suc a ≡ b
     there = omega arith
-strictly (negsuc a) (negsuc b) t = (a - b, some (ltb→lt b a t), sym (sub-lt (a - b) (suc a) (omega arith) ∙ ap negsuc (there (ltb→lt b a t))))
+strictly (negsuc a) (negsuc b) t =
+    (a - b, some (ltb→lt b a t), sym (sub-lt (a - b) (suc a) (omega arith) ∙ ap negsuc (there (ltb→lt b a t))))
   where
     some : b < a → 0 < a - b
     some h = omega arith
@@ -116,7 +127,9 @@ pub <ℤ-diff : {a b : ℤ} → a <ℤ b → (n : ℕ) × (0 < n) × (b ≡ a +�
 
 beyond : (a : ℤ) (n : ℕ) → 0 < n → T (ltZ a (a +ℤ pos n))
 beyond (pos a) n h = lt→ltb a (a + n) (omega arith)
-beyond (negsuc a) n h = at-cond (ltb n (suc a)) (negsuc (suc a - suc n)) (pos (n - suc a)) (λ (z : ℤ). T (ltZ (negsuc a) z)) (λ t. lt→ltb (suc a - suc n) a (inside (ltb→lt n (suc a) t))) (λ t. tt)
+beyond (negsuc a) n h =
+    at-cond (ltb n (suc a)) (negsuc (suc a - suc n)) (pos (n - suc a)) (λ (z : ℤ). T (ltZ (negsuc a) z))
+    (λ t. lt→ltb (suc a - suc n) a (inside (ltb→lt n (suc a) t))) (λ t. tt)
   where
     inside : n < suc a → suc a - suc n < a
     inside k = omega arith
@@ -140,7 +153,9 @@ pub <ℤ-+ : {a b : ℤ} (c : ℤ) → a <ℤ b → (a +ℤ c) <ℤ (b +ℤ c)
 <ℤ-+ {a} {b} c h = let (m, s, p) = <ℤ-diff h in by-more m s (ap (λ (x : ℤ). x +ℤ c) p ∙ swap a (pos m) c)
 
 pub <ℤ-* : {a b : ℤ} (k : ℕ) → 0 < k → a <ℤ b → (a *ℤ pos k) <ℤ (b *ℤ pos k)
-<ℤ-* {a} {b} k k>0 h = let (m, s, p) = <ℤ-diff h in by-more (m * k) (N.mul-pos s k>0) (ap (λ (x : ℤ). x *ℤ pos k) p ∙ distr a (pos m) (pos k))
+<ℤ-* {a} {b} k k>0 h =
+    let (m, s, p) = <ℤ-diff h in by-more (m * k) (N.mul-pos s k>0) (ap (λ (x : ℤ). x *ℤ pos k) p
+    ∙ distr a (pos m) (pos k))
 
 -- |z| ≤ k exactly when -k ≤ z ≤ k
 pub natAbs-upper : (z : ℤ) {k : ℕ} → natAbs z ≤ k → z ≤ℤ pos k

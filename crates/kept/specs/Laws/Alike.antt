@@ -20,7 +20,8 @@ use Rattle.split.specs.Fold.{sumTo, first}
 use Rattle.split.specs.Split.{SYSTEMS, RECORDS, systemOf, rankOf}
 use Rattle.split.specs.Rating.{spreadOf, inertNumber, PURE_METHANE}
 use Rattle.split.specs.Move.{imbalanceOf}
-use Rattle.kept.specs.Widths.{BEFORE, BLEND, cellCount, cellIn, amountIn, partsIn, numberIn, componentIn, amountsIn, weightedIn, meanIn, ratingIn, someEmptyIn}
+use Rattle.kept.specs.Widths.{BEFORE, BLEND, cellCount, cellIn, amountIn, partsIn, numberIn, componentIn}
+use Rattle.kept.specs.Widths.{amountsIn, weightedIn, meanIn, ratingIn, someEmptyIn}
 use Rattle.kept.specs.Laws.Steady.{sum-same-ℤ, some-same, table-same, spread-same, imbalance-same}
 
 -- the k chosen systems are candidates, and none contains hydrogen

@@ -17,7 +17,8 @@ use Rattle.split.specs.declared.Turn.{Turn}
 use Rattle.split.specs.declared.Turn.the-variants.{Rate, Refuse, Move, Halve}
 use Rattle.split.specs.declared.Search.the-variants.{Balanced, Unbalanced}
 use Rattle.split.specs.declared.Found.{Found}
-use Rattle.kept.specs.Widths.{BEFORE, BLEND, moveCount, numberIn, movedIn, affordsIn, lowersIn, canIn, firstIn, goOnIn, turnIn, stepIn, runIn, searchIn}
+use Rattle.kept.specs.Widths.{BEFORE, BLEND, moveCount, numberIn, movedIn, affordsIn, lowersIn, canIn}
+use Rattle.kept.specs.Widths.{firstIn, goOnIn, turnIn, stepIn, runIn, searchIn}
 use Rattle.kept.specs.Laws.Steady.{first-wider}
 use Rattle.kept.specs.Laws.Alike.{Without, Alike, parts-same, spreads-same, imbalances-same}
 use Rattle.kept.specs.Laws.AlikeCells.{moved-alike}

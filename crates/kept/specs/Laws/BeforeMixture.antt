@@ -12,7 +12,8 @@ use lib.Seq.{set-append-left, getD-append-seam, getD-at}
 use borrow.Author.Tests.{le-ltb}
 use Rattle.integer.specs.Figures.{MILLION}
 use Rattle.analysis.specs.Check.{totalOf}
-use Rattle.mixture.specs.Scaling.{quotientOf, remainderOf, quotientsOf, remaindersOf, missingOf, largestTo, greatestPlace, oneMore, distributed, scaledOf}
+use Rattle.mixture.specs.Scaling.{quotientOf, remainderOf, quotientsOf, remaindersOf, missingOf, largestTo}
+use Rattle.mixture.specs.Scaling.{greatestPlace, oneMore, distributed, scaledOf}
 use Rattle.mixture.specs.Simplification.{amountOfCode, tenthsOf, tenthsTotal, simplifiedOf}
 use Rattle.mixture.specs.Inert.{methaneShare, inertFirst}
 use Rattle.systems.specs.Without.{HYDROCARBONS}

@@ -11,7 +11,10 @@ use Rattle.split.specs.Search.{goOn, turnOf, stepOf, runOf, searchOf}
 use Rattle.split.specs.Laws.Turns.{run-rate, run-refuse, run-move, run-halve}
 use Rattle.split.specs.declared.Turn.{Turn}
 use Rattle.split.specs.declared.Turn.the-variants.{Rate, Refuse, Move, Halve}
-use Rattle.kept.specs.Widths.{cellCount, moveCount, cellIn, amountIn, partsIn, columnIn, numberIn, componentIn, cellsIn, amountsIn, weightedIn, meanIn, ratingIn, resumsIn, someEmptyIn, proposedIn, startIn, movedIn, affordsIn, lowersIn, canIn, firstIn, goOnIn, turnIn, runIn, searchIn}
+use Rattle.kept.specs.Widths.{cellCount, moveCount, cellIn, amountIn, partsIn, columnIn, numberIn}
+use Rattle.kept.specs.Widths.{componentIn, cellsIn, amountsIn, weightedIn, meanIn, ratingIn, resumsIn}
+use Rattle.kept.specs.Widths.{someEmptyIn, proposedIn, startIn, movedIn, affordsIn, lowersIn, canIn, firstIn}
+use Rattle.kept.specs.Widths.{goOnIn, turnIn, runIn, searchIn}
 
 pub sizes-today : (cellCount COMPONENTS ≡ CELLS) × (moveCount COMPONENTS ≡ MOVES)
 sizes-today = (refl, refl)

@@ -9,7 +9,8 @@ mul-result : tie.Need-mul-result
 mul-result c = search needs
 
 mul-result-2 : tie.Need-mul-result-2
-mul-result-2 c = record { fits = omega (arith, rest-left (c .args .x) (c .args .total) (c .args .quotient) (c .pre .2)) }
+mul-result-2 c =
+    record { fits = omega (arith, rest-left (c .args .x) (c .args .total) (c .args .quotient) (c .pre .2)) }
 
 sub-result : tie.Need-sub-result
 sub-result c = omega (arith, rest-left (c .args .x) (c .args .total) (c .args .quotient) (c .pre .2))

@@ -4,7 +4,8 @@ use lib.ListN.{length}
 use Rattle.analysis.specs.Register.{CODES}
 use Rattle.analysis.specs.Check.{Checking}
 use Rattle.mixture.specs.Laws.Bounds.{tenths-positive}
-use Rattle.mixture.proofs.Answered.{refusal-none, refusal-some, same-answer, mixture-in-range, inert-in-range, mixture-refused, inert-refused}
+use Rattle.mixture.proofs.Answered.{refusal-none, refusal-some, same-answer, mixture-in-range}
+use Rattle.mixture.proofs.Answered.{inert-in-range, mixture-refused, inert-refused}
 use borrow.Author.Needs.{needs}
 use Rattle.mixture.proofs.simplify.Statement.{statement}
 use Rattle.mixture.proofs.simplify.Tie as tie
@@ -20,7 +21,8 @@ in-range-requires c κs =
     let k = c .before .before .before in
     let a = k .before .before .args .a .amounts in
     let l : length a ≡ CODES = search needs in
-    tenths-positive a l (refusal-none a _ (record { answer = k .check .ensures .0; code = k .check .ensures .1 }) (c .before .enum-told .given .1))
+    tenths-positive a l (refusal-none a _ (record { answer = k .check .ensures .0; code = k .check .ensures .1 })
+        (c .before .enum-told .given .1))
 
 enum-known-answer : tie.Need-enum-known-answer
 enum-known-answer c = search needs
@@ -36,7 +38,8 @@ returns c =
     let h : Checking a (k .check .result) = record { answer = k .check .ensures .0; code = k .check .ensures .1 } in
     let n = refusal-none a _ h e in
     let s = same-answer a _ _ h (c .in-range .ensures .0 ∙ sym e) in
-    (s .answer, (s .code, (mixture-in-range a n _ (c .in-range .ensures .1), inert-in-range a n _ (c .in-range .ensures .2))))
+    (s .answer, (s .code, (mixture-in-range a n _ (c .in-range .ensures .1),
+    inert-in-range a n _ (c .in-range .ensures .2))))
 
 returns-2 : tie.Need-returns-2
 returns-2 c =
@@ -46,7 +49,8 @@ returns-2 c =
     let h : Checking a (k .check .result) = record { answer = k .check .ensures .0; code = k .check .ensures .1 } in
     let n = refusal-some a _ _ _ h e in
     let s = same-answer a _ _ h (c .refused .ensures .0 ∙ sym e) in
-    (s .answer, (s .code, (mixture-refused a n _ (c .refused .ensures .1), inert-refused a n _ (c .refused .ensures .2))))
+    (s .answer, (s .code, (mixture-refused a n _ (c .refused .ensures .1),
+    inert-refused a n _ (c .refused .ensures .2))))
 
 pub simplify-spec : {M : Type 1} → statement M
 simplify-spec =

@@ -39,14 +39,16 @@ loop-again : tie.Need-loop-again Inv-loop μ-loop
 loop-again c =
     let b = c .before .before in (
       omega arith,
-      sum-next (b .before .args .x .now) (b .loop .i) (b .loop .t) (omega (arith, b .before .pre .long)) (b .loop .inv .1),
+      sum-next (b .before .args .x .now) (b .loop .i) (b .loop .t) (omega (arith, b .before .pre .long))
+          (b .loop .inv .1),
       omega (arith, b .before .pre .small (b .loop .i)),
     )
 
 returns : tie.Need-returns Inv-loop μ-loop
 returns c =
     let b = c .before in (
-      sum-all (b .before .args .x .now) (b .loop .i) (b .loop .t) (omega (arith, b .before .pre .long)) (b .loop .inv .1),
+      sum-all (b .before .args .x .now) (b .loop .i) (b .loop .t) (omega (arith, b .before .pre .long))
+          (b .loop .inv .1),
       omega arith,
     )
 

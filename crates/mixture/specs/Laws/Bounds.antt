@@ -1,5 +1,5 @@
--- What holds of the simplified mixture and of the inert mixture: of any amounts whose T is not 0, and more of an analysis
--- in range. Assumes nothing.
+-- What holds of the simplified mixture and of the inert mixture: of any amounts whose T is not 0, and more of an
+-- analysis in range. Assumes nothing.
 use Prim.Native.Nat.{ℕ, zero, suc, _+_, _*_, _/_, _≤_, _<_}
 use mathlib.Core.Path.{_≡_}
 use mathlib.Core.List.{List}
@@ -24,7 +24,8 @@ pub share-greatest : (t c : ℕ) → 0 < t → methaneShare t c ≤ MILLION
 unfolding methaneShare
 share-greatest t c h =
     let d = t + 10 * c in
-    let l : (2 * (MILLION * t) + d) / (2 * d) < MILLION + 1 = div-lt-iff-lt-mul {k = 2 * d} (omega arith) .1 (omega arith) in
+    let l : (2 * (MILLION * t) + d) / (2 * d) < MILLION + 1 = div-lt-iff-lt-mul {k = 2 * d} (omega arith) .1
+        (omega arith) in
     omega arith
 
 -- where the carbon dioxide is at most 1000000 times the rest
@@ -44,7 +45,8 @@ module _ (a : List ℕ) (p : 0 < tenthsTotal a) where
   simplified-total = scaled-sum (tenthsOf a) p
 
   -- each amount is less than one part from its exact share
-  pub simplified-near : (i : ℕ) → i < COMPONENTS → NearShare (tenthsTotal a) (getD (tenthsOf a) i 0) (getD (simplifiedOf a) i 0)
+  pub simplified-near : (i : ℕ) → i < COMPONENTS
+      → NearShare (tenthsTotal a) (getD (tenthsOf a) i 0) (getD (simplifiedOf a) i 0)
   unfolding tenthsOf
   simplified-near i l = scaled-near (tenthsOf a) p i l
 
@@ -113,7 +115,8 @@ module _ (a : List ℕ) (l : length a ≡ CODES) (h : analysisRefusal a ≡ 0) w
       go (suc zero) k w = times-ten 100 (amountOfCode a 2) (omega arith) (w .ethane-least)
       go (suc (suc zero)) k w = times-ten 100 (amountOfCode a 3) (omega arith) (w .propane-least)
       go (suc (suc (suc zero))) k w =
-          butane-or-absent (amountOfCode a 4) (amountOfCode a 5) (amountOfCode a 6) (amountOfCode a 7) (amountOfCode a 8) (amountOfCode a 10)
+          butane-or-absent (amountOfCode a 4) (amountOfCode a 5) (amountOfCode a 6) (amountOfCode a 7)
+              (amountOfCode a 8) (amountOfCode a 10)
           (w .i-butane-least) (w .n-butane-least) (w .neo-pentane-least) (w .i-pentane-least) (w .n-pentane-least)
           (w .hexanes-least)
       go (suc (suc (suc (suc zero)))) k w = times-ten 10 (amountOfCode a 15) (omega arith) (w .hydrogen-least)

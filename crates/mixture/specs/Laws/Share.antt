@@ -11,7 +11,8 @@ use lib.Seq.{getD-set-same, getD-set-other}
 use borrow.Author.Tests.{eqb-true, eqb-false, ltb-true, ltb-false}
 use Rattle.integer.specs.Figures.{MILLION}
 use Rattle.analysis.specs.Check.{totalOf}
-use Rattle.mixture.specs.Scaling.{quotientOf, remainderOf, quotientsOf, remaindersOf, missingOf, greatestPlace, oneMore, distributed, scaledOf}
+use Rattle.mixture.specs.Scaling.{quotientOf, remainderOf, quotientsOf, remaindersOf, missingOf}
+use Rattle.mixture.specs.Scaling.{greatestPlace, oneMore, distributed, scaledOf}
 use Rattle.mixture.specs.Laws.Total.{sum-set, greatest-below, greatest-least, remainders-sum}
 
 -- s parts are less than one part from 1000000 × x / t
@@ -36,7 +37,8 @@ fair-more : (t x q r : ℕ) → 0 < r → Fair t x q r → Fair t x (q + 1) 0
 fair-more t x q r h f =
     let e = f .exact h in
     let l = f .small in
-    record { near = record { above = omega arith; below = omega arith }; exact = λ z. absurd (not-suc-le-zero z); small = omega arith }
+    record { near = record { above = omega arith; below = omega arith }; exact = λ z. absurd
+        (not-suc-le-zero z); small = omega arith }
 
 sum-zero : (l : List ℕ) → ((i : ℕ) → i < length l → getD l i 0 ≤ 0) → totalOf l ≡ 0
 sum-zero [] h = refl
@@ -91,11 +93,13 @@ module _ (xs : List ℕ) (h : 0 < totalOf xs) where
   pub scaled-near : (i : ℕ) → i < length xs → NearShare (totalOf xs) (getD xs i 0) (getD (scaledOf xs) i 0)
   unfolding scaledOf
   scaled-near =
-      distributed-fair (totalOf xs) xs h (missingOf (quotientsOf xs (totalOf xs))) (quotientsOf xs (totalOf xs)) (remaindersOf xs (totalOf xs))
+      distributed-fair (totalOf xs) xs h (missingOf (quotientsOf xs (totalOf xs))) (quotientsOf xs (totalOf xs))
+          (remaindersOf xs (totalOf xs))
       (length-map xs (quotientOf (totalOf xs)))
       (length-map xs (remainderOf (totalOf xs)))
       (omega (arith, remainders-sum xs h))
-      (λ i l. rw (getD-map (quotientOf (totalOf xs)) xs i l, getD-map (remainderOf (totalOf xs)) xs i l) (fair-first (totalOf xs) (getD xs i 0) h))
+      (λ i l. rw (getD-map (quotientOf (totalOf xs)) xs i l, getD-map (remainderOf (totalOf xs)) xs i l)
+      (fair-first (totalOf xs) (getD xs i 0) h))
 
   -- what is absent stays 0
   pub scaled-absent : (i : ℕ) → i < length xs → getD xs i 0 ≡ 0 → getD (scaledOf xs) i 0 ≡ 0

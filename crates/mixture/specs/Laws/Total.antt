@@ -10,7 +10,8 @@ use lib.ListN.{getD, set, length, length-set, length-map}
 use borrow.Author.Tests.{ltb-true, ltb-false}
 use Rattle.integer.specs.Figures.{MILLION}
 use Rattle.analysis.specs.Check.{totalOf}
-use Rattle.mixture.specs.Scaling.{quotientOf, remainderOf, quotientsOf, remaindersOf, missingOf, largestTo, greatestPlace, oneMore, distributed, scaledOf}
+use Rattle.mixture.specs.Scaling.{quotientOf, remainderOf, quotientsOf, remaindersOf, missingOf, largestTo}
+use Rattle.mixture.specs.Scaling.{greatestPlace, oneMore, distributed, scaledOf}
 
 -- ---- sums
 
@@ -65,22 +66,27 @@ greatest-least rs (suc n) j h =
 pub distributed-length : (m : ℕ) (qs rs : List ℕ) → length (distributed m qs rs) ≡ length qs
 unfolding distributed
 distributed-length zero qs rs = refl
-distributed-length (suc m) qs rs = distributed-length m (oneMore qs (greatestPlace rs)) (set rs (greatestPlace rs) 0) ∙ length-set qs (greatestPlace rs) (getD qs (greatestPlace rs) 0 + 1)
+distributed-length (suc m) qs rs =
+    distributed-length m (oneMore qs (greatestPlace rs)) (set rs (greatestPlace rs) 0)
+    ∙ length-set qs (greatestPlace rs) (getD qs (greatestPlace rs) 0 + 1)
 
-pub distributed-sum : (m : ℕ) (qs rs : List ℕ) → length qs ≡ length rs → 0 < length rs → totalOf (distributed m qs rs) ≡ totalOf qs + m
+pub distributed-sum : (m : ℕ) (qs rs : List ℕ) → length qs ≡ length rs → 0 < length rs
+    → totalOf (distributed m qs rs) ≡ totalOf qs + m
 unfolding distributed
 distributed-sum zero qs rs e h = omega arith
 distributed-sum (suc m) qs rs e h =
     let p = greatestPlace rs in
     omega (
       arith,
-      distributed-sum m (oneMore qs p) (set rs p 0) (length-set qs p (getD qs p 0 + 1) ∙ e ∙ sym (length-set rs p 0)) (rw length-set h),
+      distributed-sum m (oneMore qs p) (set rs p 0) (length-set qs p (getD qs p 0 + 1) ∙ e ∙ sym (length-set rs p 0))
+          (rw length-set h),
       sum-set qs p (getD qs p 0 + 1) (omega (arith, greatest-below rs (length rs) h)),
     )
 
 -- ---- the quotients and the remainders
 
-pub quotients-sum : (xs : List ℕ) (t : ℕ) → totalOf (quotientsOf xs t) * t + totalOf (remaindersOf xs t) ≡ MILLION * totalOf xs
+pub quotients-sum : (xs : List ℕ) (t : ℕ)
+    → totalOf (quotientsOf xs t) * t + totalOf (remaindersOf xs t) ≡ MILLION * totalOf xs
 quotients-sum [] t = omega arith
 quotients-sum (x ∷ xs) t = omega (arith, quotients-sum xs t, div-add-mod' (MILLION * x) t)
 
@@ -108,7 +114,8 @@ module _ (xs : List ℕ) (h : 0 < totalOf xs) where
   scaled-sum =
       omega (
         arith,
-        distributed-sum (missingOf (quotientsOf xs (totalOf xs))) (quotientsOf xs (totalOf xs)) (remaindersOf xs (totalOf xs))
+        distributed-sum (missingOf (quotientsOf xs (totalOf xs))) (quotientsOf xs (totalOf xs))
+            (remaindersOf xs (totalOf xs))
             (length-map xs (quotientOf (totalOf xs)) ∙ sym (length-map xs (remainderOf (totalOf xs))))
             (rw length-map (sum-filled xs h)),
         quotients-whole,

@@ -43,7 +43,8 @@ unfolding columnOf
 loop-again c =
     let a = c .before .before .before .before .args in (
       omega arith,
-      c .added .ensures .0 ∙ sum-more (λ s. cellOf (a .a .now) s (a .c)) _ _ _ (c .before .before .before .loop .inv .1) refl,
+      c .added .ensures .0 ∙ sum-more (λ s. cellOf (a .a .now) s (a .c)) _ _ _
+          (c .before .before .before .loop .inv .1) refl,
       omega arith,
     )
 

@@ -26,7 +26,13 @@ rating-of-requires : tie.Need-rating-of-requires
 rating-of-requires c κs = search needs
 
 returns-2 : tie.Need-returns-2
-returns-2 c = rated-answer _ _ _ _ _ _ (c .before .before .before .before .spread .ensures) (c .before .before .before .if1 .left) _ _ _ (read-back (c .before .before .weighted .result) (c .before .before .weighted .ok) ∙ c .before .before .weighted .ensures .0) (read-back (c .before .inert-number .result) (c .before .inert-number .ok) ∙ c .before .inert-number .ensures .0) (read-back (c .rating-of .result) (c .rating-of .ok) ∙ c .rating-of .ensures)
+returns-2 c =
+    rated-answer _ _ _ _ _ _ (c .before .before .before .before .spread .ensures)
+    (c .before .before .before .if1 .left) _ _ _
+    (read-back (c .before .before .weighted .result) (c .before .before .weighted .ok)
+    ∙ c .before .before .weighted .ensures .0)
+    (read-back (c .before .inert-number .result) (c .before .inert-number .ok) ∙ c .before .inert-number .ensures .0)
+    (read-back (c .rating-of .result) (c .rating-of .ok) ∙ c .rating-of .ensures)
 
 pub rated-spec : {M : Type 1} → statement M
 rated-spec =

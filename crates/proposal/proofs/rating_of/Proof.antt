@@ -5,7 +5,8 @@ use Rattle.proposal.proofs.rating_of.Statement.{statement}
 use Rattle.proposal.proofs.rating_of.Tie as tie
 
 div-result : tie.Need-div-result
-div-result c = (lit< tt, rating-div (c .args .sum) (c .args .inert) (c .fits .sum) (c .fits .inert) (c .pre .0) (c .pre .1))
+div-result c =
+    (lit< tt, rating-div (c .args .sum) (c .args .inert) (c .fits .sum) (c .fits .inert) (c .pre .0) (c .pre .1))
 
 add-result : tie.Need-add-result
 add-result c = rating-add (c .args .sum) (c .args .inert) (c .fits .sum) (c .fits .inert) (c .pre .0) (c .pre .1)

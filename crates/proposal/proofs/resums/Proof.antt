@@ -29,7 +29,9 @@ wide-requires : tie.Need-wide-requires Inv-loop μ-loop
 wide-requires c κs = search needs
 
 returns : tie.Need-returns Inv-loop μ-loop
-returns c = unsummed _ _ _ _ _ _ (omega arith) (c .before .before .before .column .ensures) (c .before .wide .ensures) (c .if1 .taken)
+returns c =
+    unsummed _ _ _ _ _ _ (omega arith) (c .before .before .before .column .ensures) (c .before .wide .ensures)
+    (c .if1 .taken)
 
 add-c : tie.Need-add-c Inv-loop μ-loop
 add-c c = omega arith
@@ -38,7 +40,9 @@ loop-less : tie.Need-loop-less Inv-loop μ-loop
 loop-less c = omega arith
 
 loop-again : tie.Need-loop-again Inv-loop μ-loop
-loop-again c = (omega arith, summed-more _ _ _ _ _ _ (omega arith) (c .before .before .before .column .ensures) (c .before .wide .ensures) (c .before .before .before .before .before .loop .inv .1) (c .if1 .left))
+loop-again c =
+    (omega arith, summed-more _ _ _ _ _ _ (omega arith) (c .before .before .before .column .ensures)
+    (c .before .wide .ensures) (c .before .before .before .before .before .loop .inv .1) (c .if1 .left))
 
 returns-2 : tie.Need-returns-2 Inv-loop μ-loop
 returns-2 c = summed-all _ _ _ _ (omega arith) (c .before .loop .inv .1)

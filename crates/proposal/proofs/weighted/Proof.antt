@@ -32,10 +32,18 @@ element-copy-out-weigh-2 : tie.Need-element-copy-out-weigh-2 Inv-loop μ-loop
 element-copy-out-weigh-2 c = omega (arith, c .before .before .before .pre .small .most, c .before .loop-test .taken)
 
 loop-again : tie.Need-loop-again Inv-loop μ-loop
-loop-again c = weighed-more _ _ _ (c .before .before .before .before .before .pre) _ _ _ _ (c .before .before .before .before .loop .inv) (c .before .before .before .loop-test .taken) (at-back _ _ _ (c .before .before .before .before .before .pre .small) (c .before .before .before .loop-test .taken)) refl _ (read-back (c .weigh .result) (c .weigh .ok) ∙ c .weigh .ensures)
+loop-again c =
+    weighed-more _ _ _ (c .before .before .before .before .before .pre) _ _ _ _
+    (c .before .before .before .before .loop .inv) (c .before .before .before .loop-test .taken)
+    (at-back _ _ _ (c .before .before .before .before .before .pre .small)
+    (c .before .before .before .loop-test .taken)) refl _ (read-back (c .weigh .result) (c .weigh .ok)
+    ∙ c .weigh .ensures)
 
 weigh-requires : tie.Need-weigh-requires Inv-loop μ-loop
-weigh-requires c κs = weigh-asks _ _ _ (c .before .before .before .before .pre) _ _ _ _ (c .before .before .before .loop .inv) (c .before .before .loop-test .taken) (at-back _ _ _ (c .before .before .before .before .pre .small) (c .before .before .loop-test .taken)) refl
+weigh-requires c κs =
+    weigh-asks _ _ _ (c .before .before .before .before .pre) _ _ _ _ (c .before .before .before .loop .inv)
+    (c .before .before .loop-test .taken)
+    (at-back _ _ _ (c .before .before .before .before .pre .small) (c .before .before .loop-test .taken)) refl
 
 add-s : tie.Need-add-s Inv-loop μ-loop
 add-s c = omega arith

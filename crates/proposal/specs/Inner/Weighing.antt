@@ -25,11 +25,13 @@ unfoldable pub ratedBy : ℕ → List ℤ → List ℕ → ℕ → ℕ → Answe
 ratedBy limit numbers p count n1 =
     cond (ltb limit (spreadOf (listed numbers) count))
     (Refused WIDE 0)
-    (Rated (quotZ (weighedTo numbers p count) (pos MILLION) +ℤ inertNumber n1 +ℤ neg PURE_METHANE) (spreadOf (listed numbers) count) 0)
+    (Rated (quotZ (weighedTo numbers p count) (pos MILLION) +ℤ inertNumber n1 +ℤ neg PURE_METHANE)
+    (spreadOf (listed numbers) count) 0)
 
 -- the answer to cells that re-sum
 unfoldable pub weighedOf : ℕ → List ℕ → ℕ → List ℕ → ℕ → Answer
-weighedOf limit systems count cells n1 = cond (someEmpty systems count cells) (Refused EMPTY_SYSTEM 0) (ratedOf limit systems count cells n1)
+weighedOf limit systems count cells n1 =
+    cond (someEmpty systems count cells) (Refused EMPTY_SYSTEM 0) (ratedOf limit systems count cells n1)
 
 -- small numbers of one or more rows that have a million parts at most
 pub record Weighable (numbers : List ℤ) (p : List ℕ) (count : ℕ) : Type 0 where

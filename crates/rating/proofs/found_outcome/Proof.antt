@@ -33,12 +33,16 @@ returns : tie.Need-returns
 returns c = absurd (c .before .before .before .before .before .pre .1 .made (c .before .enum-told .given .1))
 
 returns-2 : tie.Need-returns-2
-returns-2 c = c .refused2 .ensures ∙ found-none _ _ _ (c .before .before .before .before .before .args .found) (c .before .enum-told2 .given .1)
+returns-2 c =
+    c .refused2 .ensures ∙ found-none _ _ _ (c .before .before .before .before .before .args .found)
+    (c .before .enum-told2 .given .1)
 
 returns-3 : tie.Need-returns-3
 returns-3 c = let b = c .before .before .before .before .before .before .before in
-    found-is-some _ _ _ (b .args .found) _ _ (c .before .rating-of .result) _ _ (c .before .before .before .search .given .1)
-    (read-back (c .before .rating-of .result) (c .before .rating-of .ok)) (c .before .rating-of .ensures) (c .split-of .ensures)
+    found-is-some _ _ _ (b .args .found) _ _ (c .before .rating-of .result) _ _
+        (c .before .before .before .search .given .1)
+    (read-back (c .before .rating-of .result) (c .before .rating-of .ok)) (c .before .rating-of .ensures)
+    (c .split-of .ensures)
 
 pub found-outcome-spec : {M : Type 1} → statement M
 found-outcome-spec =

@@ -13,7 +13,9 @@ rate-by-search-requires : tie.Need-rate-by-search-requires
 rate-by-search-requires c κs = search needs
 
 returns : tie.Need-returns
-returns c = c .rate-by-search .ensures .0 ∙ search-any _ _ _ 0 (c .before .before .pre) ∙ sym (simp (eq-eqb _ _ (c .before .if1 .taken)))
+returns c =
+    c .rate-by-search .ensures .0 ∙ search-any _ _ _ 0 (c .before .before .pre)
+    ∙ sym (simp (eq-eqb _ _ (c .before .if1 .taken)))
 
 rate-split-requires : tie.Need-rate-split-requires
 rate-split-requires c κs = search needs
@@ -24,7 +26,8 @@ no-split-requires c κs = search needs
 returns-2 : tie.Need-returns-2
 returns-2 c = let s = c .before .before .before in
     let e = c .before .rate-split .ensures .0 ∙ split-any _ _ _ 0 (s .pre) in
-    ap₂ (λ (x : Answer) (y : Split). outcome x y) e (c .no-split .ensures) ∙ sym (simp (ne-eqb _ _ (c .before .before .if1 .left)))
+    ap₂ (λ (x : Answer) (y : Split). outcome x y) e (c .no-split .ensures)
+        ∙ sym (simp (ne-eqb _ _ (c .before .before .if1 .left)))
 
 pub rate-read-spec : {M : Type 1} → statement M
 rate-read-spec =

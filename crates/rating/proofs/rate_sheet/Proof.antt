@@ -21,10 +21,16 @@ enum-told : tie.Need-enum-told
 enum-told c = search needs
 
 rate-read-requires : tie.Need-rate-read-requires
-rate-read-requires c κs = passed _ _ (record { sheet = c .before .before .before .before .read .ensures .0; code = c .before .before .before .before .read .ensures .1 }) (c .enum-told .given .1)
+rate-read-requires c κs =
+    passed _ _ (record { sheet = c .before .before .before .before .read .ensures .0;
+    code = c .before .before .before .before .read .ensures .1 }) (c .enum-told .given .1)
 
 returns : tie.Need-returns
-returns c = sheet-refused-is _ _ (record { sheet = c .before .before .before .before .before .before .before .read .ensures .0; code = c .before .before .before .before .before .before .before .read .ensures .1 }) _ _ _ (c .before .before .before .answer .given .1) _ _
+returns c =
+    sheet-refused-is _ _ (record {
+    sheet = c .before .before .before .before .before .before .before .read .ensures .0; code =
+    c .before .before .before .before .before .before .before .read .ensures .1 }) _ _ _
+    (c .before .before .before .answer .given .1) _ _
     (c .before .carried .ensures) (c .refused .ensures)
 
 returns-2 : tie.Need-returns-2

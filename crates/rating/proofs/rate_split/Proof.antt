@@ -1,6 +1,7 @@
 -- `rating::rate_split` meets its contract. Assumes nothing.
 use Rattle.analysis.specs.Register.{CODES}
-use Rattle.rating.proofs.CallCases.{in-range, turned-away, split-away, count-few, count-enough, given-proposal, given-room, split-in, split-not-five}
+use Rattle.rating.proofs.CallCases.{in-range, turned-away, split-away, count-few, count-enough}
+use Rattle.rating.proofs.CallCases.{given-proposal, given-room, split-in, split-not-five}
 use mathlib.Core.Path.{_≡_}
 use native.Mathlib.Omega.{arith}
 use lib.ListN.{length}
@@ -38,7 +39,8 @@ split-by-requires c κs = let b = c .before .before .before .before .before .bef
     let l : length a ≡ CODES = search needs in
     let s = b .simplify .ensures in
     let p = in-range _ _ (record { answer = s .0; code = s .1 .0 }) (c .before .before .before .enum-told .given .1) in
-    let on = count-enough a l p _ _ (s .1 .1 .0) (c .before .before .present-count .ensures) (omega (arith, c .before .if1 .left)) in (
+    let on = count-enough a l p _ _ (s .1 .1 .0) (c .before .before .present-count .ensures)
+        (omega (arith, c .before .if1 .left)) in (
       given-proposal a l p on _ _ _ (s .1 .1 .0) (c .choose .ensures) (s .1 .1 .1),
       given-room a l p on _ _ _ (s .1 .1 .0) (c .choose .ensures) (s .1 .1 .1),
     )
@@ -53,8 +55,10 @@ returns-3 c = let b = c .before .before .before .before .before .before .before 
     let a = b .before .args .a .amounts in
     let l : length a ≡ CODES = search needs in
     let s = b .simplify .ensures in
-    let p = in-range _ _ (record { answer = s .0; code = s .1 .0 }) (c .before .before .before .before .enum-told .given .1) in
-    let on = count-enough a l p _ _ (s .1 .1 .0) (c .before .before .before .present-count .ensures) (omega (arith, c .before .before .if1 .left)) in
+    let p = in-range _ _ (record { answer = s .0; code = s .1 .0 })
+        (c .before .before .before .before .enum-told .given .1) in
+    let on = count-enough a l p _ _ (s .1 .1 .0) (c .before .before .before .present-count .ensures)
+        (omega (arith, c .before .before .if1 .left)) in
     let e = split-in a l p on _ _ _ (s .1 .1 .0) (c .before .choose .ensures) (s .1 .1 .1) _ _ (c .split-by .ensures) in
     (e, λ z. absurd (split-not-five a l p _ _ _ e z))
 

@@ -33,7 +33,8 @@ use Rattle.split.specs.declared.Answer.the-variants.{Rated, Refused}
 use Rattle.split.specs.declared.Search.{Search}
 use Rattle.split.specs.declared.Search.the-variants.{Balanced, Unbalanced, Unfit}
 use Rattle.rating.specs.Records.{fitsOf}
-use Rattle.rating.specs.Rate.{ROUNDS, FEWEST, mixOf, systemsFor, countFor, ratingRefusal, splitBy, splitAnswer, outcome, foundBy, foundOutcome, searched, searchOutcome}
+use Rattle.rating.specs.Rate.{ROUNDS, FEWEST, mixOf, systemsFor, countFor, ratingRefusal, splitBy}
+use Rattle.rating.specs.Rate.{splitAnswer, outcome, foundBy, foundOutcome, searched, searchOutcome}
 use Rattle.rating.specs.RatedOn.{InRange, RatedOn}
 use Rattle.rating.specs.Laws.RatedOn.{on-or-few, few-by-count}
 use Rattle.rating.specs.declared.Outcome.{Outcome}

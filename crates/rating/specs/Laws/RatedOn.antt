@@ -35,7 +35,8 @@ module _ (a : List ℕ) where
   module _ (h : InRange a) where
     pub enough-on : FEWEST ≤ presentCount (mixOf a) → RatedOn a
     unfolding ratingRefusal
-    enough-on l = rw (eq-eqb (analysisRefusal a) 0 h, mixture-number (mixOf a), le-ltb (presentCount (mixOf a)) FEWEST l)
+    enough-on l =
+        rw (eq-eqb (analysisRefusal a) 0 h, mixture-number (mixOf a), le-ltb (presentCount (mixOf a)) FEWEST l)
 
     pub too-few : presentCount (mixOf a) < FEWEST → ratingRefusal a ≡ TOO_FEW
     unfolding ratingRefusal

@@ -1,4 +1,5 @@
--- `reader::amounts` meets its contract. The loop's invariant: the amounts so far and the records from place i on give those of all. Assumes nothing.
+-- `reader::amounts` meets its contract. The loop's invariant: the amounts so far and the records from place i on give
+-- those of all. Assumes nothing.
 use mathlib.Core.Logic.{⊎-elim}
 use Prim.Native.Nat.{_-_}
 use native.Mathlib.Omega.{arith}

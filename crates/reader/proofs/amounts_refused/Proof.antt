@@ -1,4 +1,5 @@
--- `reader::amounts_refused` meets its contract. The loop's invariant: one of the records from place i on is at 0 where one of all is. Assumes nothing.
+-- `reader::amounts_refused` meets its contract. The loop's invariant: one of the records from place i on is at 0
+-- where one of all is. Assumes nothing.
 use Prim.Native.Nat.{_-_}
 use native.Mathlib.Omega.{arith}
 use Rattle.reader.proofs.Turns.{Looked, looked-none, looked-next, looked-zero, looked-all}
@@ -31,7 +32,8 @@ returns : tie.Need-returns Inv-loop μ-loop
 returns c =
     let b = c .before .before .before in
     let l = b .before .loop .inv in
-    zero-found _ _ _ _ (l .there) (looked-zero _ _ _ _ l (b .loop-test .taken) _ (c .before .before .amount-at .ensures) (c .before .if1 .taken)) (b .loop-test .taken)
+    zero-found _ _ _ _ (l .there) (looked-zero _ _ _ _ l (b .loop-test .taken) _
+        (c .before .before .amount-at .ensures) (c .before .if1 .taken)) (b .loop-test .taken)
 
 add-i : tie.Need-add-i Inv-loop μ-loop
 add-i c = omega arith
@@ -53,7 +55,8 @@ check-requires c κs = omega arith
 returns-2 : tie.Need-returns-2 Inv-loop μ-loop
 returns-2 c =
     let b = c .before in
-    checked-found _ _ _ (looked-all _ _ _ _ (b .before .loop .inv) (b .loop-test .left)) (b .loop-test .left) _ (b .before .before .before .pre .1) _ (record { answer = c .check .ensures .0; code = c .check .ensures .1 })
+    checked-found _ _ _ (looked-all _ _ _ _ (b .before .loop .inv) (b .loop-test .left)) (b .loop-test .left) _
+        (b .before .before .before .pre .1) _ (record { answer = c .check .ensures .0; code = c .check .ensures .1 })
 
 pub amounts-refused-spec : {M : Type 1} → statement M
 amounts-refused-spec =

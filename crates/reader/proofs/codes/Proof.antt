@@ -1,4 +1,5 @@
--- `reader::codes` meets its contract. The loop's invariant: the records from place i on give the reading of all. Assumes nothing.
+-- `reader::codes` meets its contract. The loop's invariant: the records from place i on give the reading of all.
+-- Assumes nothing.
 use mathlib.Core.Path.{_≡_, sym, ap, _∙_}
 use Prim.Native.Nat.{ℕ, _+_, _-_, _*_, _≤_}
 use native.Mathlib.Omega.{arith}
@@ -12,7 +13,8 @@ use Rattle.reader.proofs.codes.Statement.{statement}
 use Rattle.reader.proofs.codes.Tie as tie
 
 abbrev Inv-loop : tie.InvT-loop
-Inv-loop s n i₀ place₀ at₀ p₀ i place at p = (i ≤ n) × (at ≡ 1 + 5 * i) × (place ≡ i) × (codesReading (n - i) s at i p ≡ codesReading n s 1 0 0)
+Inv-loop s n i₀ place₀ at₀ p₀ i place at p =
+    (i ≤ n) × (at ≡ 1 + 5 * i) × (place ≡ i) × (codesReading (n - i) s at i p ≡ codesReading n s 1 0 0)
 
 abbrev μ-loop : tie.MeasureT-loop
 μ-loop s n i₀ place₀ at₀ p₀ i place at p = n - i

@@ -12,7 +12,8 @@ use borrow.Author.Needs.{needs}
 use Rattle.reader.proofs.read.Statement.{statement}
 use Rattle.reader.proofs.read.Tie as tie
 
-both : (c : tie.After-known-told) → let g = c .before .parts .given .0 in sectionsOf (c .before .before .before .before .before .args .s .now) ≡ Both (g .0) (g .1 .0) (g .1 .1 .0)
+both : (c : tie.After-known-told) → let g = c .before .parts .given .0 in
+    sectionsOf (c .before .before .before .before .before .args .s .now) ≡ Both (g .0) (g .1 .0) (g .1 .1 .0)
 both c = sym (c .before .before .before .sections .ensures) ∙ c .before .parts .given .1
 
 sections-requires : tie.Need-sections-requires
@@ -29,7 +30,8 @@ refused-with-requires c κs = search needs
 
 returns : tie.Need-returns
 returns c =
-    let h = answer-torn _ _ (sym (c .before .before .before .sections .ensures) ∙ c .before .enum-told .given .1) (c .refused-with .ensures) in
+    let h = answer-torn _ _ (sym (c .before .before .before .sections .ensures) ∙ c .before .enum-told .given .1)
+        (c .refused-with .ensures) in
     (h .sheet, h .code)
 
 codes-requires : tie.Need-codes-requires
@@ -49,7 +51,8 @@ refused-requires c κs = search needs
 returns-2 : tie.Need-returns-2
 returns-2 c =
     let t = c .before .enum-told3 .given .1 in
-    let h = answer-codes _ _ _ _ _ (both (c .before .before .before .before)) _ _ _ (sym (c .before .before .before .codes .ensures) ∙ t) (c .refused .ensures ∙ ap refusedSheet t) in
+    let h = answer-codes _ _ _ _ _ (both (c .before .before .before .before)) _ _ _
+        (sym (c .before .before .before .codes .ensures) ∙ t) (c .refused .ensures ∙ ap refusedSheet t) in
     (h .sheet, h .code)
 
 amounts-requires : tie.Need-amounts-requires
@@ -79,8 +82,11 @@ split-at-requires c κs =
 returns-3 : tie.Need-returns-3
 returns-3 c =
     let t = c .before .before .checked .given .1 in
-    let d = sym (c .before .before .before .before .before .before .before .before .codes .ensures) ∙ c .before .before .before .before .before .before .enum-told2 .given .1 in
-    let h = answer-amounts _ _ _ _ _ (both (c .before .before .before .before .before .before .before .before .before)) d _ _ _ (c .before .before .before .before .amounts-refused .ensures) t (c .refused-with2 .ensures) in
+    let d = sym (c .before .before .before .before .before .before .before .before .codes .ensures)
+        ∙ c .before .before .before .before .before .before .enum-told2 .given .1 in
+    let h = answer-amounts _ _ _ _ _
+        (both (c .before .before .before .before .before .before .before .before .before)) d _ _ _
+        (c .before .before .before .before .amounts-refused .ensures) t (c .refused-with2 .ensures) in
     (h .sheet, h .code)
 
 returns-4 : tie.Need-returns-4

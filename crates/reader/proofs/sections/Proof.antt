@@ -26,7 +26,9 @@ returns : tie.Need-returns
 returns c = sym (first-torn _ _ (c .before .before .walk .ensures) (c .enum-told .given .1))
 
 returns-2 : tie.Need-returns-2
-returns-2 c = sym (too-many _ _ (c .before .before .before .before .walk .ensures) _ _ _ (c .before .before .components .given .1) (omega (arith, c .if1 .taken)))
+returns-2 c =
+    sym (too-many _ _ (c .before .before .before .before .walk .ensures) _ _ _
+    (c .before .before .components .given .1) (omega (arith, c .if1 .taken)))
 
 enum-known-split : tie.Need-enum-known-split
 enum-known-split c = search needs
@@ -37,7 +39,8 @@ enum-told-2 c = search needs
 returns-3 : tie.Need-returns-3
 returns-3 c =
     let few = c .before .before .if1 .left in
-    sym (second-torn _ _ (c .before .before .before .before .before .before .walk .ensures) _ _ _ (c .before .before .before .before .components .given .1) (omega (arith, few)) (c .enum-told2 .given .1))
+    sym (second-torn _ _ (c .before .before .before .before .before .before .walk .ensures) _ _ _
+        (c .before .before .before .before .components .given .1) (omega (arith, few)) (c .enum-told2 .given .1))
 
 allowed-count-requires : tie.Need-allowed-count-requires
 allowed-count-requires c κs = search needs
@@ -46,19 +49,27 @@ returns-4 : tie.Need-returns-4
 returns-4 c =
     let few = c .before .before .before .before .before .if1 .left in
     let other = sym (c .before .allowed-count .ensures) ∙ not-true _ (c .if2 .taken) in
-    sym (not-allowed _ _ (c .before .before .before .before .before .before .before .before .before .walk .ensures) _ _ _ (c .before .before .before .before .before .before .before .components .given .1) (omega (arith, few)) _ _ _ (c .before .before .before .split .given .1) other)
+    sym (not-allowed _ _ (c .before .before .before .before .before .before .before .before .before .walk .ensures) _
+        _ _ (c .before .before .before .before .before .before .before .components .given .1)
+        (omega (arith, few)) _ _ _ (c .before .before .before .split .given .1) other)
 
 returns-5 : tie.Need-returns-5
 returns-5 c =
     let few = c .before .before .before .before .before .before .if1 .left in
     let allowed = sym (c .before .before .allowed-count .ensures) ∙ not-false _ (c .before .if2 .left) in
-    sym (left-over _ _ (c .before .before .before .before .before .before .before .before .before .before .walk .ensures) _ _ _ (c .before .before .before .before .before .before .before .before .components .given .1) (omega (arith, few)) _ _ _ (c .before .before .before .before .split .given .1) allowed (c .if3 .taken))
+    sym (left-over _ _
+        (c .before .before .before .before .before .before .before .before .before .before .walk .ensures) _ _ _
+        (c .before .before .before .before .before .before .before .before .components .given .1)
+        (omega (arith, few)) _ _ _ (c .before .before .before .before .split .given .1) allowed (c .if3 .taken))
 
 returns-6 : tie.Need-returns-6
 returns-6 c =
     let few = c .before .before .before .before .before .before .if1 .left in
     let allowed = sym (c .before .before .allowed-count .ensures) ∙ not-false _ (c .before .if2 .left) in
-    sym (two-sections _ _ (c .before .before .before .before .before .before .before .before .before .before .walk .ensures) _ _ _ (c .before .before .before .before .before .before .before .before .components .given .1) (omega (arith, few)) _ _ _ (c .before .before .before .before .split .given .1) allowed (c .if3 .left))
+    sym (two-sections _ _
+        (c .before .before .before .before .before .before .before .before .before .before .walk .ensures) _ _ _
+        (c .before .before .before .before .before .before .before .before .components .given .1)
+        (omega (arith, few)) _ _ _ (c .before .before .before .before .split .given .1) allowed (c .if3 .left))
 
 pub sections-spec : {M : Type 1} → statement M
 sections-spec =

@@ -1,4 +1,5 @@
--- `reader::split_at` meets its contract. The loop's invariant: the columns so far and the records from place i on give those of all. Assumes nothing.
+-- `reader::split_at` meets its contract. The loop's invariant: the columns so far and the records from place i on
+-- give those of all. Assumes nothing.
 use mathlib.Core.Path.{refl}
 use native.Mathlib.Omega.{arith}
 use Prim.Native.Nat.{_-_}
@@ -55,13 +56,15 @@ loop-again : tie.Need-loop-again Inv-loop μ-loop
 loop-again c =
     let a = c .before .before .before .before .before .before .args in
     let l = c .before .before .before .before .loop in
-    columns-next (a .s .now) (a .at) (a .m) (l .systems) (l .codes) (l .amounts) (l .i) (l .w) (l .inv) (c .before .before .before .loop-test .taken) _ (c .amount-at .ensures)
+    columns-next (a .s .now) (a .at) (a .m) (l .systems) (l .codes) (l .amounts) (l .i) (l .w) (l .inv)
+        (c .before .before .before .loop-test .taken) _ (c .amount-at .ensures)
 
 returns : tie.Need-returns Inv-loop μ-loop
 returns c =
     let a = c .before .before .before .args in
     let l = c .before .loop in
-    columns-all (a .s .now) (a .at) (a .m) (l .systems) (l .codes) (l .amounts) (l .i) (l .w) (l .inv) (c .loop-test .left) (c .before .before .before .pre .0) _ refl
+    columns-all (a .s .now) (a .at) (a .m) (l .systems) (l .codes) (l .amounts) (l .i) (l .w) (l .inv)
+        (c .loop-test .left) (c .before .before .before .pre .0) _ refl
 
 pub split-at-spec : {M : Type 1} → statement M
 split-at-spec =

@@ -12,7 +12,9 @@ controller-record-requires : tie.Need-controller-record-requires
 controller-record-requires c κs = search needs
 
 returns : tie.Need-returns
-returns c = c .controller-record .ensures ∙ ap (λ (z : ℤ). recordOf z (c .before .args .spread)) (toZ-ofZ w64 (c .before .args .rating) (c .before .fits .rating))
+returns c =
+    c .controller-record .ensures ∙ ap (λ (z : ℤ). recordOf z (c .before .args .spread))
+    (toZ-ofZ w64 (c .before .args .rating) (c .before .fits .rating))
 
 pub saugrinte-controller-spec : {M : Type 1} → statement M
 saugrinte-controller-spec = tie.close (tie.spec controller-record-requires returns)

@@ -13,7 +13,11 @@ nothing-requires : tie.Need-nothing-requires
 nothing-requires c κs = search needs
 
 returns : tie.Need-returns
-returns c = c .nothing .ensures ∙ find-turned (c .before .before .before .args .mix) (c .before .before .before .args .choice .systems) (c .before .before .before .args .choice .count) (c .before .before .before .args .limit) (c .before .before .before .args .level) (c .before .before .before .args .allowance) _ (c .before .before .fit .ensures) (c .before .if1 .taken)
+returns c =
+    c .nothing .ensures ∙ find-turned (c .before .before .before .args .mix)
+    (c .before .before .before .args .choice .systems) (c .before .before .before .args .choice .count)
+    (c .before .before .before .args .limit) (c .before .before .before .args .level)
+    (c .before .before .before .args .allowance) _ (c .before .before .fit .ensures) (c .before .if1 .taken)
 
 start-requires : tie.Need-start-requires
 start-requires c κs = search needs
@@ -25,13 +29,103 @@ nothing-requires-2 : tie.Need-nothing-requires-2
 nothing-requires-2 c κs = search needs
 
 returns-2 : tie.Need-returns-2
-returns-2 c = c .nothing2 .ensures ∙ find-empty (c .before .before .before .before .before .before .before .before .args .mix) (c .before .before .before .before .before .before .before .before .args .choice .systems) (c .before .before .before .before .before .before .before .before .args .choice .count) (c .before .before .before .before .before .before .before .before .args .limit) (c .before .before .before .before .before .before .before .before .args .level) (c .before .before .before .before .before .before .before .before .args .allowance) (not-turned (c .before .before .before .before .before .before .before .before .args .mix) (c .before .before .before .before .before .before .before .before .args .choice .systems) (c .before .before .before .before .before .before .before .before .args .choice .count) (c .before .before .before .before .before .before .before .before .args .limit) (c .before .before .before .before .before .before .before .before .args .level) (c .before .before .before .before .before .before .before .before .args .allowance) _ (c .before .before .before .before .before .before .before .fit .ensures) (c .before .before .before .before .before .before .if1 .left) .0) _ (c .before .before .before .before .before .before .before .fit .ensures) (not-turned (c .before .before .before .before .before .before .before .before .args .mix) (c .before .before .before .before .before .before .before .before .args .choice .systems) (c .before .before .before .before .before .before .before .before .args .choice .count) (c .before .before .before .before .before .before .before .before .args .limit) (c .before .before .before .before .before .before .before .before .args .level) (c .before .before .before .before .before .before .before .before .args .allowance) _ (c .before .before .before .before .before .before .before .fit .ensures) (c .before .before .before .before .before .before .if1 .left) .1) (c .before .before .before .before .before .start .result) (c .before .before .before .before .before .start .ensures) (c .before .before .before .evaluate .result) (c .before .before .before .evaluate .ensures) (not-true _ (c .before .if2 .taken))
+returns-2 c =
+    c .nothing2 .ensures ∙ find-empty (c .before .before .before .before .before .before .before .before .args .mix)
+    (c .before .before .before .before .before .before .before .before .args .choice .systems)
+    (c .before .before .before .before .before .before .before .before .args .choice .count)
+    (c .before .before .before .before .before .before .before .before .args .limit)
+    (c .before .before .before .before .before .before .before .before .args .level)
+    (c .before .before .before .before .before .before .before .before .args .allowance)
+    (not-turned (c .before .before .before .before .before .before .before .before .args .mix)
+    (c .before .before .before .before .before .before .before .before .args .choice .systems)
+    (c .before .before .before .before .before .before .before .before .args .choice .count)
+    (c .before .before .before .before .before .before .before .before .args .limit)
+    (c .before .before .before .before .before .before .before .before .args .level)
+    (c .before .before .before .before .before .before .before .before .args .allowance) _
+    (c .before .before .before .before .before .before .before .fit .ensures)
+    (c .before .before .before .before .before .before .if1 .left) .0) _
+    (c .before .before .before .before .before .before .before .fit .ensures)
+    (not-turned (c .before .before .before .before .before .before .before .before .args .mix)
+    (c .before .before .before .before .before .before .before .before .args .choice .systems)
+    (c .before .before .before .before .before .before .before .before .args .choice .count)
+    (c .before .before .before .before .before .before .before .before .args .limit)
+    (c .before .before .before .before .before .before .before .before .args .level)
+    (c .before .before .before .before .before .before .before .before .args .allowance) _
+    (c .before .before .before .before .before .before .before .fit .ensures)
+    (c .before .before .before .before .before .before .if1 .left) .1)
+    (c .before .before .before .before .before .start .result)
+    (c .before .before .before .before .before .start .ensures) (c .before .before .before .evaluate .result)
+    (c .before .before .before .evaluate .ensures) (not-true _ (c .before .if2 .taken))
 
 search-requires : tie.Need-search-requires
-search-requires c κs = (start-held (c .before .before .before .before .before .before .before .before .before .before .args .mix) (c .before .before .before .before .before .before .before .before .before .before .args .choice .systems) (c .before .before .before .before .before .before .before .before .before .before .args .choice .count) (c .before .before .before .before .before .before .before .before .before .before .args .limit) (c .before .before .before .before .before .before .before .before .before .before .args .level) (c .before .before .before .before .before .before .before .before .before .before .args .allowance) (not-turned (c .before .before .before .before .before .before .before .before .before .before .args .mix) (c .before .before .before .before .before .before .before .before .before .before .args .choice .systems) (c .before .before .before .before .before .before .before .before .before .before .args .choice .count) (c .before .before .before .before .before .before .before .before .before .before .args .limit) (c .before .before .before .before .before .before .before .before .before .before .args .level) (c .before .before .before .before .before .before .before .before .before .before .args .allowance) _ (c .before .before .before .before .before .before .before .before .before .fit .ensures) (c .before .before .before .before .before .before .before .before .if1 .left) .0) _ (c .before .before .before .before .before .before .before .before .before .fit .ensures) (not-turned (c .before .before .before .before .before .before .before .before .before .before .args .mix) (c .before .before .before .before .before .before .before .before .before .before .args .choice .systems) (c .before .before .before .before .before .before .before .before .before .before .args .choice .count) (c .before .before .before .before .before .before .before .before .before .before .args .limit) (c .before .before .before .before .before .before .before .before .before .before .args .level) (c .before .before .before .before .before .before .before .before .before .before .args .allowance) _ (c .before .before .before .before .before .before .before .before .before .fit .ensures) (c .before .before .before .before .before .before .before .before .if1 .left) .1) (c .before .before .before .before .before .before .before .start .result) (c .before .before .before .before .before .before .before .start .ensures) (c .before .before .before .before .before .evaluate .result) (c .before .before .before .before .before .evaluate .ensures) (not-false _ (c .before .before .before .if2 .left)), not-turned (c .before .before .before .before .before .before .before .before .before .before .args .mix) (c .before .before .before .before .before .before .before .before .before .before .args .choice .systems) (c .before .before .before .before .before .before .before .before .before .before .args .choice .count) (c .before .before .before .before .before .before .before .before .before .before .args .limit) (c .before .before .before .before .before .before .before .before .before .before .args .level) (c .before .before .before .before .before .before .before .before .before .before .args .allowance) _ (c .before .before .before .before .before .before .before .before .before .fit .ensures) (c .before .before .before .before .before .before .before .before .if1 .left) .0)
+search-requires c κs =
+    (start-held (c .before .before .before .before .before .before .before .before .before .before .args .mix)
+    (c .before .before .before .before .before .before .before .before .before .before .args .choice .systems)
+    (c .before .before .before .before .before .before .before .before .before .before .args .choice .count)
+    (c .before .before .before .before .before .before .before .before .before .before .args .limit)
+    (c .before .before .before .before .before .before .before .before .before .before .args .level)
+    (c .before .before .before .before .before .before .before .before .before .before .args .allowance)
+    (not-turned (c .before .before .before .before .before .before .before .before .before .before .args .mix)
+    (c .before .before .before .before .before .before .before .before .before .before .args .choice .systems)
+    (c .before .before .before .before .before .before .before .before .before .before .args .choice .count)
+    (c .before .before .before .before .before .before .before .before .before .before .args .limit)
+    (c .before .before .before .before .before .before .before .before .before .before .args .level)
+    (c .before .before .before .before .before .before .before .before .before .before .args .allowance) _
+    (c .before .before .before .before .before .before .before .before .before .fit .ensures)
+    (c .before .before .before .before .before .before .before .before .if1 .left) .0) _
+    (c .before .before .before .before .before .before .before .before .before .fit .ensures)
+    (not-turned (c .before .before .before .before .before .before .before .before .before .before .args .mix)
+    (c .before .before .before .before .before .before .before .before .before .before .args .choice .systems)
+    (c .before .before .before .before .before .before .before .before .before .before .args .choice .count)
+    (c .before .before .before .before .before .before .before .before .before .before .args .limit)
+    (c .before .before .before .before .before .before .before .before .before .before .args .level)
+    (c .before .before .before .before .before .before .before .before .before .before .args .allowance) _
+    (c .before .before .before .before .before .before .before .before .before .fit .ensures)
+    (c .before .before .before .before .before .before .before .before .if1 .left) .1)
+    (c .before .before .before .before .before .before .before .start .result)
+    (c .before .before .before .before .before .before .before .start .ensures)
+    (c .before .before .before .before .before .evaluate .result)
+    (c .before .before .before .before .before .evaluate .ensures)
+    (not-false _ (c .before .before .before .if2 .left)),
+    not-turned (c .before .before .before .before .before .before .before .before .before .before .args .mix)
+    (c .before .before .before .before .before .before .before .before .before .before .args .choice .systems)
+    (c .before .before .before .before .before .before .before .before .before .before .args .choice .count)
+    (c .before .before .before .before .before .before .before .before .before .before .args .limit)
+    (c .before .before .before .before .before .before .before .before .before .before .args .level)
+    (c .before .before .before .before .before .before .before .before .before .before .args .allowance) _
+    (c .before .before .before .before .before .before .before .before .before .fit .ensures)
+    (c .before .before .before .before .before .before .before .before .if1 .left) .0)
 
 returns-3 : tie.Need-returns-3
-returns-3 c = find-is (c .before .before .before .before .before .before .before .before .before .before .before .args .mix) (c .before .before .before .before .before .before .before .before .before .before .before .args .choice .systems) (c .before .before .before .before .before .before .before .before .before .before .before .args .choice .count) (c .before .before .before .before .before .before .before .before .before .before .before .args .limit) (c .before .before .before .before .before .before .before .before .before .before .before .args .level) (c .before .before .before .before .before .before .before .before .before .before .before .args .allowance) (not-turned (c .before .before .before .before .before .before .before .before .before .before .before .args .mix) (c .before .before .before .before .before .before .before .before .before .before .before .args .choice .systems) (c .before .before .before .before .before .before .before .before .before .before .before .args .choice .count) (c .before .before .before .before .before .before .before .before .before .before .before .args .limit) (c .before .before .before .before .before .before .before .before .before .before .before .args .level) (c .before .before .before .before .before .before .before .before .before .before .before .args .allowance) _ (c .before .before .before .before .before .before .before .before .before .before .fit .ensures) (c .before .before .before .before .before .before .before .before .before .if1 .left) .0) _ (c .before .before .before .before .before .before .before .before .before .before .fit .ensures) (not-turned (c .before .before .before .before .before .before .before .before .before .before .before .args .mix) (c .before .before .before .before .before .before .before .before .before .before .before .args .choice .systems) (c .before .before .before .before .before .before .before .before .before .before .before .args .choice .count) (c .before .before .before .before .before .before .before .before .before .before .before .args .limit) (c .before .before .before .before .before .before .before .before .before .before .before .args .level) (c .before .before .before .before .before .before .before .before .before .before .before .args .allowance) _ (c .before .before .before .before .before .before .before .before .before .before .fit .ensures) (c .before .before .before .before .before .before .before .before .before .if1 .left) .1) (c .before .before .before .before .before .before .before .before .start .result) (c .before .before .before .before .before .before .before .before .start .ensures) (c .before .before .before .before .before .before .evaluate .result) (c .before .before .before .before .before .before .evaluate .ensures) (not-false _ (c .before .before .before .before .if2 .left)) _ (c .search .ensures)
+returns-3 c =
+    find-is (c .before .before .before .before .before .before .before .before .before .before .before .args .mix)
+    (c .before .before .before .before .before .before .before .before .before .before .before .args .choice .systems)
+    (c .before .before .before .before .before .before .before .before .before .before .before .args .choice .count)
+    (c .before .before .before .before .before .before .before .before .before .before .before .args .limit)
+    (c .before .before .before .before .before .before .before .before .before .before .before .args .level)
+    (c .before .before .before .before .before .before .before .before .before .before .before .args .allowance)
+    (not-turned (c .before .before .before .before .before .before .before .before .before .before .before .args .mix)
+    (c .before .before .before .before .before .before .before .before .before .before .before .args .choice .systems)
+    (c .before .before .before .before .before .before .before .before .before .before .before .args .choice .count)
+    (c .before .before .before .before .before .before .before .before .before .before .before .args .limit)
+    (c .before .before .before .before .before .before .before .before .before .before .before .args .level)
+    (c .before .before .before .before .before .before .before .before .before .before .before .args .allowance) _
+    (c .before .before .before .before .before .before .before .before .before .before .fit .ensures)
+    (c .before .before .before .before .before .before .before .before .before .if1 .left) .0) _
+    (c .before .before .before .before .before .before .before .before .before .before .fit .ensures)
+    (not-turned (c .before .before .before .before .before .before .before .before .before .before .before .args .mix)
+    (c .before .before .before .before .before .before .before .before .before .before .before .args .choice .systems)
+    (c .before .before .before .before .before .before .before .before .before .before .before .args .choice .count)
+    (c .before .before .before .before .before .before .before .before .before .before .before .args .limit)
+    (c .before .before .before .before .before .before .before .before .before .before .before .args .level)
+    (c .before .before .before .before .before .before .before .before .before .before .before .args .allowance) _
+    (c .before .before .before .before .before .before .before .before .before .before .fit .ensures)
+    (c .before .before .before .before .before .before .before .before .before .if1 .left) .1)
+    (c .before .before .before .before .before .before .before .before .start .result)
+    (c .before .before .before .before .before .before .before .before .start .ensures)
+    (c .before .before .before .before .before .before .evaluate .result)
+    (c .before .before .before .before .before .before .evaluate .ensures)
+    (not-false _ (c .before .before .before .before .if2 .left)) _ (c .search .ensures)
 
 pub find-spec : {M : Type 1} → statement M
 find-spec =

@@ -12,12 +12,14 @@ use Rattle.split.specs.Laws.Steps.{numberWith}
 
 -- the rows' numbers where row f had a stride of component c less
 unfoldable pub afterGiving : List ℕ → List ℕ → ℕ → ℕ → ℕ → ℕ → ℤ
-afterGiving systems cells stride f c s = cond (eqb s f) (numberWith systems cells f c (cellOf cells f c - stride)) (rowNumber systems cells s)
+afterGiving systems cells stride f c s =
+    cond (eqb s f) (numberWith systems cells f c (cellOf cells f c - stride)) (rowNumber systems cells s)
 
 -- the move's giver is a row that has its component and affords the stride
 unfoldable pub givesOf : List ℕ → ℕ → List ℕ → ℕ → ℕ → Bool
 givesOf systems count cells stride move =
-    (ltb (giverOf move) count && (hasOf (systemOf systems (giverOf move)) (componentOf move) && affordsOf systems cells stride move))
+    (ltb (giverOf move) count && (hasOf (systemOf systems (giverOf move)) (componentOf move)
+    && affordsOf systems cells stride move))
 
 -- row t is not row f, and has component c
 unfoldable pub takesOf : List ℕ → ℕ → ℕ → ℕ → Bool

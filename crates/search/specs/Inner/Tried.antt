@@ -40,7 +40,8 @@ wantedOf systems cells stride i = numberWith systems cells (triedRow i) (columnI
 -- each number of the rows' tries is not known or is the one wanted
 pub record Tried (systems : List ℕ) (count : ℕ) (cells : List ℕ) (stride : ℕ) (t : List ℤ) : Type 0 where
   pub long : length t ≡ TRIES
-  pub known : (i : ℕ) → i < TRIES → triedRow i < count → (listed t i ≡ UNKNOWN → ⊥) → (listed t i ≡ wantedOf systems cells stride i) × (natAbs (listed t i) ≤ LARGEST)
+  pub known : (i : ℕ) → i < TRIES → triedRow i < count → (listed t i ≡ UNKNOWN → ⊥)
+      → (listed t i ≡ wantedOf systems cells stride i) × (natAbs (listed t i) ≤ LARGEST)
 
 -- try i can be worked out
 pub record Triable (systems : List ℕ) (count : ℕ) (cells : List ℕ) (stride i : ℕ) : Type 0 where

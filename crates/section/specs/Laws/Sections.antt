@@ -19,7 +19,8 @@ pub record SectionFound (s : List ℕ) (at size count first end : ℕ) : Type 0 
 
 module _ (s : List ℕ) (at size : ℕ) where
   -- a section that ends within the sheet is its records
-  pub section-records : endAt s at size ≤ length s → sectionAt s at size ≡ Records (getD s at 0) (at + 1) (endAt s at size)
+  pub section-records : endAt s at size ≤ length s
+      → sectionAt s at size ≡ Records (getD s at 0) (at + 1) (endAt s at size)
   unfolding sectionAt tornOr
   section-records h = rw (le-ltb (length s) (endAt s at size) h)
 
@@ -33,19 +34,26 @@ module _ (s : List ℕ) (at size : ℕ) where
   unfolding endAt
   section-outside h = section-torn (omega arith)
 
-  found-by : (t : Bool) {count first end : ℕ} → ltb (length s) (endAt s at size) ≡ t → tornOr t (Records (getD s at 0) (at + 1) (endAt s at size)) ≡ Records count first end → SectionFound s at size count first end
+  found-by : (t : Bool) {count first end : ℕ} → ltb (length s) (endAt s at size) ≡ t
+      → tornOr t (Records (getD s at 0) (at + 1) (endAt s at size)) ≡ Records count first end
+      → SectionFound s at size count first end
   unfolding tornOr
-  found-by true e h = let z : _≡_ {A = ℕ} 0 1 = cc in record { counted = omega arith; begins = omega arith; ends = omega arith; within = omega arith }
+  found-by true e h =
+      let z : _≡_ {A = ℕ} 0 1 = cc in
+      record { counted = omega arith; begins = omega arith; ends = omega arith; within = omega arith }
   found-by false {count} {first} {end} e h =
       let ends : end ≡ endAt s at size = cc in
-      record { counted = cc; begins = cc; ends = ends; within = omega (arith, ltb-false (length s) (endAt s at size) e) }
+      record { counted = cc; begins = cc; ends = ends; within = omega
+          (arith, ltb-false (length s) (endAt s at size) e) }
 
   -- back: what records say
-  pub section-found : {count first end : ℕ} → sectionAt s at size ≡ Records count first end → SectionFound s at size count first end
+  pub section-found : {count first end : ℕ} → sectionAt s at size ≡ Records count first end
+      → SectionFound s at size count first end
   unfolding sectionAt
   section-found h = found-by (ltb (length s) (endAt s at size)) refl h
 
-  torn-by : (t : Bool) → ltb (length s) (endAt s at size) ≡ t → tornOr t (Records (getD s at 0) (at + 1) (endAt s at size)) ≡ Torn → length s < endAt s at size
+  torn-by : (t : Bool) → ltb (length s) (endAt s at size) ≡ t
+      → tornOr t (Records (getD s at 0) (at + 1) (endAt s at size)) ≡ Torn → length s < endAt s at size
   unfolding tornOr
   torn-by true e h = ltb-true _ _ e
   torn-by false e h = let z : _≡_ {A = ℕ} 0 1 = cc in omega arith

@@ -14,7 +14,8 @@ use Rattle.analysis.specs.Check.{greatestBy, greatestOf, inRange, allInRange}
 use Rattle.analysis.specs.Laws.Ranges.{range-greatest}
 use Rattle.sheet.specs.declared.Reading.the-variants.{Read}
 use Rattle.sheet.specs.Bytes.{fourBytes, fourBytesAt, bytesOf}
-use Rattle.sheet.specs.Components.{refusalBy, codeRefusal, codesReading, amountsFrom, zeroListed, countOf, componentBytes}
+use Rattle.sheet.specs.Components.{refusalBy, codeRefusal, codesReading, amountsFrom, zeroListed, countOf}
+use Rattle.sheet.specs.Components.{componentBytes}
 use Rattle.sheet.specs.Split.{recordBytes, byteColumn, amountColumn}
 use Rattle.sheet.specs.Laws.Cases.{both-true, code-fine}
 
@@ -36,7 +37,8 @@ module _ (s : List ℕ) (at : ℕ) (l : List ℕ) (e : drop at s ≡ l) where
   rest-here i = sym (drop-drop i at s) ∙ ap (λ (m : List ℕ). drop i m) e
 
 -- the number that begins after `i` bytes
-pub number-here : (s : List ℕ) (at i : ℕ) (l : List ℕ) → drop (at + i) s ≡ l → fourBytesAt s (at + i) ≡ fourBytes (getD l 0 0) (getD l 1 0) (getD l 2 0) (getD l 3 0)
+pub number-here : (s : List ℕ) (at i : ℕ) (l : List ℕ) → drop (at + i) s ≡ l
+    → fourBytesAt s (at + i) ≡ fourBytes (getD l 0 0) (getD l 1 0) (getD l 2 0) (getD l 3 0)
 number-here s at i l e =
     rw (byte-here s (at + i) l e, byte-on s (at + i) l e 1, byte-on s (at + i) l e 2, byte-on s (at + i) l e 3)
 
@@ -66,7 +68,8 @@ module _ (k x : ℕ) (xs : List ℕ) where
   some-bytes e = rw e
 
 -- where a record was written: its code, its amount, and what is next
-module _ (s : List ℕ) (at k x : ℕ) (xs r : List ℕ) (e : drop at s ≡ componentBytes k (x ∷ xs) ++ r) (f : eqb x 0 ≡ false) where
+module _ (s : List ℕ) (at k x : ℕ) (xs r : List ℕ) (e : drop at s ≡ componentBytes k (x ∷ xs) ++ r)
+    (f : eqb x 0 ≡ false) where
   here : drop at s ≡ (k ∷ bytesOf x) ++ (componentBytes (suc k) xs ++ r)
   here = e ∙ ap (λ (l : List ℕ). l ++ r) (some-bytes k x xs f)
 
@@ -79,7 +82,8 @@ module _ (s : List ℕ) (at k x : ℕ) (xs r : List ℕ) (e : drop at s ≡ comp
   pub next-back : drop (at + 5) s ≡ componentBytes (suc k) xs ++ r
   next-back = rest-here s at _ here 5
 
-pub skip-back : (s : List ℕ) (at k x : ℕ) (xs r : List ℕ) → drop at s ≡ componentBytes k (x ∷ xs) ++ r → eqb x 0 ≡ true → drop at s ≡ componentBytes (suc k) xs ++ r
+pub skip-back : (s : List ℕ) (at k x : ℕ) (xs r : List ℕ) → drop at s ≡ componentBytes k (x ∷ xs) ++ r
+    → eqb x 0 ≡ true → drop at s ≡ componentBytes (suc k) xs ++ r
 skip-back s at k x xs r e f = e ∙ ap (λ (l : List ℕ). l ++ r) (none-bytes k x xs f)
 
 pub codes-back : (xs : List ℕ) (k i p : ℕ) (s : List ℕ) (at : ℕ) (r : List ℕ) → allInRange k xs ≡ true → p < k
@@ -133,9 +137,12 @@ amounts-filled (x ∷ xs) k ws s at r h e =
     longer : (y : ℕ) → length (ws ++ (y ∷ [])) ≡ suc k
     longer y = simp length-append (omega arith)
 
-    go : (drop at s ≡ componentBytes (suc k) xs ++ r → amountsFrom (countOf xs) s at ((ws ++ (0 ∷ [])) ++ replicate (length xs) 0) ≡ (ws ++ (0 ∷ [])) ++ xs)
-        → (drop (at + 5) s ≡ componentBytes (suc k) xs ++ r → amountsFrom (countOf xs) s (at + 5) ((ws ++ (x ∷ [])) ++ replicate (length xs) 0) ≡ (ws ++ (x ∷ [])) ++ xs)
-        → (t : Bool) → eqb x 0 ≡ t → amountsFrom (countOf (x ∷ xs)) s at (ws ++ replicate (length (x ∷ xs)) 0) ≡ ws ++ (x ∷ xs)
+    go : (drop at s ≡ componentBytes (suc k) xs ++ r
+        → amountsFrom (countOf xs) s at ((ws ++ (0 ∷ [])) ++ replicate (length xs) 0) ≡ (ws ++ (0 ∷ [])) ++ xs)
+        → (drop (at + 5) s ≡ componentBytes (suc k) xs ++ r
+        → amountsFrom (countOf xs) s (at + 5) ((ws ++ (x ∷ [])) ++ replicate (length xs) 0) ≡ (ws ++ (x ∷ [])) ++ xs)
+        → (t : Bool) → eqb x 0 ≡ t → amountsFrom (countOf (x ∷ xs)) s at (ws ++ replicate (length (x ∷ xs)) 0) ≡ ws
+        ++ (x ∷ xs)
     go skip next true f =
         rw f
         (ap (λ (l : List ℕ). amountsFrom (countOf xs) s at l) (sym (append-snoc ws 0 (replicate (length xs) 0)))
@@ -145,7 +152,8 @@ amounts-filled (x ∷ xs) k ws s at r h e =
     go skip next false f =
         ap (λ (n : ℕ). amountsFrom n s at (ws ++ replicate (suc (length xs)) 0)) (some-count k x xs f)
         ∙ ap (λ (l : List ℕ). amountsFrom (countOf xs) s (at + 5) l)
-        (ap (λ (j : ℕ). set (ws ++ replicate (suc (length xs)) 0) j (fourBytesAt s (at + 1))) (code-back s at k x xs r e f)
+        (ap (λ (j : ℕ). set (ws ++ replicate (suc (length xs)) 0) j (fourBytesAt s (at + 1)))
+        (code-back s at k x xs r e f)
         ∙ ap (λ (y : ℕ). set (ws ++ replicate (suc (length xs)) 0) k y) (amount-back s at k x xs r e f)
         ∙ set-at ws 0 (replicate (length xs) 0) x k h
         ∙ sym (append-snoc ws x (replicate (length xs) 0)))
@@ -164,11 +172,13 @@ pub cut-take : (m i : ℕ) (xs : List ℕ) → i + m ≤ length xs → cut m i x
 cut-take zero i xs h = refl
 cut-take (suc m) i xs h =
     let k : i < length xs = omega arith in
-    rw (drop-cons xs i 0 k) (ap (λ (l : List ℕ). getD xs i 0 ∷ l) (cut-take m (i + 1) xs (omega arith) ∙ ap (λ (n : ℕ). take m (drop n xs)) (add-one i)))
+    rw (drop-cons xs i 0 k) (ap (λ (l : List ℕ). getD xs i 0 ∷ l) (cut-take m (i + 1) xs (omega arith)
+        ∙ ap (λ (n : ℕ). take m (drop n xs)) (add-one i)))
 
 module _ (xs ys zs : List ℕ) where
   pub split-back : (m i : ℕ) (s : List ℕ) (at : ℕ) → drop at s ≡ recordBytes m i xs ys zs
-      → (byteColumn m s at ≡ cut m i xs) × (byteColumn m s (at + 1) ≡ cut m i ys) × (amountColumn m s (at + 2) ≡ cut m i zs)
+      → (byteColumn m s at ≡ cut m i xs) × (byteColumn m s (at + 1) ≡ cut m i ys)
+      × (amountColumn m s (at + 2) ≡ cut m i zs)
   split-back zero i s at e = (refl, refl, refl)
   split-back (suc m) i s at e =
       let r = split-back m (i + 1) s (at + 6) (rest-here s at _ e 6) in

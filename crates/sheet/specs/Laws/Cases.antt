@@ -23,11 +23,14 @@ use Rattle.sheet.specs.declared.Sections.{Sections}
 use Rattle.sheet.specs.declared.Sections.the-variants.{Torn, Both}
 use Rattle.sheet.specs.declared.Split.{Split}
 use Rattle.sheet.specs.declared.Written.the-variants as w
-use Rattle.sheet.specs.Components.{COMPONENT_BYTES, refusalBy, codeRefusal, codesReading, countOf, componentBytes, zeroListed}
+use Rattle.sheet.specs.Components.{COMPONENT_BYTES, refusalBy, codeRefusal, codesReading, countOf}
+use Rattle.sheet.specs.Components.{componentBytes, zeroListed}
 use Rattle.sheet.specs.Bytes.{bytesOf}
-use Rattle.sheet.specs.Split.{RECORDS, LONGEST_SPLIT, RECORD_BYTES, splitCounts, allowedCount, recordBytes, splitBytes}
+use Rattle.sheet.specs.Split.{RECORDS, LONGEST_SPLIT, RECORD_BYTES, splitCounts, allowedCount, recordBytes}
+use Rattle.sheet.specs.Split.{splitBytes}
 use Rattle.sheet.specs.Sheet.{LISTED, sheetOf, withSplit, withComponents, sectionsOf}
-use Rattle.sheet.specs.Read.{amountsOf, amountsRefusal, refusedSheet, contentOf, withAnswer, afterCodes, readBy, readOf}
+use Rattle.sheet.specs.Read.{amountsOf, amountsRefusal, refusedSheet, contentOf, withAnswer, afterCodes}
+use Rattle.sheet.specs.Read.{readBy, readOf}
 use Rattle.sheet.specs.Write.{writeRefusal, writtenOf, leftOf}
 
 pub never : _≡_ {A = ℕ} 0 1 → ⊥
@@ -65,7 +68,9 @@ module _ (s : List ℕ) where
   second-back : (n at : ℕ) (x : Section) → sectionAt s at 6 ≡ x → {k m first : ℕ} → ending n at x ≡ Both k m first
       → (k ≡ n) × (m ≡ getD s at 0) × (first ≡ at + 1) × (allowedCount m ≡ true) × (length s ≡ at + 1 + m * 6)
   unfolding endAt
-  second-back n at found.Torn e h = let z : _≡_ {A = ℕ} 0 1 = cc in (absurd (never z), absurd (never z), absurd (never z), absurd (never z), absurd (never z))
+  second-back n at found.Torn e h =
+      let z : _≡_ {A = ℕ} 0 1 = cc in
+      (absurd (never z), absurd (never z), absurd (never z), absurd (never z), absurd (never z))
   second-back n at (found.Records m' first' end) e {k} {m} {first} h = go (allowedCount m') (leftAt s end) refl refl
     where
       go : (t u : Bool) → allowedCount m' ≡ t → leftAt s end ≡ u
@@ -124,7 +129,8 @@ module _ (s : List ℕ) where
   sectioned h = first-back (sectionAt s 0 5) refl h
 
   -- and the other way: bytes of that shape are two sections
-  pub sections-both : (n m : ℕ) → getD s 0 0 ≡ n → n ≤ LISTED → getD s (1 + COMPONENT_BYTES * n) 0 ≡ m → allowedCount m ≡ true
+  pub sections-both : (n m : ℕ) → getD s 0 0 ≡ n → n ≤ LISTED → getD s (1 + COMPONENT_BYTES * n) 0 ≡ m
+      → allowedCount m ≡ true
       → length s ≡ 2 + COMPONENT_BYTES * n + RECORD_BYTES * m → sectionsOf s ≡ Both n m (2 + COMPONENT_BYTES * n)
   unfolding sectionsOf endAt
   sections-both n m en few em allowed size =
@@ -175,9 +181,12 @@ pub read-whole : (s : List ℕ) (code : ℕ) → readOf s code .answer ≡ Read 
 unfolding readOf readBy
 read-whole s code h = go (sectionsOf s) refl h
   where
-    amounts-back : (n m first : ℕ) → sectionsOf s ≡ Both n m first → codesReading n s 1 0 0 ≡ Read → (t : Bool) → eqb (amountsRefusal n s) 0 ≡ t
-        → withAnswer (cond t Read (Refused (amountsRefusal n s) 0 (cond (eqb (amountsRefusal n s) 5) code 0))) (contentOf n m first s) .answer ≡ Read → Whole s
-    amounts-back n m first e d true f h = record { n = n; m = m; first = first; sections = e; codes = d; amounts = eqb-true _ _ f }
+    amounts-back : (n m first : ℕ) → sectionsOf s ≡ Both n m first → codesReading n s 1 0 0 ≡ Read → (t : Bool)
+        → eqb (amountsRefusal n s) 0 ≡ t
+        → withAnswer (cond t Read (Refused (amountsRefusal n s) 0 (cond (eqb (amountsRefusal n s) 5) code 0)))
+        (contentOf n m first s) .answer ≡ Read → Whole s
+    amounts-back n m first e d true f h =
+        record { n = n; m = m; first = first; sections = e; codes = d; amounts = eqb-true _ _ f }
     amounts-back n m first e d false f h = let z : _≡_ {A = ℕ} 0 1 = cc in absurd (never z)
 
     codes-back : (n m first : ℕ) → sectionsOf s ≡ Both n m first → (x : Reading) → codesReading n s 1 0 0 ≡ x
@@ -203,7 +212,8 @@ module _ (n : ℕ) (s : List ℕ) where
   unfolding amountsRefusal
   amounts-back h = go (zeroListed n s 1) refl h
     where
-      go : (t : Bool) → zeroListed n s 1 ≡ t → cond t 5 (analysisRefusal (amountsOf n s)) ≡ 0 → (zeroListed n s 1 ≡ false) × (analysisRefusal (amountsOf n s) ≡ 0)
+      go : (t : Bool) → zeroListed n s 1 ≡ t → cond t 5 (analysisRefusal (amountsOf n s)) ≡ 0
+          → (zeroListed n s 1 ≡ false) × (analysisRefusal (amountsOf n s) ≡ 0)
       go true e h = (absurd (omega arith), absurd (omega arith))
       go false e h = (e, h)
 
@@ -248,7 +258,8 @@ module _ (c p : ℕ) where
   unfolding codeRefusal
   code-back h = go (eqb (refusalBy (statusOf c)) 0) (leb c p) refl refl h
     where
-      go : (t u : Bool) → eqb (refusalBy (statusOf c)) 0 ≡ t → leb c p ≡ u → cond t (cond u 4 0) (refusalBy (statusOf c)) ≡ 0
+      go : (t u : Bool) → eqb (refusalBy (statusOf c)) 0 ≡ t → leb c p ≡ u
+          → cond t (cond u 4 0) (refusalBy (statusOf c)) ≡ 0
           → (refusalBy (statusOf c) ≡ 0) × (p < c)
       go true true e d h = (absurd (omega arith), absurd (omega arith))
       go true false e d h = (eqb-true _ _ e, leb-false c p d)
@@ -265,7 +276,8 @@ length-components k [] = refl
 length-components k (x ∷ xs) = go (eqb x 0) (length-components (suc k) xs)
   where
     go : (t : Bool) → length (componentBytes (suc k) xs) ≡ COMPONENT_BYTES * countOf xs
-        → length (cond t (componentBytes (suc k) xs) (k ∷ bytesOf x ++ componentBytes (suc k) xs)) ≡ COMPONENT_BYTES * cond t (countOf xs) (suc (countOf xs))
+        → length (cond t (componentBytes (suc k) xs) (k ∷ bytesOf x ++ componentBytes (suc k) xs)) ≡ COMPONENT_BYTES
+        * cond t (countOf xs) (suc (countOf xs))
     go true h = h
     go false h = omega (arith, h)
 
@@ -297,12 +309,16 @@ module _ (a : List ℕ) (p : Split) where
       unfolding writeRefusal
       number-none e l = rw (h, eq-eqb _ _ e, le-leb _ _ l)
 
-    pub number-back : writeRefusal a p size ≡ 0 → (allowedCount (p .count) ≡ true) × (analysisRefusal a ≡ 0) × (length (sheetOf a p) ≤ size)
+    pub number-back : writeRefusal a p size ≡ 0 → (allowedCount (p .count) ≡ true) × (analysisRefusal a ≡ 0)
+        × (length (sheetOf a p) ≤ size)
     unfolding writeRefusal
-    number-back h = go (allowedCount (p .count)) (eqb (analysisRefusal a) 0) (leb (length (sheetOf a p)) size) refl refl refl h
+    number-back h =
+        go (allowedCount (p .count)) (eqb (analysisRefusal a) 0) (leb (length (sheetOf a p)) size) refl refl refl h
       where
-        go : (t u v : Bool) → allowedCount (p .count) ≡ t → eqb (analysisRefusal a) 0 ≡ u → leb (length (sheetOf a p)) size ≡ v
-            → cond t (cond u (cond v 0 14) (analysisRefusal a)) 1 ≡ 0 → (allowedCount (p .count) ≡ true) × (analysisRefusal a ≡ 0) × (length (sheetOf a p) ≤ size)
+        go : (t u v : Bool) → allowedCount (p .count) ≡ t → eqb (analysisRefusal a) 0 ≡ u
+            → leb (length (sheetOf a p)) size ≡ v
+            → cond t (cond u (cond v 0 14) (analysisRefusal a)) 1 ≡ 0 → (allowedCount (p .count) ≡ true)
+            × (analysisRefusal a ≡ 0) × (length (sheetOf a p) ≤ size)
         go true true true e f g h = (e, eqb-true _ _ f, leb-true _ _ g)
         go true true false e f g h = absurd (omega arith)
         go true false v e f g h = absurd (eqb-false _ _ f h)
@@ -313,16 +329,19 @@ module _ (a : List ℕ) (p : Split) where
     unfolding writtenOf
     written-length e = rw e
 
-    pub written-refused : (n : ℕ) → writeRefusal a p size ≡ n → (n ≡ 0 → ⊥) → writtenOf a p size code ≡ w.Refused n (cond (eqb n 5) code 0)
+    pub written-refused : (n : ℕ) → writeRefusal a p size ≡ n → (n ≡ 0 → ⊥)
+        → writtenOf a p size code ≡ w.Refused n (cond (eqb n 5) code 0)
     unfolding writtenOf
     written-refused n e z = rw (e, ne-eqb _ _ z)
 
-    pub written-back : {n : ℕ} → writtenOf a p size code ≡ w.Length n → (writeRefusal a p size ≡ 0) × (n ≡ length (sheetOf a p))
+    pub written-back : {n : ℕ} → writtenOf a p size code ≡ w.Length n → (writeRefusal a p size ≡ 0)
+        × (n ≡ length (sheetOf a p))
     unfolding writtenOf
     written-back {n} h = go (eqb (writeRefusal a p size) 0) refl h
       where
         go : (t : Bool) → eqb (writeRefusal a p size) 0 ≡ t
-            → cond t (w.Length (length (sheetOf a p))) (w.Refused (writeRefusal a p size) (cond (eqb (writeRefusal a p size) 5) code 0)) ≡ w.Length n
+            → cond t (w.Length (length (sheetOf a p)))
+            (w.Refused (writeRefusal a p size) (cond (eqb (writeRefusal a p size) 5) code 0)) ≡ w.Length n
             → (writeRefusal a p size ≡ 0) × (n ≡ length (sheetOf a p))
         go true e h = (eqb-true _ _ e, cc)
         go false e h = let z : _≡_ {A = ℕ} 0 1 = cc in absurd (never z)

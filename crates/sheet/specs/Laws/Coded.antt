@@ -1,5 +1,5 @@
--- Of what a reader refuses, only 5 carries a code (document 01, "What is turned away"); so one figure, the code with 5 and else the
--- place, gives the code back. Assumes nothing.
+-- Of what a reader refuses, only 5 carries a code (document 01, "What is turned away"); so one figure, the code with
+-- 5 and else the place, gives the code back. Assumes nothing.
 use mathlib.Core.Path.{_≡_, refl, sym, ap, _∙_, subst}
 use mathlib.Core.Bool.{Bool, true, false, cond}
 use mathlib.Core.List.{List}
@@ -22,10 +22,12 @@ Coded (Refused number place code) = eqb number 5 ≡ false → code ≡ 0
 
 codes-coded : (n : ℕ) (s : List ℕ) (at i p : ℕ) → Coded (codesReading n s at i p)
 codes-coded zero s at i p = tt
-codes-coded (suc n) s at i p = go (codes-coded n s (at + COMPONENT_BYTES) (i + 1) (getD s at 0)) (eqb (codeRefusal (getD s at 0) p) 0)
+codes-coded (suc n) s at i p =
+    go (codes-coded n s (at + COMPONENT_BYTES) (i + 1) (getD s at 0)) (eqb (codeRefusal (getD s at 0) p) 0)
   where
     go : Coded (codesReading n s (at + COMPONENT_BYTES) (i + 1) (getD s at 0)) → (t : Bool)
-        → Coded (cond t (codesReading n s (at + COMPONENT_BYTES) (i + 1) (getD s at 0)) (Refused (codeRefusal (getD s at 0) p) i 0))
+        → Coded (cond t (codesReading n s (at + COMPONENT_BYTES) (i + 1) (getD s at 0))
+        (Refused (codeRefusal (getD s at 0) p) i 0))
     go rest true = rest
     go rest false = λ e. refl
 
@@ -51,11 +53,13 @@ read-coded s code = go (sectionsOf s)
     go : (x : Sections) → Coded (readBy x s code .answer)
     go Torn = λ e. refl
     go (Both n m first) =
-        with-coded (afterCodes (codesReading n s 1 0 0) n s code) (contentOf n m first s) refl (after-coded (codesReading n s 1 0 0) n s code (codes-coded n s 1 0 0))
+        with-coded (afterCodes (codesReading n s 1 0 0) n s code) (contentOf n m first s) refl
+            (after-coded (codesReading n s 1 0 0) n s code (codes-coded n s 1 0 0))
 
 -- ---- the code in the place that a refused sheet carries
 
-module _ (s : List ℕ) (r : Sheet) (h : ReadAs s r) (number place code : ℕ) (e : r .answer ≡ Refused number place code) where
+module _ (s : List ℕ) (r : Sheet) (h : ReadAs s r) (number place code : ℕ) (e : r .answer ≡ Refused number place code)
+    where
   pub refused-answer : readOf s code .answer ≡ Refused number place code
   refused-answer = ap (λ (x : Sheet). x .answer) (sym (h .sheet ∙ ap (readOf s) (ap faultOf e))) ∙ e
 

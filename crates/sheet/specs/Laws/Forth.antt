@@ -11,13 +11,15 @@ use borrow.Author.Tests.{ne-eqb, eqb-true, eqb-false, leb-true, leb-false}
 use Rattle.analysis.specs.Register.{CODES, statusOf}
 use Rattle.sheet.specs.declared.Reading.the-variants.{Read, Refused}
 use Rattle.sheet.specs.Bytes.{fourBytes, fourBytesAt, bytesOf}
-use Rattle.sheet.specs.Components.{refusalBy, codeRefusal, codesReading, amountsFrom, zeroListed, countOf, componentBytes}
+use Rattle.sheet.specs.Components.{refusalBy, codeRefusal, codesReading, amountsFrom, zeroListed, countOf}
+use Rattle.sheet.specs.Components.{componentBytes}
 use Rattle.sheet.specs.Split.{RECORDS, padded, recordBytes, byteColumn, amountColumn}
 use Rattle.sheet.specs.Laws.Cases.{status-above, code-back}
 use Rattle.sheet.specs.Laws.Back.{cut, cut-take, some-bytes, some-count}
 
 -- the bytes of the number of four bytes are those bytes
-pub bytes-number : (a b c d : ℕ) → a < 256 → b < 256 → c < 256 → d < 256 → bytesOf (fourBytes a b c d) ≡ a ∷ b ∷ c ∷ d ∷ []
+pub bytes-number : (a b c d : ℕ) → a < 256 → b < 256 → c < 256 → d < 256 → bytesOf (fourBytes a b c d) ≡ a ∷ b ∷ c ∷ d
+    ∷ []
 bytes-number a b c d ha hb hc hd =
     let p : (a * 16777216 + b * 65536 + c * 256 + d) / 16777216 ≡ a = omega arith in
     let q : (a * 16777216 + b * 65536 + c * 256 + d) / 65536 % 256 ≡ b = omega arith in
@@ -34,23 +36,28 @@ module _ (s : List ℕ) (bytes : Bytes s) where
   pub one : (at next : ℕ) → suc at ≡ next → at < length s → drop at s ≡ getD s at 0 ∷ drop next s
   one at next e h = drop-cons s at 0 h ∙ ap (λ (n : ℕ). getD s at 0 ∷ drop n s) e
 
-  pub bytes-here : (at next : ℕ) → at + 4 ≡ next → next ≤ length s → drop at s ≡ bytesOf (fourBytesAt s at) ++ drop next s
+  pub bytes-here : (at next : ℕ) → at + 4 ≡ next → next ≤ length s → drop at s ≡ bytesOf (fourBytesAt s at)
+      ++ drop next s
   bytes-here at next e h =
       let a = one at (at + 1) (omega arith) (omega arith) in
       let b = one (at + 1) (at + 2) (omega arith) (omega arith) in
       let c = one (at + 2) (at + 3) (omega arith) (omega arith) in
       let d = one (at + 3) next (omega arith) (omega arith) in
-      let f = bytes-number (getD s at 0) (getD s (at + 1) 0) (getD s (at + 2) 0) (getD s (at + 3) 0) (bytes at) (bytes (at + 1)) (bytes (at + 2)) (bytes (at + 3)) in
+      let f = bytes-number (getD s at 0) (getD s (at + 1) 0) (getD s (at + 2) 0) (getD s (at + 3) 0) (bytes at)
+          (bytes (at + 1)) (bytes (at + 2)) (bytes (at + 3)) in
       a
       ∙ ap (λ (l : List ℕ). getD s at 0 ∷ l) b
       ∙ ap (λ (l : List ℕ). getD s at 0 ∷ getD s (at + 1) 0 ∷ l) c
       ∙ ap (λ (l : List ℕ). getD s at 0 ∷ getD s (at + 1) 0 ∷ getD s (at + 2) 0 ∷ l) d
       ∙ ap (λ (l : List ℕ). l ++ drop next s) (sym f)
 
-  pub record-here : (at : ℕ) → at + 5 ≤ length s → drop at s ≡ (getD s at 0 ∷ bytesOf (fourBytesAt s (at + 1))) ++ drop (at + 5) s
-  record-here at h = one at (at + 1) (omega arith) (omega arith) ∙ ap (λ (l : List ℕ). getD s at 0 ∷ l) (bytes-here (at + 1) (at + 5) (omega arith) h)
+  pub record-here : (at : ℕ) → at + 5 ≤ length s → drop at s ≡ (getD s at 0 ∷ bytesOf (fourBytesAt s (at + 1)))
+      ++ drop (at + 5) s
+  record-here at h = one at (at + 1) (omega arith) (omega arith)
+      ∙ ap (λ (l : List ℕ). getD s at 0 ∷ l) (bytes-here (at + 1) (at + 5) (omega arith) h)
 
-  pub part-here : (at : ℕ) → at + 6 ≤ length s → drop at s ≡ (getD s at 0 ∷ getD s (at + 1) 0 ∷ bytesOf (fourBytesAt s (at + 2))) ++ drop (at + 6) s
+  pub part-here : (at : ℕ) → at + 6 ≤ length s
+      → drop at s ≡ (getD s at 0 ∷ getD s (at + 1) 0 ∷ bytesOf (fourBytesAt s (at + 2))) ++ drop (at + 6) s
   part-here at h =
       one at (at + 1) (omega arith) (omega arith)
       ∙ ap (λ (l : List ℕ). getD s at 0 ∷ l) (one (at + 1) (at + 2) (omega arith) (omega arith))
@@ -72,7 +79,8 @@ module _ (s : List ℕ) (bytes : Bytes s) where
         let p1 : cut m (i + 1) xs ≡ byteColumn m s (at + 6) = cc in
         let q1 : cut m (i + 1) ys ≡ byteColumn m s (at + 1 + 6) = cc in
         let r1 : cut m (i + 1) zs ≡ amountColumn m s (at + 2 + 6) = cc in
-        let ih = split-forth m (i + 1) (at + 6) next (omega arith) h p1 (q1 ∙ ap (λ (n : ℕ). byteColumn m s n) f) (r1 ∙ ap (λ (n : ℕ). amountColumn m s n) g) in
+        let ih = split-forth m (i + 1) (at + 6) next (omega arith) h p1 (q1 ∙ ap (λ (n : ℕ). byteColumn m s n) f)
+            (r1 ∙ ap (λ (n : ℕ). amountColumn m s n) g) in
         rw (p0, q0, r0)
         (ap (λ (l : List ℕ). (getD s at 0 ∷ getD s (at + 1) 0 ∷ bytesOf (fourBytesAt s (at + 2))) ++ l) ih
         ∙ sym (part-here at (omega arith)))
@@ -80,7 +88,8 @@ module _ (s : List ℕ) (bytes : Bytes s) where
 -- amounts that are not listed leave nothing
 pub zeros-bytes : (g k : ℕ) (l : List ℕ) → componentBytes k (replicate g 0 ++ l) ≡ componentBytes (k + g) l
 zeros-bytes zero k l = let e : k + 0 ≡ k = omega arith in ap (λ (n : ℕ). componentBytes n l) (sym e)
-zeros-bytes (suc g) k l = let e : suc k + g ≡ k + suc g = omega arith in zeros-bytes g (suc k) l ∙ ap (λ (n : ℕ). componentBytes n l) e
+zeros-bytes (suc g) k l =
+    let e : suc k + g ≡ k + suc g = omega arith in zeros-bytes g (suc k) l ∙ ap (λ (n : ℕ). componentBytes n l) e
 
 pub zeros-count : (g : ℕ) (l : List ℕ) → countOf (replicate g 0 ++ l) ≡ countOf l
 zeros-count zero l = refl
@@ -99,7 +108,8 @@ fault-none c p h =
     go false e z = leb-false CODES c e
 
 module _ (n : ℕ) (s : List ℕ) (at : ℕ) where
-  pub codes-head : (i p : ℕ) → codesReading (suc n) s at i p ≡ Read → (codeRefusal (getD s at 0) p ≡ 0) × (codesReading n s (at + 5) (i + 1) (getD s at 0) ≡ Read)
+  pub codes-head : (i p : ℕ) → codesReading (suc n) s at i p ≡ Read → (codeRefusal (getD s at 0) p ≡ 0)
+      × (codesReading n s (at + 5) (i + 1) (getD s at 0) ≡ Read)
   codes-head i p h = go (eqb (codeRefusal (getD s at 0) p) 0) refl h
     where
       go : (t : Bool) → eqb (codeRefusal (getD s at 0) p) 0 ≡ t
@@ -111,7 +121,8 @@ module _ (n : ℕ) (s : List ℕ) (at : ℕ) where
   pub zero-head : zeroListed (suc n) s at ≡ false → (fourBytesAt s (at + 1) ≡ 0 → ⊥) × (zeroListed n s (at + 5) ≡ false)
   zero-head h = go (eqb (fourBytesAt s (at + 1)) 0) refl h
     where
-      go : (t : Bool) → eqb (fourBytesAt s (at + 1)) 0 ≡ t → cond t true (zeroListed n s (at + 5)) ≡ false → (fourBytesAt s (at + 1) ≡ 0 → ⊥) × (zeroListed n s (at + 5) ≡ false)
+      go : (t : Bool) → eqb (fourBytesAt s (at + 1)) 0 ≡ t → cond t true (zeroListed n s (at + 5)) ≡ false
+          → (fourBytesAt s (at + 1) ≡ 0 → ⊥) × (zeroListed n s (at + 5) ≡ false)
       go true e h = let z : _≡_ {A = ℕ} 0 1 = cc in (λ _. omega arith, cc)
       go false e h = (eqb-false _ _ e, h)
 
@@ -133,7 +144,8 @@ pub record Filled (n : ℕ) (s : List ℕ) (at p next : ℕ) (ws : List ℕ) (z 
   pub count : countOf ys ≡ n
 
 -- one record more
-filled-step : (n : ℕ) (s : List ℕ) → Bytes s → (at p next : ℕ) (ws : List ℕ) (z gap w c x : ℕ) → getD s at 0 ≡ c → fourBytesAt s (at + 1) ≡ x
+filled-step : (n : ℕ) (s : List ℕ) → Bytes s → (at p next : ℕ) (ws : List ℕ) (z gap w c x : ℕ) → getD s at 0 ≡ c
+    → fourBytesAt s (at + 1) ≡ x
     → gap + suc w ≡ z → length ws + gap ≡ c → p + 1 + gap ≡ c → suc c ≡ c + 1 → (x ≡ 0 → ⊥) → at + 5 ≤ length s
     → Filled n s (at + 5) c next ((ws ++ replicate gap 0) ++ (x ∷ [])) w → Filled (suc n) s at p next ws z
 filled-step n s bytes at p next ws z gap w c x ec ex zz lw pc sc o h r =
@@ -160,11 +172,13 @@ filled-step n s bytes at p next ws z gap w c x ec ex zz lw pc sc o h r =
       count = zeros-count gap (x ∷ r .ys) ∙ some-count c x (r .ys) (ne-eqb x 0 o) ∙ ap suc (r .count);
     }
 
-pub filled-forth : (n : ℕ) (s : List ℕ) → Bytes s → (at i p next : ℕ) (ws : List ℕ) (z : ℕ) → codesReading n s at i p ≡ Read → zeroListed n s at ≡ false
+pub filled-forth : (n : ℕ) (s : List ℕ) → Bytes s → (at i p next : ℕ) (ws : List ℕ) (z : ℕ)
+    → codesReading n s at i p ≡ Read → zeroListed n s at ≡ false
     → length ws ≡ p + 1 → p + 1 + z ≡ CODES → at + 5 * n ≡ next → next ≤ length s → Filled n s at p next ws z
 filled-forth zero s bytes at i p next ws z good nz l k e h =
     let q : next ≡ at = omega arith in
-    let a : componentBytes (p + 1) (replicate z 0) ≡ [] = ap (λ (r : List ℕ). componentBytes (p + 1) r) (sym (append-nil (replicate z 0))) ∙ zeros-bytes z (p + 1) [] in
+    let a : componentBytes (p + 1) (replicate z 0) ≡ [] = ap (λ (r : List ℕ). componentBytes (p + 1) r)
+        (sym (append-nil (replicate z 0))) ∙ zeros-bytes z (p + 1) [] in
     let b : countOf (replicate z 0) ≡ 0 = ap countOf (sym (append-nil (replicate z 0))) ∙ zeros-count z [] in
     record {
       ys = replicate z 0;
@@ -177,10 +191,13 @@ filled-forth (suc n) s bytes at i p next ws z good nz l k e h =
     let f = fault-none (getD s at 0) p (g .0) in
     let o = zero-head n s at nz in
     let lw : length ws + (getD s at 0 - (p + 1)) ≡ getD s at 0 = omega arith in
-    let lv : length ((ws ++ replicate (getD s at 0 - (p + 1)) 0) ++ (fourBytesAt s (at + 1) ∷ [])) ≡ getD s at 0 + 1 = simp (length-append, length-replicate) (omega arith) in
-    filled-step n s bytes at p next ws z (getD s at 0 - (p + 1)) (CODES - (getD s at 0 + 1)) (getD s at 0) (fourBytesAt s (at + 1)) refl refl
+    let lv : length ((ws ++ replicate (getD s at 0 - (p + 1)) 0) ++ (fourBytesAt s (at + 1) ∷ [])) ≡ getD s at 0 + 1 =
+        simp (length-append, length-replicate) (omega arith) in
+    filled-step n s bytes at p next ws z (getD s at 0 - (p + 1)) (CODES - (getD s at 0 + 1)) (getD s at 0)
+        (fourBytesAt s (at + 1)) refl refl
     (omega arith) lw (omega arith) (omega arith) (o .0) (omega arith)
-    (filled-forth n s bytes (at + 5) (i + 1) (getD s at 0) next ((ws ++ replicate (getD s at 0 - (p + 1)) 0) ++ (fourBytesAt s (at + 1) ∷ [])) (CODES - (getD s at 0 + 1)) (g .1) (o .1) lv (omega arith) (omega arith) h)
+    (filled-forth n s bytes (at + 5) (i + 1) (getD s at 0) next ((ws ++ replicate (getD s at 0 - (p + 1)) 0)
+    ++ (fourBytesAt s (at + 1) ∷ [])) (CODES - (getD s at 0 + 1)) (g .1) (o .1) lv (omega arith) (omega arith) h)
 
 pub length-byte-column : (m : ℕ) (s : List ℕ) (at : ℕ) → length (byteColumn m s at) ≡ m
 length-byte-column zero s at = refl
@@ -194,4 +211,5 @@ length-amount-column (suc m) s at = ap suc (length-amount-column m s (at + 6))
 pub column-forth : (m : ℕ) (vs : List ℕ) → length vs ≡ m → m ≤ length (padded vs) → cut m 0 (padded vs) ≡ vs
 column-forth m vs l h =
     let k : 0 + m ≤ length (padded vs) = omega arith in
-    cut-take m 0 (padded vs) k ∙ ap (λ (n : ℕ). take n (padded vs)) (sym l) ∙ take-append-seam vs (replicate (RECORDS - length vs) 0)
+    cut-take m 0 (padded vs) k ∙ ap (λ (n : ℕ). take n (padded vs)) (sym l)
+        ∙ take-append-seam vs (replicate (RECORDS - length vs) 0)

@@ -43,7 +43,9 @@ unfolding memberOf isIn
 candidate-is system r p = ap (λ x. ltb x COMPONENTS) p ∙ go (ltb system 9) refl
   where
     go : (b : Bool) → ltb system 9 ≡ b → ltb (memberOf system 0) COMPONENTS ≡ isIn system candidates
-    go true e = same-is (ltb (memberOf system 0) COMPONENTS) (isIn system candidates) (eachTo agree 9 tt system (ltb-true system 9 e))
+    go true e =
+        same-is (ltb (memberOf system 0) COMPONENTS) (isIn system candidates)
+        (eachTo agree 9 tt system (ltb-true system 9 e))
     go false e =
         let h = ltb-false system 9 e in
         ap (λ x. ltb x COMPONENTS) (member-none system 0 h) ∙ none-above system h (isIn system candidates) refl

@@ -1,4 +1,5 @@
--- How far ratings are from the exact ones: 19 units a number, 1 for the mean's division, 19 for the inert number. Assumes nothing.
+-- How far ratings are from the exact ones: 19 units a number, 1 for the mean's division, 19 for the inert number.
+-- Assumes nothing.
 use mathlib.Core.Path.{_≡_, refl, ap, ap₂, _∙_}
 use mathlib.Core.List.{List}
 use Prim.Native.Nat.{ℕ, zero, suc, _+_, _*_, _-_, _^_, _≤_, _<_}
@@ -7,7 +8,8 @@ use native.Mathlib.Omega.{arith}
 use lib.IntN.{pos}
 use Rattle.integer.specs.Figures.{neg, MILLION}
 use Rattle.integer.specs.Fraction.{Within, Close}
-use Rattle.integer.specs.Laws.Distance.{close, looser, close-looser, close-whole, close-plus, close-times, within-plus, within-over}
+use Rattle.integer.specs.Laws.Distance.{close, looser, close-looser, close-whole, close-plus, close-times}
+use Rattle.integer.specs.Laws.Distance.{within-plus, within-over}
 use Rattle.formula.specs.Partial.{exactNumber}
 use Rattle.formula.specs.Accuracy.{partial-within}
 use Rattle.split.specs.Fold.{sumTo, sumToZ}
@@ -21,14 +23,17 @@ pub number-within : (ch a : List ℕ) (s : ℕ) → 0 < partsOf ch a s → Withi
 unfolding rowNumber exactAt partsOf
 number-within ch a s h = partial-within (systemOf ch s) (amountOf ch a s 0) (amountOf ch a s 1) (amountOf ch a s 2) h
 
-pub sum-close : (ch : List ℕ) (k : ℕ) (a : List ℕ) → NoneEmpty ch k a → Close (weightedOf ch k a) (exactSum ch k a) (19 * sumTo (partsOf ch a) k)
+pub sum-close : (ch : List ℕ) (k : ℕ) (a : List ℕ) → NoneEmpty ch k a
+    → Close (weightedOf ch k a) (exactSum ch k a) (19 * sumTo (partsOf ch a) k)
 unfolding weightedOf exactSum sumTo sumToZ
 sum-close ch zero a h = close-whole (pos 0)
 sum-close ch (suc k) a h =
     rw (N.mul-add 19 (sumTo (partsOf ch a) k) (partsOf ch a k))
-    (close-plus (sum-close ch k a (λ s l. h s (omega arith))) (close-times (partsOf ch a k) (close (number-within ch a k (h k (omega arith))))))
+    (close-plus (sum-close ch k a (λ s l. h s (omega arith)))
+    (close-times (partsOf ch a k) (close (number-within ch a k (h k (omega arith))))))
 
-pub mean-within : (ch : List ℕ) (k : ℕ) (a : List ℕ) → NoneEmpty ch k a → sumTo (partsOf ch a) k ≤ MILLION → Within (meanOf ch k a) (exactMean ch k a) 20
+pub mean-within : (ch : List ℕ) (k : ℕ) (a : List ℕ) → NoneEmpty ch k a → sumTo (partsOf ch a) k ≤ MILLION
+    → Within (meanOf ch k a) (exactMean ch k a) 20
 unfolding meanOf exactMean
 mean-within ch k a h t = within-over MILLION (omega arith) (close-looser (sum-close ch k a h) (omega arith))
 
@@ -36,17 +41,20 @@ pub inert-within : (n1 : ℕ) → n1 ≤ MILLION → Within (inertNumber n1) (ex
 unfolding inertNumber exactInert
 inert-within n1 h = partial-within 20 n1 (MILLION - n1) 0 (omega arith)
 
-pub rating-within : (ch : List ℕ) (k : ℕ) (a : List ℕ) (n1 : ℕ) → NoneEmpty ch k a → sumTo (partsOf ch a) k ≤ MILLION → n1 ≤ MILLION → Within (ratingOf ch k a n1) (exactRating ch k a n1) 40
+pub rating-within : (ch : List ℕ) (k : ℕ) (a : List ℕ) (n1 : ℕ) → NoneEmpty ch k a → sumTo (partsOf ch a) k ≤ MILLION
+    → n1 ≤ MILLION → Within (ratingOf ch k a n1) (exactRating ch k a n1) 40
 unfolding ratingOf exactRating
 rating-within ch k a n1 h t l =
-    looser (within-plus (within-plus (mean-within ch k a h t) (close (inert-within n1 l))) (close-whole (neg PURE_METHANE))) (omega arith)
+    looser (within-plus (within-plus (mean-within ch k a h t) (close (inert-within n1 l)))
+        (close-whole (neg PURE_METHANE))) (omega arith)
 
 sum-den : (ch : List ℕ) (k : ℕ) (a : List ℕ) → exactSum ch k a .den ≡ powersOf ch k a
 unfolding exactSum exactAt exactNumber powersOf partsOf
 sum-den ch zero a = refl
 sum-den ch (suc k) a = ap (λ (n : ℕ). n * partsOf ch a k ^ 7) (sum-den ch k a)
 
-pub denominator : (ch : List ℕ) (k : ℕ) (a : List ℕ) (n1 : ℕ) → n1 ≤ MILLION → exactRating ch k a n1 .den ≡ powersOf ch k a * MILLION * MILLION ^ 7
+pub denominator : (ch : List ℕ) (k : ℕ) (a : List ℕ) (n1 : ℕ) → n1 ≤ MILLION
+    → exactRating ch k a n1 .den ≡ powersOf ch k a * MILLION * MILLION ^ 7
 unfolding exactRating exactMean exactInert exactNumber
 denominator ch k a n1 h =
     N.mul-one (exactSum ch k a .den * MILLION * (n1 + (MILLION - n1) + 0) ^ 7)

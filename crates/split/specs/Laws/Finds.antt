@@ -1,4 +1,5 @@
--- What holds of every search from a mixture and its chosen systems: of each state that it reaches and of what it finds. Assumes nothing.
+-- What holds of every search from a mixture and its chosen systems: of each state that it reaches and of what it
+-- finds. Assumes nothing.
 use Prim.Native.Nat.{ℕ, _+_, _-_, _≤_, _<_}
 use mathlib.Core.Path.{_≡_, refl, sym, ap, _∙_}
 use mathlib.Core.Bool.{Bool, true, false}
@@ -25,7 +26,8 @@ use Rattle.split.specs.declared.Found.{Found}
 use Rattle.split.specs.Laws.Folds.{all-each, all-of, some-each, some-of}
 use Rattle.split.specs.Laws.Members.{both-left, both-right}
 use Rattle.split.specs.Laws.Starts.{Shared, Supplied, start-sums, start-stock, start-sound}
-use Rattle.split.specs.Laws.Runs.{Reached, reached-kept, reached-falls, reached-rounds, result-kept, result-says, result-rounds, larger-allowance, result-fit}
+use Rattle.split.specs.Laws.Runs.{Reached, reached-kept, reached-falls, reached-rounds, result-kept}
+use Rattle.split.specs.Laws.Runs.{result-says, result-rounds, larger-allowance, result-fit}
 use Rattle.split.specs.Laws.Clean.{Clean}
 use Rattle.split.specs.Laws.Size.{number-small}
 use Rattle.split.specs.Laws.CleanCells.{start-clean, reached-clean, result-clean}
@@ -39,12 +41,16 @@ chosen-of ch k e =
     record {
       some = ltb-true 0 k (both-left (ltb 0 k) _ e);
       most = leb-true k SYSTEMS (both-left (leb k SYSTEMS) _ p);
-      known = λ s h. record { listed = all-each (λ r. isIn (systemOf ch r) candidates) k s (both-right (leb k SYSTEMS) _ p) h };
+      known =
+          λ s h. record { listed = all-each (λ r. isIn (systemOf ch r) candidates) k s
+          (both-right (leb k SYSTEMS) _ p) h };
     }
 
 pub chosen-fits : (ch : List ℕ) (k : ℕ) → Chosen ch k → chosenFit ch k ≡ true
 unfolding chosenFit
-chosen-fits ch k cn = rw (lt-ltb 0 k (cn .some), le-leb k SYSTEMS (cn .most)) (all-of (λ r. isIn (systemOf ch r) candidates) k (λ s h. cn .known s h .listed))
+chosen-fits ch k cn =
+    rw (lt-ltb 0 k (cn .some), le-leb k SYSTEMS (cn .most))
+    (all-of (λ r. isIn (systemOf ch r) candidates) k (λ s h. cn .known s h .listed))
 
 pub mixture-of : (mix : List ℕ) → mixtureFit mix ≡ true → sumTo (λ c. getD mix c 0) COMPONENTS ≤ MILLION
 unfolding mixtureFit
@@ -57,14 +63,17 @@ mixture-fits mix h = le-leb (sumTo (λ c. getD mix c 0) COMPONENTS) MILLION h
 -- no system is empty
 pub sound-of : (ch : List ℕ) (k : ℕ) (a : List ℕ) → Stock ch k a → someEmpty ch k a ≡ false → Sound ch k a
 unfolding someEmpty
-sound-of ch k a st e = record { stock = st; some = λ s h. above s (eqb-false (partsOf ch a s) 0 (some-each (λ r. eqb (partsOf ch a r) 0) k s e h)) }
+sound-of ch k a st e =
+    record { stock = st; some = λ s h. above s
+    (eqb-false (partsOf ch a s) 0 (some-each (λ r. eqb (partsOf ch a r) 0) k s e h)) }
   where
     above : (s : ℕ) → (partsOf ch a s ≡ 0 → ⊥) → 1 ≤ partsOf ch a s
     above s n = omega (arith, n)
 
 pub none-empty : (ch : List ℕ) (k : ℕ) (a : List ℕ) → Sound ch k a → someEmpty ch k a ≡ false
 unfolding someEmpty
-none-empty ch k a so = some-of (λ r. eqb (partsOf ch a r) 0) k (λ s h. ne-eqb (partsOf ch a s) 0 (λ z. omega (arith, so .some s h, z)))
+none-empty ch k a so =
+    some-of (λ r. eqb (partsOf ch a r) 0) k (λ s h. ne-eqb (partsOf ch a s) 0 (λ z. omega (arith, so .some s h, z)))
 
 -- an input that the search takes
 pub record SearchInput (mix ch : List ℕ) (k level : ℕ) : Type 0 where
@@ -85,19 +94,26 @@ module _ (mix ch : List ℕ) (k level : ℕ) where
         low = leb-true level FIRST_LEVEL (both-left (leb level FIRST_LEVEL) _ e);
         few = few;
         chosen = cn;
-        sound = sound-of ch k (startOf mix ch k) (start-stock mix ch k (cn .most) few cn) (not-true (someEmpty ch k (startOf mix ch k)) (both-right (chosenFit ch k) _ q));
+        sound =
+            sound-of ch k (startOf mix ch k) (start-stock mix ch k (cn .most) few cn)
+            (not-true (someEmpty ch k (startOf mix ch k)) (both-right (chosenFit ch k) _ q));
       }
 
   pub input-fits : SearchInput mix ch k level → searchFit mix ch k level ≡ true
   unfolding searchFit
-  input-fits i = rw (le-leb level FIRST_LEVEL (i .low), mixture-fits mix (i .few), chosen-fits ch k (i .chosen), none-empty ch k (startOf mix ch k) (i .sound))
+  input-fits i =
+      rw (le-leb level FIRST_LEVEL (i .low), mixture-fits mix (i .few), chosen-fits ch k (i .chosen),
+      none-empty ch k (startOf mix ch k) (i .sound))
 
   -- it is enough that each chosen system contains a component of which there are as many parts as chosen systems
-  pub enough-parts : level ≤ FIRST_LEVEL → sumTo (λ c. getD mix c 0) COMPONENTS ≤ MILLION → Chosen ch k → ((s : ℕ) → s < k → Supplied mix ch k s) → SearchInput mix ch k level
-  enough-parts l few cn supplied = record { low = l; few = few; chosen = cn; sound = start-sound mix ch k cn few supplied }
+  pub enough-parts : level ≤ FIRST_LEVEL → sumTo (λ c. getD mix c 0) COMPONENTS ≤ MILLION → Chosen ch k
+      → ((s : ℕ) → s < k → Supplied mix ch k s) → SearchInput mix ch k level
+  enough-parts l few cn supplied =
+      record { low = l; few = few; chosen = cn; sound = start-sound mix ch k cn few supplied }
 
   module _ (limit allowance : ℕ) where
-    pub find-search : searchFit mix ch k level ≡ true → searchOf ch k limit level allowance (startOf mix ch k) ≡ findOf mix ch k limit level allowance
+    pub find-search : searchFit mix ch k level ≡ true
+        → searchOf ch k limit level allowance (startOf mix ch k) ≡ findOf mix ch k limit level allowance
     unfolding findOf
     find-search e = rw (e, findOf)
 
@@ -130,7 +146,9 @@ pub record State (mix ch : List ℕ) (k allowance : ℕ) (b : List ℕ) (r : ℕ
   pub falls : imbalanceOf (rowNumber ch b) k + r ≤ imbalanceOf (rowNumber ch (startOf mix ch k)) k
   pub rounds : r ≤ allowance
 
-pub reached-state : {mix ch : List ℕ} {k limit level allowance : ℕ} {b : List ℕ} {l r : ℕ} → SearchInput mix ch k level → Reached ch k limit level allowance (startOf mix ch k) b l r → State mix ch k allowance b r
+pub reached-state : {mix ch : List ℕ} {k limit level allowance : ℕ} {b : List ℕ} {l r : ℕ}
+    → SearchInput mix ch k level → Reached ch k limit level allowance (startOf mix ch k) b l r
+    → State mix ch k allowance b r
 reached-state {mix} {ch} {k} {limit} {level} {allowance} {b} i x =
     let z = reached-kept (i .sound) x in
     record {
@@ -154,7 +172,8 @@ pub record Balance (mix ch : List ℕ) (k limit allowance : ℕ) (a : List ℕ) 
   pub rounds : r ≤ allowance
 
 module _ (mix ch : List ℕ) (k limit level allowance : ℕ) where
-  searched : SearchInput mix ch k level → (s r : ℕ) → searchOf ch k limit level allowance (startOf mix ch k) .search ≡ Balanced s r
+  searched : SearchInput mix ch k level → (s r : ℕ)
+      → searchOf ch k limit level allowance (startOf mix ch k) .search ≡ Balanced s r
       → Balance mix ch k limit allowance (searchOf ch k limit level allowance (startOf mix ch k) .cells) s r
   unfolding searchOf
   searched i s r e =
@@ -163,18 +182,23 @@ module _ (mix ch : List ℕ) (k limit level allowance : ℕ) where
       record {
         chosen = i .chosen;
         sound = z .sound;
-        clean = result-clean ch k limit allowance (allowance + level + 1) (startOf mix ch k) level 0 (i .sound) (start-clean mix ch k);
+        clean =
+            result-clean ch k limit allowance (allowance + level + 1) (startOf mix ch k) level 0 (i .sound)
+            (start-clean mix ch k);
         sums = λ c l h. z .sums c l ∙ start-sums mix ch k (i .chosen .most) c l h;
         spread = w .0;
         within = w .1;
-        rounds = result-rounds ch k limit allowance (allowance + level + 1) (startOf mix ch k) level 0 s r e (omega arith);
+        rounds =
+            result-rounds ch k limit allowance (allowance + level + 1) (startOf mix ch k) level 0 s r e (omega arith);
       }
 
   -- a balanced answer comes with such a split
-  pub find-balanced : (s r : ℕ) → findOf mix ch k limit level allowance .search ≡ Balanced s r → Balance mix ch k limit allowance (findOf mix ch k limit level allowance .cells) s r
+  pub find-balanced : (s r : ℕ) → findOf mix ch k limit level allowance .search ≡ Balanced s r
+      → Balance mix ch k limit allowance (findOf mix ch k limit level allowance .cells) s r
   find-balanced s r e = go (searchFit mix ch k level) refl
     where
-      go : (b : Bool) → searchFit mix ch k level ≡ b → Balance mix ch k limit allowance (findOf mix ch k limit level allowance .cells) s r
+      go : (b : Bool) → searchFit mix ch k level ≡ b
+          → Balance mix ch k limit allowance (findOf mix ch k limit level allowance .cells) s r
       go true z =
           let u = find-search mix ch k level limit allowance z in
           rw (sym u) (searched (input-of mix ch k level z) s r (ap (λ (o : Found). o .search) u ∙ e))
@@ -183,7 +207,9 @@ module _ (mix ch : List ℕ) (k limit level allowance : ℕ) where
           absurd (let w : _≡_ {A = ℕ} 0 1 = cc in omega arith)
 
 -- a larger allowance leaves a balanced answer as it was
-pub find-larger : (mix ch : List ℕ) (k limit level few many : ℕ) → few ≤ many → (s r : ℕ) → findOf mix ch k limit level few .search ≡ Balanced s r → findOf mix ch k limit level many ≡ findOf mix ch k limit level few
+pub find-larger : (mix ch : List ℕ) (k limit level few many : ℕ) → few ≤ many → (s r : ℕ)
+    → findOf mix ch k limit level few .search ≡ Balanced s r
+    → findOf mix ch k limit level many ≡ findOf mix ch k limit level few
 find-larger mix ch k limit level few many le s r e = go (searchFit mix ch k level) refl
   where
     go : (b : Bool) → searchFit mix ch k level ≡ b → findOf mix ch k limit level many ≡ findOf mix ch k limit level few

@@ -18,11 +18,14 @@ use Rattle.split.specs.Fits.{Resums}
 
 pub resums-yes : (mix : List ℕ) (k : ℕ) (a : List ℕ) → resums mix k a ≡ true → Resums mix k a
 unfolding resums
-resums-yes mix k a h c l = eqb-true (columnOf k a c) (getD mix c 0) (all-each (λ c. eqb (columnOf k a c) (getD mix c 0)) COMPONENTS c h l)
+resums-yes mix k a h c l =
+    eqb-true (columnOf k a c) (getD mix c 0) (all-each (λ c. eqb (columnOf k a c) (getD mix c 0)) COMPONENTS c h l)
 
 pub yes-resums : (mix : List ℕ) (k : ℕ) (a : List ℕ) → Resums mix k a → resums mix k a ≡ true
 unfolding resums
-yes-resums mix k a h = all-of (λ c. eqb (columnOf k a c) (getD mix c 0)) COMPONENTS (λ c l. eq-eqb (columnOf k a c) (getD mix c 0) (h c l))
+yes-resums mix k a h =
+    all-of (λ c. eqb (columnOf k a c) (getD mix c 0)) COMPONENTS
+    (λ c l. eq-eqb (columnOf k a c) (getD mix c 0) (h c l))
 
 pub empty-no : (ch : List ℕ) (k : ℕ) (a : List ℕ) → someEmpty ch k a ≡ false → NoneEmpty ch k a
 unfolding someEmpty

@@ -24,12 +24,14 @@ sum-same f g zero h = refl
 sum-same f g (suc n) h = ap₂ _+_ (sum-same f g n (λ i l. h i (omega arith))) (h n (omega arith))
 
 -- a function that differs at one place only
-pub sum-but : (f g : ℕ → ℕ) (n j : ℕ) → j < n → ((i : ℕ) → i < n → (i ≡ j → ⊥) → f i ≡ g i) → sumTo f n + g j ≡ sumTo g n + f j
+pub sum-but : (f g : ℕ → ℕ) (n j : ℕ) → j < n → ((i : ℕ) → i < n → (i ≡ j → ⊥) → f i ≡ g i)
+    → sumTo f n + g j ≡ sumTo g n + f j
 unfolding sumTo
 sum-but f g zero j l h = absurd (not-suc-le-zero l)
 sum-but f g (suc n) j l h = go (eqb n j) refl (λ l′. sum-but f g n j l′ (λ i m. h i (omega arith)))
   where
-    go : (b : Bool) → eqb n j ≡ b → (j < n → sumTo f n + g j ≡ sumTo g n + f j) → sumTo f (suc n) + g j ≡ sumTo g (suc n) + f j
+    go : (b : Bool) → eqb n j ≡ b → (j < n → sumTo f n + g j ≡ sumTo g n + f j)
+        → sumTo f (suc n) + g j ≡ sumTo g (suc n) + f j
     go true e rec =
         let q : n ≡ j = eqb-true n j e in
         omega (arith, sum-same f g n (λ i m. h i (omega arith) (λ z. omega arith)), ap f q, ap g q)
@@ -119,11 +121,14 @@ but-sum f n i l = omega (arith, sum-but f (but i f) n i l (λ s m z. sym (but-of
 sum-two : (f : ℕ → ℕ) (n i j : ℕ) → i < n → j < n → (j ≡ i → ⊥) → f i + f j ≤ sumTo f n
 sum-two f n i j li lj ne = omega (arith, but-sum f n i li, sum-has (but i f) n j lj, but-off i f j ne)
 
-pub sum-three : (f : ℕ → ℕ) (n i j l : ℕ) → i < n → j < n → l < n → (j ≡ i → ⊥) → (l ≡ i → ⊥) → (l ≡ j → ⊥) → f i + f j + f l ≤ sumTo f n
-sum-three f n i j l li lj ll p q r = omega (arith, but-sum f n i li, sum-two (but i f) n j l lj ll r, but-off i f j p, but-off i f l q)
+pub sum-three : (f : ℕ → ℕ) (n i j l : ℕ) → i < n → j < n → l < n → (j ≡ i → ⊥) → (l ≡ i → ⊥) → (l ≡ j → ⊥)
+    → f i + f j + f l ≤ sumTo f n
+sum-three f n i j l li lj ll p q r =
+    omega (arith, but-sum f n i li, sum-two (but i f) n j l lj ll r, but-off i f j p, but-off i f l q)
 
 -- k numbers have the same greatest and the same least as the k numbers that equal them
-pub greatest-same : (u v : ℕ → ℤ) (k n : ℕ) → 0 < k → n ≤ k → ((i : ℕ) → i < k → u i ≡ v i) → greatestTo u n ≡ greatestTo v n
+pub greatest-same : (u v : ℕ → ℤ) (k n : ℕ) → 0 < k → n ≤ k → ((i : ℕ) → i < k → u i ≡ v i)
+    → greatestTo u n ≡ greatestTo v n
 unfolding greatestTo
 greatest-same u v k zero p l h = h 0 p
 greatest-same u v k (suc n) p l h = rw (greatest-same u v k n p (omega arith) h, h n (omega arith))

@@ -27,7 +27,9 @@ all-placed system = everyTo (placed system) COMPONENTS
 module _ (system : ℕ) (cand : Candidate system) (c : ℕ) (low : c < COMPONENTS) (has : hasOf system c ≡ true) where
   rank-test : T (ltb (rankOf system c) 3 && eqb (componentAt system (rankOf system c)) c)
   unfolding all-placed placed hasOf memberOf rankOf componentAt sumTo first
-  rank-test = of-implies (hasOf system c) _ has (eachTo (placed system) COMPONENTS (each-candidate all-placed tt system cand) c low)
+  rank-test =
+      of-implies (hasOf system c) _ has
+      (eachTo (placed system) COMPONENTS (each-candidate all-placed tt system cand) c low)
 
   pub rank-lt : rankOf system c < 3
   rank-lt = ltb→lt (rankOf system c) 3 (and-l (ltb (rankOf system c) 3) _ rank-test)
@@ -36,7 +38,9 @@ module _ (system : ℕ) (cand : Candidate system) (c : ℕ) (low : c < COMPONENT
   component-rank = eqb→eq (componentAt system (rankOf system c)) c (and-r (ltb (rankOf system c) 3) _ rank-test)
 
 filled : ℕ → ℕ → Bool
-filled system j = ltb (componentAt system j) COMPONENTS && (hasOf system (componentAt system j) && eqb (rankOf system (componentAt system j)) j)
+filled system j =
+    ltb (componentAt system j) COMPONENTS
+    && (hasOf system (componentAt system j) && eqb (rankOf system (componentAt system j)) j)
 
 all-filled : ℕ → Bool
 all-filled system = everyTo (filled system) 3
@@ -52,11 +56,15 @@ module _ (system : ℕ) (cand : Candidate system) (j : ℕ) (low : j < 3) where
 
   pub component-has : hasOf system (componentAt system j) ≡ true
   unfolding filled
-  component-has = to-true (hasOf system (componentAt system j)) (and-l (hasOf system (componentAt system j)) _ (and-r (ltb (componentAt system j) COMPONENTS) _ at-test))
+  component-has =
+      to-true (hasOf system (componentAt system j))
+      (and-l (hasOf system (componentAt system j)) _ (and-r (ltb (componentAt system j) COMPONENTS) _ at-test))
 
   pub rank-component : rankOf system (componentAt system j) ≡ j
   unfolding filled
-  rank-component = eqb→eq (rankOf system (componentAt system j)) j (and-r (hasOf system (componentAt system j)) _ (and-r (ltb (componentAt system j) COMPONENTS) _ at-test))
+  rank-component =
+      eqb→eq (rankOf system (componentAt system j)) j
+      (and-r (hasOf system (componentAt system j)) _ (and-r (ltb (componentAt system j) COMPONENTS) _ at-test))
 
 -- the components of a system's three records rise: methane, ethane, propane, butane as contained
 rises : ℕ → Bool

@@ -66,6 +66,7 @@ module _ (mix ch : List ℕ) (k n1 : ℕ) where
     unfolding ratedOf proposedOf
     answer-rated p h e = answer-proposed p ∙ ap Answered (by-width (ltb limit (spreadOf (rowNumber ch a) k)) refl)
       where
-        by-width : (b : Bool) → ltb limit (spreadOf (rowNumber ch a) k) ≡ b → proposedOf limit ch k mix a n1 ≡ ratedOf limit ch k a n1
+        by-width : (b : Bool) → ltb limit (spreadOf (rowNumber ch a) k) ≡ b
+            → proposedOf limit ch k mix a n1 ≡ ratedOf limit ch k a n1
         by-width true w = proposed-wide limit ch k mix a n1 h e w ∙ sym (rw (w, ratedOf))
         by-width false w = proposed-rated limit ch k mix a n1 h e w ∙ sym (rw (w, ratedOf))

@@ -10,7 +10,8 @@ use lib.ListN.{getD, length, List·getD-eq-default}
 use lib.Seq.{ext-getD}
 use borrow.Author.Tests.{lt-ltb, le-ltb, ltb-true, ltb-false}
 use Rattle.systems.specs.Systems.{COMPONENTS}
-use Rattle.split.specs.Split.{SYSTEMS, CELLS, RECORDS, cellOf, systemOf, heldOf, rankOf, componentAt, cellsOf, amountsOf, Chosen, amountAt, cellAt, recordedIn}
+use Rattle.split.specs.Split.{SYSTEMS, CELLS, RECORDS, cellOf, systemOf, heldOf, rankOf, componentAt, cellsOf}
+use Rattle.split.specs.Split.{amountsOf, Chosen, amountAt, cellAt, recordedIn}
 use Rattle.split.specs.Laws.Tables.{length-table, getD-table}
 use Rattle.split.specs.Laws.Clean.{Clean, held-row, row-held}
 use Rattle.split.specs.Laws.Places.{rank-lt, component-rank, component-lt, component-has, rank-component}
@@ -26,41 +27,50 @@ module _ (ch : List ℕ) (k : ℕ) where
   unfolding amountsOf
   amounts-length a = length-table (amountAt ch k a) RECORDS 0
 
-  pub cells-cell : (xs : List ℕ) (s c : ℕ) → s < SYSTEMS → c < COMPONENTS → cellOf (cellsOf ch k xs) s c ≡ recordedIn ch k xs s c
+  pub cells-cell : (xs : List ℕ) (s c : ℕ) → s < SYSTEMS → c < COMPONENTS
+      → cellOf (cellsOf ch k xs) s c ≡ recordedIn ch k xs s c
   unfolding cellsOf
   cells-cell xs s c h l =
       let row : (0 + (s * COMPONENTS + c)) / COMPONENTS ≡ s = omega arith in
       let column : (0 + (s * COMPONENTS + c)) % COMPONENTS ≡ c = omega arith in
       getD-table (cellAt ch k xs) CELLS 0 (s * COMPONENTS + c) (omega arith) ∙ ap₂ (recordedIn ch k xs) row column
 
-  pub amounts-at : (a : List ℕ) (s j : ℕ) → s < k → j < 3 → 3 * k ≤ RECORDS → getD (amountsOf ch k a) (3 * s + j) 0 ≡ cellOf a s (componentAt (systemOf ch s) j)
+  pub amounts-at : (a : List ℕ) (s j : ℕ) → s < k → j < 3 → 3 * k ≤ RECORDS
+      → getD (amountsOf ch k a) (3 * s + j) 0 ≡ cellOf a s (componentAt (systemOf ch s) j)
   unfolding amountsOf
   amounts-at a s j h l room =
       let row : (0 + (3 * s + j)) / 3 ≡ s = omega arith in
       let place : (0 + (3 * s + j)) % 3 ≡ j = omega arith in
       getD-table (amountAt ch k a) RECORDS 0 (3 * s + j) (omega arith)
-      ∙ ap (λ (b : Bool). cond b (cellOf a ((0 + (3 * s + j)) / 3) (componentAt (systemOf ch ((0 + (3 * s + j)) / 3)) ((0 + (3 * s + j)) % 3))) 0) (lt-ltb (0 + (3 * s + j)) (3 * k) (omega arith))
+      ∙ ap (λ (b : Bool). cond b (cellOf a ((0 + (3 * s + j)) / 3)
+      (componentAt (systemOf ch ((0 + (3 * s + j)) / 3)) ((0 + (3 * s + j)) % 3))) 0)
+      (lt-ltb (0 + (3 * s + j)) (3 * k) (omega arith))
       ∙ ap₂ (λ (s j : ℕ). cellOf a s (componentAt (systemOf ch s) j)) row place
 
   pub amounts-beyond : (a : List ℕ) (r : ℕ) → r < RECORDS → 3 * k ≤ r → getD (amountsOf ch k a) r 0 ≡ 0
   unfolding amountsOf
   amounts-beyond a r h l =
       getD-table (amountAt ch k a) RECORDS 0 r h
-      ∙ ap (λ (b : Bool). cond b (cellOf a ((0 + r) / 3) (componentAt (systemOf ch ((0 + r) / 3)) ((0 + r) % 3))) 0) (le-ltb (0 + r) (3 * k) (omega arith))
+      ∙ ap (λ (b : Bool). cond b (cellOf a ((0 + r) / 3) (componentAt (systemOf ch ((0 + r) / 3)) ((0 + r) % 3))) 0)
+      (le-ltb (0 + r) (3 * k) (omega arith))
 
   -- ---- cells made of records are clean
 
   pub cells-clean : (xs : List ℕ) → Clean ch k (cellsOf ch k xs)
   cells-clean xs = record { none = λ s c l h. go s c l h (ltb s SYSTEMS) refl }
     where
-      go : (s c : ℕ) → c < COMPONENTS → heldOf ch k s c ≡ false → (b : Bool) → ltb s SYSTEMS ≡ b → cellOf (cellsOf ch k xs) s c ≡ 0
+      go : (s c : ℕ) → c < COMPONENTS → heldOf ch k s c ≡ false → (b : Bool) → ltb s SYSTEMS ≡ b
+          → cellOf (cellsOf ch k xs) s c ≡ 0
       go s c l h true e = cells-cell xs s c (ltb-true s SYSTEMS e) l ∙ rw h
-      go s c l h false e = List·getD-eq-default (cellsOf ch k xs) 0 {n = s * COMPONENTS + c} (omega (arith, cells-length xs, ltb-false s SYSTEMS e))
+      go s c l h false e =
+          List·getD-eq-default (cellsOf ch k xs) 0 {n = s * COMPONENTS + c}
+          (omega (arith, cells-length xs, ltb-false s SYSTEMS e))
 
   module _ (chosen : Chosen ch k) (room : 3 * k ≤ RECORDS) where
     -- ---- cells to records and back
 
-    cell-back : (a : List ℕ) → Clean ch k a → (s c : ℕ) → s < SYSTEMS → c < COMPONENTS → (b : Bool) → heldOf ch k s c ≡ b → cellOf (cellsOf ch k (amountsOf ch k a)) s c ≡ cellOf a s c
+    cell-back : (a : List ℕ) → Clean ch k a → (s c : ℕ) → s < SYSTEMS → c < COMPONENTS → (b : Bool)
+        → heldOf ch k s c ≡ b → cellOf (cellsOf ch k (amountsOf ch k a)) s c ≡ cellOf a s c
     cell-back a clean s c h l true e =
         let (below, has) = held-row ch k s c e in
         let known = chosen .known s below in
@@ -76,12 +86,14 @@ module _ (ch : List ℕ) (k : ℕ) where
         let low : i < CELLS = omega (arith, cells-length (amountsOf ch k a)) in
         let place : i / COMPONENTS * COMPONENTS + i % COMPONENTS ≡ i = omega arith in
         sym (ap (λ (i : ℕ). getD (cellsOf ch k (amountsOf ch k a)) i 0) place)
-        ∙ cell-back a clean (i / COMPONENTS) (i % COMPONENTS) (omega arith) (omega arith) (heldOf ch k (i / COMPONENTS) (i % COMPONENTS)) refl
+        ∙ cell-back a clean (i / COMPONENTS) (i % COMPONENTS) (omega arith) (omega arith)
+        (heldOf ch k (i / COMPONENTS) (i % COMPONENTS)) refl
         ∙ ap (λ (i : ℕ). getD a i 0) place)
 
     -- ---- records to cells and back
 
-    amount-back : (xs : List ℕ) (s j : ℕ) → s < k → j < 3 → getD (amountsOf ch k (cellsOf ch k xs)) (3 * s + j) 0 ≡ getD xs (3 * s + j) 0
+    amount-back : (xs : List ℕ) (s j : ℕ) → s < k → j < 3
+        → getD (amountsOf ch k (cellsOf ch k xs)) (3 * s + j) 0 ≡ getD xs (3 * s + j) 0
     amount-back xs s j h l =
         let known = chosen .known s h in
         let c = componentAt (systemOf ch s) j in
@@ -90,15 +102,18 @@ module _ (ch : List ℕ) (k : ℕ) where
         ∙ rw (row-held ch k s c h (component-has (systemOf ch s) known j l))
         (ap (λ (j : ℕ). getD xs (3 * s + j) 0) (rank-component (systemOf ch s) known j l))
 
-    pub amounts-back : (xs : List ℕ) → length xs ≡ RECORDS → ((r : ℕ) → 3 * k ≤ r → getD xs r 0 ≡ 0) → amountsOf ch k (cellsOf ch k xs) ≡ xs
+    pub amounts-back : (xs : List ℕ) → length xs ≡ RECORDS → ((r : ℕ) → 3 * k ≤ r → getD xs r 0 ≡ 0)
+        → amountsOf ch k (cellsOf ch k xs) ≡ xs
     amounts-back xs long zeros =
         ext-getD 0 (amountsOf ch k (cellsOf ch k xs)) xs (amounts-length (cellsOf ch k xs) ∙ sym long)
         (λ r l. go r (omega (arith, amounts-length (cellsOf ch k xs))) (ltb r (3 * k)) refl)
       where
-        go : (r : ℕ) → r < RECORDS → (b : Bool) → ltb r (3 * k) ≡ b → getD (amountsOf ch k (cellsOf ch k xs)) r 0 ≡ getD xs r 0
+        go : (r : ℕ) → r < RECORDS → (b : Bool) → ltb r (3 * k) ≡ b
+            → getD (amountsOf ch k (cellsOf ch k xs)) r 0 ≡ getD xs r 0
         go r l true e =
             let place : 3 * (r / 3) + r % 3 ≡ r = omega arith in
             sym (ap (λ (r : ℕ). getD (amountsOf ch k (cellsOf ch k xs)) r 0) place)
             ∙ amount-back xs (r / 3) (r % 3) (omega (arith, ltb-true r (3 * k) e)) (omega arith)
             ∙ ap (λ (r : ℕ). getD xs r 0) place
-        go r l false e = amounts-beyond (cellsOf ch k xs) r l (ltb-false r (3 * k) e) ∙ sym (zeros r (ltb-false r (3 * k) e))
+        go r l false e =
+            amounts-beyond (cellsOf ch k xs) r l (ltb-false r (3 * k) e) ∙ sym (zeros r (ltb-false r (3 * k) e))

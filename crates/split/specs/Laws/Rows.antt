@@ -22,5 +22,6 @@ parts-few ch k a s st h =
       cell-in k a s (memberOf (systemOf ch s) 1) h,
       cell-in k a s (memberOf (systemOf ch s) 2) h,
       st .few,
-      sum-three (columnOf k a) COMPONENTS (memberOf (systemOf ch s) 0) (memberOf (systemOf ch s) 1) (memberOf (systemOf ch s) 2) (t .low0) (t .low1) (t .low2) (t .ne10) (t .ne20) (t .ne21),
+      sum-three (columnOf k a) COMPONENTS (memberOf (systemOf ch s) 0) (memberOf (systemOf ch s) 1)
+          (memberOf (systemOf ch s) 2) (t .low0) (t .low1) (t .low2) (t .ne10) (t .ne20) (t .ne21),
     )

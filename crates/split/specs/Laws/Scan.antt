@@ -7,7 +7,8 @@ use Rattle.split.specs.Fold.{first}
 use Rattle.split.specs.Laws.Folds.{first-next}
 
 module _ (p : ℕ → Bool) (n : ℕ) where
-  skip-by : (j m : ℕ) → m + j ≤ n → ((s : ℕ) → m ≤ s → s < m + j → p s ≡ false) → first p (n - m) m ≡ first p (n - (m + j)) (m + j)
+  skip-by : (j m : ℕ) → m + j ≤ n → ((s : ℕ) → m ≤ s → s < m + j → p s ≡ false)
+      → first p (n - m) m ≡ first p (n - (m + j)) (m + j)
   skip-by zero m l h =
       let q : m ≡ m + 0 = omega arith in
       ap (λ x. first p (n - x) x) q
@@ -17,7 +18,8 @@ module _ (p : ℕ → Bool) (n : ℕ) where
       ∙ skip-by j (m + 1) (omega arith) (λ s a b. h s (omega arith) (omega arith))
       ∙ ap (λ x. first p (n - x) x) q
 
-  pub first-skip : (m r : ℕ) → m ≤ r → r ≤ n → ((s : ℕ) → m ≤ s → s < r → p s ≡ false) → first p (n - m) m ≡ first p (n - r) r
+  pub first-skip : (m r : ℕ) → m ≤ r → r ≤ n → ((s : ℕ) → m ≤ s → s < r → p s ≡ false)
+      → first p (n - m) m ≡ first p (n - r) r
   first-skip m r l t h =
       let q : m + (r - m) ≡ r = omega arith in
       skip-by (r - m) m (omega arith) (λ s a b. h s a (omega arith)) ∙ ap (λ x. first p (n - x) x) q

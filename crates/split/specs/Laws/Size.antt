@@ -36,7 +36,8 @@ weighted-small ch (suc k) a =
       times-small (rowNumber ch a k) (partsOf ch a k) (number-small ch a k),
     )
 
-pub mean-small : (ch : List ℕ) (k : ℕ) (a : List ℕ) → sumTo (partsOf ch a) k ≤ MILLION → natAbs (meanOf ch k a) ≤ LARGEST
+pub mean-small : (ch : List ℕ) (k : ℕ) (a : List ℕ) → sumTo (partsOf ch a) k ≤ MILLION
+    → natAbs (meanOf ch k a) ≤ LARGEST
 unfolding meanOf
 mean-small ch k a h =
     rw (natAbs-quot (weightedOf ch k a) MILLION)
@@ -46,7 +47,8 @@ pub inert-small : (n1 : ℕ) → natAbs (inertNumber n1) ≤ LARGEST
 unfolding inertNumber
 inert-small n1 = partial-small 20 n1 (MILLION - n1) 0
 
-pub rating-small : (ch : List ℕ) (k : ℕ) (a : List ℕ) (n1 : ℕ) → sumTo (partsOf ch a) k ≤ MILLION → natAbs (ratingOf ch k a n1) ≤ 4001000003000
+pub rating-small : (ch : List ℕ) (k : ℕ) (a : List ℕ) (n1 : ℕ) → sumTo (partsOf ch a) k ≤ MILLION
+    → natAbs (ratingOf ch k a n1) ≤ 4001000003000
 unfolding ratingOf
 rating-small ch k a n1 h =
     omega (

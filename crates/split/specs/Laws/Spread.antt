@@ -34,27 +34,31 @@ pub at-most : (v : ℕ → ℤ) (k i : ℕ) → i < k → v i ≤ℤ greatestTo 
 unfolding greatestTo
 at-most v zero i h = absurd (N.not-suc-le-zero h)
 at-most v (suc n) i h = at-cond (ltZ (greatestTo v n) (v n)) (v n) (greatestTo v n) (λ (z : ℤ). v i ≤ℤ z)
-    (λ t. last-or (λ i. v i ≤ℤ v n) n i h (≤ℤ-refl (v n)) (λ l. ≤ℤ-trans (at-most v n i l) (lt-le (greatestTo v n) (v n) t)))
+    (λ t. last-or (λ i. v i ≤ℤ v n) n i h (≤ℤ-refl (v n))
+    (λ l. ≤ℤ-trans (at-most v n i l) (lt-le (greatestTo v n) (v n) t)))
     (λ t. last-or (λ i. v i ≤ℤ greatestTo v n) n i h (ltZ-no t) (λ l. at-most v n i l))
 
 pub at-least : (v : ℕ → ℤ) (k i : ℕ) → i < k → leastTo v k ≤ℤ v i
 unfolding leastTo
 at-least v zero i h = absurd (N.not-suc-le-zero h)
 at-least v (suc n) i h = at-cond (ltZ (v n) (leastTo v n)) (v n) (leastTo v n) (λ (z : ℤ). z ≤ℤ v i)
-    (λ t. last-or (λ i. v n ≤ℤ v i) n i h (≤ℤ-refl (v n)) (λ l. ≤ℤ-trans (lt-le (v n) (leastTo v n) t) (at-least v n i l)))
+    (λ t. last-or (λ i. v n ≤ℤ v i) n i h (≤ℤ-refl (v n))
+    (λ l. ≤ℤ-trans (lt-le (v n) (leastTo v n) t) (at-least v n i l)))
     (λ t. last-or (λ i. leastTo v n ≤ℤ v i) n i h (ltZ-no t) (λ l. at-least v n i l))
 
 pub greatest-in : (v : ℕ → ℤ) (k : ℕ) → (i : ℕ) × (i ≤ k - 1) × (greatestTo v k ≡ v i)
 unfolding greatestTo
 greatest-in v zero = (0, zero-le, refl)
-greatest-in v (suc n) = at-cond (ltZ (greatestTo v n) (v n)) (v n) (greatestTo v n) (λ (z : ℤ). (i : ℕ) × (i ≤ suc n - 1) × (z ≡ v i))
+greatest-in v (suc n) =
+    at-cond (ltZ (greatestTo v n) (v n)) (v n) (greatestTo v n) (λ (z : ℤ). (i : ℕ) × (i ≤ suc n - 1) × (z ≡ v i))
     (λ t. (n, omega arith, refl))
     (λ t. let (i, h, e) = greatest-in v n in (i, omega arith, e))
 
 pub least-in : (v : ℕ → ℤ) (k : ℕ) → (i : ℕ) × (i ≤ k - 1) × (leastTo v k ≡ v i)
 unfolding leastTo
 least-in v zero = (0, zero-le, refl)
-least-in v (suc n) = at-cond (ltZ (v n) (leastTo v n)) (v n) (leastTo v n) (λ (z : ℤ). (i : ℕ) × (i ≤ suc n - 1) × (z ≡ v i))
+least-in v (suc n) =
+    at-cond (ltZ (v n) (leastTo v n)) (v n) (leastTo v n) (λ (z : ℤ). (i : ℕ) × (i ≤ suc n - 1) × (z ≡ v i))
     (λ t. (n, omega arith, refl))
     (λ t. let (i, h, e) = least-in v n in (i, omega arith, e))
 
@@ -68,7 +72,8 @@ sub-le {v} {w} {hi} {lo} h k =
     let (m, p) = ≤ℤ-diff h in
     let (n, q) = ≤ℤ-diff k in
     subst (λ (z : ℤ). (v -ℤ w) ≤ℤ z)
-    (ap (λ (x : ℤ). (v -ℤ x) +ℤ (pos m +ℤ pos n)) q ∙ sym (cancel v (pos m) lo (pos n)) ∙ ap (λ (x : ℤ). x -ℤ lo) (sym p))
+    (ap (λ (x : ℤ). (v -ℤ x) +ℤ (pos m +ℤ pos n)) q ∙ sym (cancel v (pos m) lo (pos n))
+    ∙ ap (λ (x : ℤ). x -ℤ lo) (sym p))
     (≤ℤ-more (v -ℤ w) (m + n))
 
 swapped : (v w : ℤ) → negℤ (v -ℤ w) ≡ w -ℤ v
@@ -84,7 +89,8 @@ spread-near limit v k h i j li lj =
     let top = natAbs-upper (greatestTo v k -ℤ leastTo v k) h in
     size-le (v i -ℤ v j) limit
     (≤ℤ-trans (sub-le (at-most v k i li) (at-least v k j lj)) top)
-    (subst (λ (z : ℤ). z ≤ℤ pos limit) (sym (swapped (v i) (v j))) (≤ℤ-trans (sub-le (at-most v k j lj) (at-least v k i li)) top))
+    (subst (λ (z : ℤ). z ≤ℤ pos limit) (sym (swapped (v i) (v j)))
+    (≤ℤ-trans (sub-le (at-most v k j lj) (at-least v k i li)) top))
 
 none : (v : ℕ → ℤ) → spreadOf v 0 ≡ 0
 unfolding spreadOf greatestTo leastTo
@@ -106,7 +112,8 @@ spread-exactly-when limit v k = (spread-near limit v k, near-spread limit v k)
 max-has : (f : ℕ → ℕ) (n j : ℕ) → j < n → f j ≤ maxTo f n
 unfolding maxTo
 max-has f zero j l = absurd (N.not-suc-le-zero l)
-max-has f (suc n) j l = last-or (λ j. f j ≤ max (maxTo f n) (f n)) n j l (omega arith) (λ m. omega (arith, max-has f n j m))
+max-has f (suc n) j l =
+    last-or (λ j. f j ≤ max (maxTo f n) (f n)) n j l (omega arith) (λ m. omega (arith, max-has f n j m))
 
 max-le : (f : ℕ → ℕ) (n m : ℕ) → ((i : ℕ) → i < n → f i ≤ m) → maxTo f n ≤ m
 unfolding maxTo
@@ -114,7 +121,8 @@ max-le f zero m h = zero-le
 max-le f (suc n) m h = omega (arith, max-le f n m (λ i l. h i (omega arith)), h n (omega arith))
 
 pub widest-has : (v : ℕ → ℤ) (k i j : ℕ) → i < k → j < i → natAbs (v i -ℤ v j) ≤ widest v k
-widest-has v k i j h l = N.le-trans (max-has (λ j. natAbs (v i -ℤ v j)) i j l) (max-has (λ i. maxTo (λ j. natAbs (v i -ℤ v j)) i) k i h)
+widest-has v k i j h l =
+    N.le-trans (max-has (λ j. natAbs (v i -ℤ v j)) i j l) (max-has (λ i. maxTo (λ j. natAbs (v i -ℤ v j)) i) k i h)
 
 widest-two : (v : ℕ → ℤ) (k : ℕ) → EveryTwo (widest v k) v k
 widest-two v k i j li lj = by-order (ltb j i) refl
@@ -132,5 +140,7 @@ widest-two v k i j li lj = by-order (ltb j i) refl
 pub widest-is : (v : ℕ → ℤ) (k : ℕ) → widest v k ≡ spreadOf v k
 widest-is v k =
     N.le-antisymm
-    (max-le (λ i. maxTo (λ j. natAbs (v i -ℤ v j)) i) k (spreadOf v k) (λ i h. max-le (λ j. natAbs (v i -ℤ v j)) i (spreadOf v k) (λ j l. spread-near (spreadOf v k) v k (N.le-refl (spreadOf v k)) i j h (omega arith))))
+    (max-le (λ i. maxTo (λ j. natAbs (v i -ℤ v j)) i) k (spreadOf v k)
+    (λ i h. max-le (λ j. natAbs (v i -ℤ v j)) i (spreadOf v k)
+    (λ j l. spread-near (spreadOf v k) v k (N.le-refl (spreadOf v k)) i j h (omega arith))))
     (near-spread (widest v k) v k (widest-two v k))

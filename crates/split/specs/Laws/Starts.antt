@@ -28,7 +28,8 @@ unfolding sumTo shareOf
 shares t n zero = rw (N.zero-mul (t / n)) (omega arith)
 shares t n (suc j) = go (ltb j (t % n)) refl (shares t n j)
   where
-    go : (b : Bool) → ltb j (t % n) ≡ b → sumTo (shareOf t n) j ≡ j * (t / n) + min j (t % n) → sumTo (shareOf t n) j + (t / n + cond (ltb j (t % n)) 1 0) ≡ suc j * (t / n) + min (suc j) (t % n)
+    go : (b : Bool) → ltb j (t % n) ≡ b → sumTo (shareOf t n) j ≡ j * (t / n) + min j (t % n)
+        → sumTo (shareOf t n) j + (t / n + cond (ltb j (t % n)) 1 0) ≡ suc j * (t / n) + min (suc j) (t % n)
     go true e ih =
         let l = ltb-true j (t % n) e in
         rw (e, N.suc-mul j (t / n)) (omega arith)
@@ -51,7 +52,8 @@ ranked p f (suc j) = go (p j) refl (ranked p f j)
   where
     go : (b : Bool) → p j ≡ b
         → sumTo (λ s. cond (p s) (f (sumTo (λ r. cond (p r) 1 0) s)) 0) j ≡ sumTo f (sumTo (λ r. cond (p r) 1 0) j)
-        → sumTo (λ s. cond (p s) (f (sumTo (λ r. cond (p r) 1 0) s)) 0) (suc j) ≡ sumTo f (sumTo (λ r. cond (p r) 1 0) (suc j))
+        → sumTo (λ s. cond (p s) (f (sumTo (λ r. cond (p r) 1 0) s)) 0) (suc j) ≡ sumTo f
+        (sumTo (λ r. cond (p r) 1 0) (suc j))
     go true e ih = rw e (sum-more f (sumTo (λ r. cond (p r) 1 0) j) _ _ ih refl)
     go false e ih = rw (e, N.add-zero, N.add-zero) ih
 
@@ -62,17 +64,22 @@ Shared mix ch k c = (getD mix c 0 ≡ 0) ⊎ (0 < sharersOf ch c k)
 -- the start
 module _ (mix ch : List ℕ) (k : ℕ) (most : k ≤ SYSTEMS) where
   cell-start : (s c : ℕ) → s < k → c < COMPONENTS
-      → cellOf (startOf mix ch k) s c ≡ cond (hasOf (systemOf ch s) c) (shareOf (getD mix c 0) (sharersOf ch c k) (sharersOf ch c s)) 0
+      → cellOf (startOf mix ch k) s c ≡ cond (hasOf (systemOf ch s) c)
+      (shareOf (getD mix c 0) (sharersOf ch c k) (sharersOf ch c s)) 0
   unfolding startOf startAmount heldOf
   cell-start s c h l =
       let row : (0 + (s * COMPONENTS + c)) / COMPONENTS ≡ s = omega arith in
       let col : (0 + (s * COMPONENTS + c)) % COMPONENTS ≡ c = omega arith in
-      getD-table (startCell mix ch k) CELLS 0 (s * COMPONENTS + c) (omega arith) ∙ ap₂ (startAmount mix ch k) row col ∙ rw (lt-ltb s k h, startAmount)
+      getD-table (startCell mix ch k) CELLS 0 (s * COMPONENTS + c) (omega arith) ∙ ap₂ (startAmount mix ch k) row col
+          ∙ rw (lt-ltb s k h, startAmount)
 
-  start-column : (c : ℕ) → c < COMPONENTS → columnOf k (startOf mix ch k) c ≡ sumTo (shareOf (getD mix c 0) (sharersOf ch c k)) (sharersOf ch c k)
+  start-column : (c : ℕ) → c < COMPONENTS
+      → columnOf k (startOf mix ch k) c ≡ sumTo (shareOf (getD mix c 0) (sharersOf ch c k)) (sharersOf ch c k)
   unfolding columnOf sharersOf
   start-column c l =
-      sum-same (λ s. cellOf (startOf mix ch k) s c) (λ s. cond (hasOf (systemOf ch s) c) (shareOf (getD mix c 0) (sharersOf ch c k) (sharersOf ch c s)) 0) k (λ s h. cell-start s c h l)
+      sum-same (λ s. cellOf (startOf mix ch k) s c)
+          (λ s. cond (hasOf (systemOf ch s) c) (shareOf (getD mix c 0) (sharersOf ch c k) (sharersOf ch c s)) 0) k
+          (λ s h. cell-start s c h l)
       ∙ ranked (λ s. hasOf (systemOf ch s) c) (shareOf (getD mix c 0) (sharersOf ch c k)) k
 
   -- of a component that a chosen system contains all is shared, and of another nothing
@@ -80,7 +87,9 @@ module _ (mix ch : List ℕ) (k : ℕ) (most : k ≤ SYSTEMS) where
   start-shared c l h = start-column c l ∙ shares-all (getD mix c 0) (sharersOf ch c k) h
 
   pub start-none : (c : ℕ) → c < COMPONENTS → sharersOf ch c k ≡ 0 → columnOf k (startOf mix ch k) c ≡ 0
-  start-none c l e = start-column c l ∙ ap (sumTo (shareOf (getD mix c 0) (sharersOf ch c k))) e ∙ sym (sum-none (shareOf (getD mix c 0) (sharersOf ch c k)))
+  start-none c l e =
+      start-column c l ∙ ap (sumTo (shareOf (getD mix c 0) (sharersOf ch c k))) e
+      ∙ sym (sum-none (shareOf (getD mix c 0) (sharersOf ch c k)))
 
   start-le : (c : ℕ) → c < COMPONENTS → columnOf k (startOf mix ch k) c ≤ getD mix c 0
   start-le c l = go (eqb (sharersOf ch c k) 0) refl
@@ -119,7 +128,8 @@ module _ (mix ch : List ℕ) (k s c : ℕ) where
     unfolding startAmount heldOf
     cell-off u = rw (lt-ltb s k h, sym has-is ∙ u, startAmount)
 
-    pub cell-on : (x n r : ℕ) → b ≡ true → x ≡ shareOf (getD mix c 0) n r → n ≡ sharersOf ch c k → r ≡ sharersOf ch c s → x ≡ startAmount mix ch k s c
+    pub cell-on : (x n r : ℕ) → b ≡ true → x ≡ shareOf (getD mix c 0) n r → n ≡ sharersOf ch c k
+        → r ≡ sharersOf ch c s → x ≡ startAmount mix ch k s c
     unfolding startAmount heldOf
     cell-on x n r u p q w = rw (lt-ltb s k h, sym has-is ∙ u, startAmount) (p ∙ ap₂ (shareOf (getD mix c 0)) q w)
 
@@ -152,13 +162,17 @@ share-some t n r h l = omega (arith, quotient-some (t / n) n (t % n) t (N.div-ad
 
 module _ (mix ch : List ℕ) (k : ℕ) (most : k ≤ SYSTEMS) (s : ℕ) (h : s < k) where
   -- a sharer gets something of a component that has as many parts as there are chosen systems
-  start-some : (c : ℕ) → c < COMPONENTS → hasOf (systemOf ch s) c ≡ true → k ≤ getD mix c 0 → 1 ≤ cellOf (startOf mix ch k) s c
+  start-some : (c : ℕ) → c < COMPONENTS → hasOf (systemOf ch s) c ≡ true → k ≤ getD mix c 0
+      → 1 ≤ cellOf (startOf mix ch k) s c
   start-some c l u m =
-      let n : 0 < sharersOf ch c k = some-sharer mix ch k s c h (systemOf ch s) true refl (sym u) (sharersOf ch c k) refl refl in
-      rw (cell-start mix ch k most s c h l, u) (share-some (getD mix c 0) (sharersOf ch c k) (sharersOf ch c s) n (omega (arith, sharers-le ch c k, m)))
+      let n : 0 < sharersOf ch c k = some-sharer mix ch k s c h (systemOf ch s) true refl (sym u)
+          (sharersOf ch c k) refl refl in
+      rw (cell-start mix ch k most s c h l, u)
+          (share-some (getD mix c 0) (sharersOf ch c k) (sharersOf ch c s) n (omega (arith, sharers-le ch c k, m)))
 
   -- so its row is not empty
-  pub start-row : (c : ℕ) → c < COMPONENTS → hasOf (systemOf ch s) c ≡ true → k ≤ getD mix c 0 → 1 ≤ partsOf ch (startOf mix ch k) s
+  pub start-row : (c : ℕ) → c < COMPONENTS → hasOf (systemOf ch s) c ≡ true → k ≤ getD mix c 0
+      → 1 ≤ partsOf ch (startOf mix ch k) s
   unfolding partsOf
   start-row c l u m = has-cases (systemOf ch s) c (1 ≤ partsOf ch (startOf mix ch k) s) u at
     where
@@ -183,5 +197,7 @@ pub start-sound : (mix ch : List ℕ) (k : ℕ) → Chosen ch k → sumTo (λ c.
     → ((s : ℕ) → s < k → Supplied mix ch k s) → Sound ch k (startOf mix ch k)
 start-sound mix ch k cn few supplied = record {
   stock = start-stock mix ch k (cn .most) few cn;
-  some = λ s h. let z = supplied s h in start-row mix ch k (cn .most) s h (z .component) (z .low) (z .contained) (z .enough);
+  some =
+      λ s h. let z = supplied s h in start-row mix ch k (cn .most) s h (z .component) (z .low) (z .contained)
+      (z .enough);
 }

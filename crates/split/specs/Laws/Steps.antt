@@ -13,7 +13,8 @@ use Rattle.formula.specs.Partial.{partialNumber}
 use Rattle.split.specs.Split.{SYSTEMS, cellOf, systemOf, columnOf, rowNumber, Sound}
 use Rattle.split.specs.Move.{MOVES, componentOf, giverOf, takerOf, movedOf}
 use Rattle.split.specs.Laws.Members.{Three}
-use Rattle.split.specs.Laws.Moves.{taken-fits, sound-after, number-other, column-same, cell-column, cell-giver, cell-taker}
+use Rattle.split.specs.Laws.Moves.{taken-fits, sound-after, number-other, column-same, cell-column}
+use Rattle.split.specs.Laws.Moves.{cell-giver, cell-taker}
 use Rattle.split.specs.Laws.Tests.{MayMove, Between, between-true, Affords, affords-true}
 
 -- row s's amount of component e where that of component c were n
@@ -23,7 +24,8 @@ insteadOf a s c n e = cond (eqb e c) n (cellOf a s e)
 -- row s's partial number where its amount of component c were n
 unfoldable pub numberWith : List ℕ → List ℕ → ℕ → ℕ → ℕ → ℤ
 numberWith ch a s c n =
-    partialNumber (systemOf ch s) (insteadOf a s c n (memberOf (systemOf ch s) 0)) (insteadOf a s c n (memberOf (systemOf ch s) 1)) (insteadOf a s c n (memberOf (systemOf ch s) 2))
+    partialNumber (systemOf ch s) (insteadOf a s c n (memberOf (systemOf ch s) 0))
+        (insteadOf a s c n (memberOf (systemOf ch s) 1)) (insteadOf a s c n (memberOf (systemOf ch s) 2))
 
 -- cells b that differ from a in row s at component c only, where b has n
 pub record Changed (a b : List ℕ) (s c n : ℕ) : Type 0 where
@@ -38,10 +40,12 @@ module _ (a b : List ℕ) (s c n : ℕ) (w : Changed a b s c n) where
       go true z = let u : e ≡ c = eqb-true e c z in rw (z, u) (sym (w .here))
       go false z = rw z (sym (w .rest e l (eqb-false e c z)))
 
-  pub number-with : (ch : List ℕ) → Three (memberOf (systemOf ch s) 0) (memberOf (systemOf ch s) 1) (memberOf (systemOf ch s) 2) → numberWith ch a s c n ≡ rowNumber ch b s
+  pub number-with : (ch : List ℕ) → Three (memberOf (systemOf ch s) 0) (memberOf (systemOf ch s) 1)
+      (memberOf (systemOf ch s) 2) → numberWith ch a s c n ≡ rowNumber ch b s
   unfolding numberWith rowNumber
   number-with ch t =
-      rw (instead-is (memberOf (systemOf ch s) 0) (t .low0), instead-is (memberOf (systemOf ch s) 1) (t .low1), instead-is (memberOf (systemOf ch s) 2) (t .low2))
+      rw (instead-is (memberOf (systemOf ch s) 0) (t .low0), instead-is (memberOf (systemOf ch s) 1) (t .low1),
+          instead-is (memberOf (systemOf ch s) 2) (t .low2))
 
 module _ (ch : List ℕ) (k : ℕ) (a : List ℕ) (d m : ℕ) (so : Sound ch k a) (fit : MayMove ch k a d m) where
   pub bt : Between ch k m
@@ -59,40 +63,55 @@ module _ (ch : List ℕ) (k : ℕ) (a : List ℕ) (d m : ℕ) (so : Sound ch k a
   taker-low : takerOf m < SYSTEMS
   taker-low = omega arith
 
-  pub may-move : (m < MOVES) × (d ≤ cellOf a (giverOf m) (componentOf m)) × (cellOf a (takerOf m) (componentOf m) + d ≤ MILLION)
+  pub may-move : (m < MOVES) × (d ≤ cellOf a (giverOf m) (componentOf m))
+      × (cellOf a (takerOf m) (componentOf m) + d ≤ MILLION)
   may-move = (
     fit .below,
     af .had,
-    taken-fits a (giverOf m) (takerOf m) (componentOf m) d (so .stock .long) giver-low taker-low component-low (bt .apart) k (bt .from) (bt .to) (af .had) (so .stock .few),
+    taken-fits a (giverOf m) (takerOf m) (componentOf m) d (so .stock .long) giver-low taker-low component-low
+        (bt .apart) k (bt .from) (bt .to) (af .had) (so .stock .few),
   )
 
   pub sound-moved : Sound ch k (movedOf a m d)
   unfolding movedOf
   sound-moved =
-      sound-after a (giverOf m) (takerOf m) (componentOf m) d (so .stock .long) giver-low taker-low component-low (bt .apart) k (bt .from) (bt .to) (af .had) ch (so .stock .chosen) (bt .gives) (af .kept) so
+      sound-after a (giverOf m) (takerOf m) (componentOf m) d (so .stock .long) giver-low taker-low component-low
+          (bt .apart) k (bt .from) (bt .to) (af .had) ch (so .stock .chosen) (bt .gives) (af .kept) so
 
   -- the sum of each component stays
   pub moved-keeps : (c : ℕ) → c < COMPONENTS → columnOf k (movedOf a m d) c ≡ columnOf k a c
   unfolding movedOf
-  moved-keeps c h = column-same a (giverOf m) (takerOf m) (componentOf m) d (so .stock .long) giver-low taker-low component-low (bt .apart) k (bt .from) (bt .to) (af .had) c h
+  moved-keeps c h =
+      column-same a (giverOf m) (takerOf m) (componentOf m) d (so .stock .long) giver-low taker-low component-low
+      (bt .apart) k (bt .from) (bt .to) (af .had) c h
 
   -- the other rows keep their partial numbers
-  pub rest-same : (s : ℕ) → s < k → (s ≡ giverOf m → ⊥) → (s ≡ takerOf m → ⊥) → rowNumber ch (movedOf a m d) s ≡ rowNumber ch a s
+  pub rest-same : (s : ℕ) → s < k → (s ≡ giverOf m → ⊥) → (s ≡ takerOf m → ⊥)
+      → rowNumber ch (movedOf a m d) s ≡ rowNumber ch a s
   unfolding movedOf
   rest-same s h p q =
-      number-other a (giverOf m) (takerOf m) (componentOf m) d (so .stock .long) giver-low taker-low component-low (bt .apart) k (bt .from) (bt .to) (af .had) ch (so .stock .chosen) s h p q
+      number-other a (giverOf m) (takerOf m) (componentOf m) d (so .stock .long) giver-low taker-low component-low
+          (bt .apart) k (bt .from) (bt .to) (af .had) ch (so .stock .chosen) s h p q
 
   -- the giver's row and the taker's change at the component only
   pub giver-changed : Changed a (movedOf a m d) (giverOf m) (componentOf m) (cellOf a (giverOf m) (componentOf m) - d)
   unfolding movedOf
   giver-changed = record {
-    here = cell-giver a (giverOf m) (takerOf m) (componentOf m) d (so .stock .long) giver-low taker-low component-low (bt .apart);
-    rest = λ e l p. cell-column a (giverOf m) (takerOf m) (componentOf m) d (so .stock .long) giver-low taker-low component-low (bt .apart) (giverOf m) e l p;
+    here =
+        cell-giver a (giverOf m) (takerOf m) (componentOf m) d (so .stock .long) giver-low taker-low component-low
+        (bt .apart);
+    rest =
+        λ e l p. cell-column a (giverOf m) (takerOf m) (componentOf m) d (so .stock .long) giver-low taker-low
+        component-low (bt .apart) (giverOf m) e l p;
   }
 
   pub taker-changed : Changed a (movedOf a m d) (takerOf m) (componentOf m) (cellOf a (takerOf m) (componentOf m) + d)
   unfolding movedOf
   taker-changed = record {
-    here = cell-taker a (giverOf m) (takerOf m) (componentOf m) d (so .stock .long) giver-low taker-low component-low (bt .apart);
-    rest = λ e l p. cell-column a (giverOf m) (takerOf m) (componentOf m) d (so .stock .long) giver-low taker-low component-low (bt .apart) (takerOf m) e l p;
+    here =
+        cell-taker a (giverOf m) (takerOf m) (componentOf m) d (so .stock .long) giver-low taker-low component-low
+        (bt .apart);
+    rest =
+        λ e l p. cell-column a (giverOf m) (takerOf m) (componentOf m) d (so .stock .long) giver-low taker-low
+        component-low (bt .apart) (takerOf m) e l p;
   }

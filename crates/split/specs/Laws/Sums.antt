@@ -36,7 +36,9 @@ sum-add f g (suc n) = omega (arith, sum-add f g n)
 pub columns-rows : (k : ℕ) (a : List ℕ) → sumTo (columnOf k a) COMPONENTS ≡ sumTo (λ s. sumTo (cellOf a s) COMPONENTS) k
 unfolding columnOf sumTo
 columns-rows zero a = refl
-columns-rows (suc k) a = sum-add (columnOf k a) (cellOf a k) COMPONENTS ∙ ap (λ (n : ℕ). n + sumTo (cellOf a k) COMPONENTS) (columns-rows k a)
+columns-rows (suc k) a =
+    sum-add (columnOf k a) (cellOf a k) COMPONENTS
+    ∙ ap (λ (n : ℕ). n + sumTo (cellOf a k) COMPONENTS) (columns-rows k a)
 
 -- ---- a row of a candidate system
 
@@ -87,7 +89,8 @@ module _ (system : ℕ) (cand : Candidate system) (f : ℕ → ℕ) where
       go true false false h = refl
       go false false false h = h refl
 
-  pub members-all : ((c : ℕ) → c < COMPONENTS → hasOf system c ≡ false → f c ≡ 0) → sumTo f COMPONENTS ≡ f (m 0) + f (m 1) + f (m 2)
+  pub members-all : ((c : ℕ) → c < COMPONENTS → hasOf system c ≡ false → f c ≡ 0)
+      → sumTo f COMPONENTS ≡ f (m 0) + f (m 1) + f (m 2)
   members-all h = omega (arith, members-sum, sum-zero rest COMPONENTS (λ c l. rest-none c (h c l)))
 
 -- ---- all rows
@@ -99,7 +102,9 @@ module _ (ch : List ℕ) (k : ℕ) (a : List ℕ) (chosen : Chosen ch k) where
 
   row-is : Clean ch k a → (s : ℕ) → s < k → partsOf ch a s ≡ sumTo (cellOf a s) COMPONENTS
   unfolding partsOf heldOf
-  row-is clean s l = sym (members-all (systemOf ch s) (chosen .known s l) (cellOf a s) (λ c m h. clean .none s c m (rw (lt-ltb s k l) h)))
+  row-is clean s l =
+      sym (members-all (systemOf ch s) (chosen .known s l) (cellOf a s)
+      (λ c m h. clean .none s c m (rw (lt-ltb s k l) h)))
 
   -- whatever the cells, the parts are no more than the columns' sums
   pub parts-le : sumTo (partsOf ch a) k ≤ sumTo (columnOf k a) COMPONENTS
@@ -107,7 +112,8 @@ module _ (ch : List ℕ) (k : ℕ) (a : List ℕ) (chosen : Chosen ch k) where
 
   -- and of clean cells as many
   pub parts-columns : Clean ch k a → sumTo (partsOf ch a) k ≡ sumTo (columnOf k a) COMPONENTS
-  parts-columns clean = sum-same (partsOf ch a) (λ s. sumTo (cellOf a s) COMPONENTS) k (row-is clean) ∙ sym (columns-rows k a)
+  parts-columns clean =
+      sum-same (partsOf ch a) (λ s. sumTo (cellOf a s) COMPONENTS) k (row-is clean) ∙ sym (columns-rows k a)
 
 -- a split that re-sums has the mixture's parts
 pub resummed : (mix : List ℕ) (k : ℕ) (a : List ℕ) → Resums mix k a → sumTo (columnOf k a) COMPONENTS ≡ totalOf mix

@@ -28,7 +28,8 @@ getD-table f (suc n) i (suc j) h =
 abbrev pub Filled : ℕ → (ℕ → ℕ) → List ℕ → ℕ → Type 0
 Filled n f a i = (length a ≡ n) × (i ≤ n) × ((j : ℕ) → j < i → getD a j 0 ≡ f j)
 
-pub fill-next : (n : ℕ) (f : ℕ → ℕ) (a : List ℕ) (i v : ℕ) → i < n → Filled n f a i → v ≡ f i → Filled n f (set a i v) (i + 1)
+pub fill-next : (n : ℕ) (f : ℕ → ℕ) (a : List ℕ) (i v : ℕ) → i < n → Filled n f a i → v ≡ f i
+    → Filled n f (set a i v) (i + 1)
 fill-next n f a i v h z e = (
   length-set a i v ∙ z .0,
   omega arith,

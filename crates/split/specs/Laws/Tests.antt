@@ -34,7 +34,9 @@ module _ (ch : List ℕ) (k m : ℕ) where
       record {
         from = ltb-true (giverOf m) k (both-left (ltb (giverOf m) k) _ e);
         to = ltb-true (takerOf m) k (both-left (ltb (takerOf m) k) _ p);
-        apart = eqb-false (giverOf m) (takerOf m) (not-true (eqb (giverOf m) (takerOf m)) (both-left (not (eqb (giverOf m) (takerOf m))) _ q));
+        apart =
+            eqb-false (giverOf m) (takerOf m)
+            (not-true (eqb (giverOf m) (takerOf m)) (both-left (not (eqb (giverOf m) (takerOf m))) _ q));
         gives = both-left (hasOf (systemOf ch (giverOf m)) (componentOf m)) _ r;
         takes = both-right (hasOf (systemOf ch (giverOf m)) (componentOf m)) _ r;
       }
@@ -44,7 +46,8 @@ module _ (ch : List ℕ) (k m : ℕ) where
     unfolding affordsOf
     not-had h = rw (lt-leb d (cellOf a (giverOf m) (componentOf m)) h, affordsOf)
 
-    pub affords-is : (r : ℕ) → d ≤ cellOf a (giverOf m) (componentOf m) → r ≡ partsOf ch a (giverOf m) → ltb d r ≡ affordsOf ch a d m
+    pub affords-is : (r : ℕ) → d ≤ cellOf a (giverOf m) (componentOf m) → r ≡ partsOf ch a (giverOf m)
+        → ltb d r ≡ affordsOf ch a d m
     unfolding affordsOf
     affords-is r h e = rw (le-leb d (cellOf a (giverOf m) (componentOf m)) h, affordsOf) (ap (ltb d) e)
 
@@ -55,7 +58,9 @@ module _ (ch : List ℕ) (k m : ℕ) where
     pub affords-true : affordsOf ch a d m ≡ true → Affords
     unfolding affordsOf
     affords-true e = record {
-      had = leb-true d (cellOf a (giverOf m) (componentOf m)) (both-left (leb d (cellOf a (giverOf m) (componentOf m))) _ e);
+      had =
+          leb-true d (cellOf a (giverOf m) (componentOf m))
+          (both-left (leb d (cellOf a (giverOf m) (componentOf m))) _ e);
       kept = ltb-true d (partsOf ch a (giverOf m)) (both-right (leb d (cellOf a (giverOf m) (componentOf m))) _ e);
     }
 

@@ -24,7 +24,9 @@ pub record Held (systems : List ℕ) (count : ℕ) (cells : List ℕ) (numbers :
 
 -- row s's parts where its amount of component c were n
 abbrev pub partsWith : List ℕ → List ℕ → ℕ → ℕ → ℕ → ℕ
-partsWith systems cells s c n = insteadOf cells s c n (memberOf (systemOf systems s) 0) + insteadOf cells s c n (memberOf (systemOf systems s) 1) + insteadOf cells s c n (memberOf (systemOf systems s) 2)
+partsWith systems cells s c n =
+    insteadOf cells s c n (memberOf (systemOf systems s) 0) + insteadOf cells s c n
+    (memberOf (systemOf systems s) 1) + insteadOf cells s c n (memberOf (systemOf systems s) 2)
 
 -- with that amount the row of a candidate can be worked out
 pub record Workable (systems : List ℕ) (cells : List ℕ) (s c n : ℕ) : Type 0 where

@@ -67,7 +67,8 @@ module _ {A : Type 0} (d : A) (k : ℕ) (f : ℕ → A) where
 
   -- filled from the front, so far i places
   abbrev pub Front : ℕ → List A → ℕ → Type 0
-  Front n a i = (length a ≡ n) × (i ≤ n) × ((j : ℕ) → j < i → getD a j d ≡ f j) × ((j : ℕ) → i ≤ j → j < n → getD a j d ≡ d)
+  Front n a i =
+      (length a ≡ n) × (i ≤ n) × ((j : ℕ) → j < i → getD a j d ≡ f j) × ((j : ℕ) → i ≤ j → j < n → getD a j d ≡ d)
 
   pub front-none : (n : ℕ) → Front n (replicate n d) 0
   front-none n = (length-replicate n d, omega arith, λ j l. absurd (omega arith), λ j l h. getD-replicate n j d d h)
@@ -150,7 +151,8 @@ module _ (system : ℕ) (a : List ℕ) (s : ℕ) where
     unfolding partsIn answerIn
     refused n u = go (isIn system candidates) (isMixture (n1 + n2 + n3)) refl refl
       where
-        go : (b m : Bool) → isIn system candidates ≡ b → isMixture (n1 + n2 + n3) ≡ m → (isIn system candidates && isMixture (n1 + n2 + n3)) ≡ false
+        go : (b m : Bool) → isIn system candidates ≡ b → isMixture (n1 + n2 + n3) ≡ m
+            → (isIn system candidates && isMixture (n1 + n2 + n3)) ≡ false
         go true true e f =
             let g = mixture-of (n1 + n2 + n3) f in
             let k : isSystem system ≡ true = known-system system (record { listed = e }) in
@@ -181,7 +183,11 @@ module _ (ch a : List ℕ) where
 
       pub more-numbers : toZ w64 (ofZ w64 x) ≡ rowNumber ch a s
       unfolding rowNumber
-      more-numbers = rw (found .value) (back (partialNumber (systemOf ch s) (n1 (systemOf ch s) a s) (n2 (systemOf ch s) a s) (n3 (systemOf ch s) a s)) (N.le-trans (partial-small (systemOf ch s) (n1 (systemOf ch s) a s) (n2 (systemOf ch s) a s) (n3 (systemOf ch s) a s)) (lit≤ tt)))
+      more-numbers =
+          rw (found .value) (back (partialNumber (systemOf ch s) (n1 (systemOf ch s) a s) (n2 (systemOf ch s) a s)
+          (n3 (systemOf ch s) a s)) (N.le-trans
+          (partial-small (systemOf ch s) (n1 (systemOf ch s) a s) (n2 (systemOf ch s) a s) (n3 (systemOf ch s) a s))
+          (lit≤ tt)))
 
       pub more-parts : (n : ℕ) → n ≡ partsIn (systemOf ch s) a s → n ≡ partsOf ch a s
       unfolding partsOf partsIn
@@ -213,7 +219,8 @@ module _ (ch : List ℕ) (k : ℕ) (a : List ℕ) where
       go false f = sym (rw (f, rowsOf))
       go true f = absurd (let w : 0 ≡ 1 = clash (sym e ∙ each-fit f s l) in omega arith)
 
-  pub rows-fit : k ≤ SYSTEMS → allTo (rowFit ch a) k ≡ true → (v : List ℤ) (p : List ℕ) → v ≡ upTo (pos 0) k (rowNumber ch a) SYSTEMS 0 → p ≡ upTo 0 k (partsOf ch a) SYSTEMS 0
+  pub rows-fit : k ≤ SYSTEMS → allTo (rowFit ch a) k ≡ true → (v : List ℤ) (p : List ℕ)
+      → v ≡ upTo (pos 0) k (rowNumber ch a) SYSTEMS 0 → p ≡ upTo 0 k (partsOf ch a) SYSTEMS 0
       → record { fit = true; numbers = v; parts = p } ≡ rowsOf ch k a
   unfolding rowsOf rowsFit
   rows-fit h e v p x y = sym (rw (le-leb k SYSTEMS h, e, x, y, rowsOf, rowsFit))
@@ -235,12 +242,15 @@ module _ (ch : List ℕ) (k : ℕ) (a : List ℕ) where
       unfit-empty e = go (someEmpty ch k a) refl
         where
           each : someEmpty ch k a ≡ false → (s : ℕ) → s < k → rowFit ch a s ≡ true
-          each f s l = rw (st .chosen .known s l .listed, rowFit) (mixture-yes (partsOf ch a s) (empty-no ch k a f s l) (parts-few ch k a s st l))
+          each f s l =
+              rw (st .chosen .known s l .listed, rowFit)
+              (mixture-yes (partsOf ch a s) (empty-no ch k a f s l) (parts-few ch k a s st l))
 
           go : (b : Bool) → someEmpty ch k a ≡ b → someEmpty ch k a ≡ true
           go true f = f
           go false f =
-              let y : rowsFit ch k a ≡ true = rw (le-leb k SYSTEMS (st .chosen .most), rowsFit) (all-of (rowFit ch a) k (each f)) in
+              let y : rowsFit ch k a ≡ true = rw (le-leb k SYSTEMS (st .chosen .most), rowsFit)
+                  (all-of (rowFit ch a) k (each f)) in
               absurd (let w : 0 ≡ 1 = clash (sym e ∙ fit-is ∙ y) in omega arith)
 
       module _ (e : r .fit ≡ true) where
@@ -268,14 +278,22 @@ module _ (ch : List ℕ) (k : ℕ) (a : List ℕ) where
         numbers-long = ap length numbers-are ∙ length-up (pos 0) k (rowNumber ch a) SYSTEMS 0
 
         pub number-of : (s : ℕ) → s < k → listed (r .numbers) s ≡ rowNumber ch a s
-        number-of s l = ap (λ v. listed v s) numbers-are ∙ up-at (pos 0) k (rowNumber ch a) SYSTEMS s (omega (arith, st .chosen .most)) l
+        number-of s l =
+            ap (λ v. listed v s) numbers-are
+            ∙ up-at (pos 0) k (rowNumber ch a) SYSTEMS s (omega (arith, st .chosen .most)) l
 
         pub parts-of : (s : ℕ) → s < k → getD (r .parts) s 0 ≡ partsOf ch a s
-        parts-of s l = ap (λ p. getD p s 0) parts-are ∙ up-at 0 k (partsOf ch a) SYSTEMS s (omega (arith, st .chosen .most)) l
+        parts-of s l =
+            ap (λ p. getD p s 0) parts-are ∙ up-at 0 k (partsOf ch a) SYSTEMS s (omega (arith, st .chosen .most)) l
 
         pub numbers-small : Small (r .numbers) k
         unfolding rowNumber
-        numbers-small = record { most = st .chosen .most; each = λ s l. rw (number-of s l) (partial-small (systemOf ch s) (cellOf a s (memberOf (systemOf ch s) 0)) (cellOf a s (memberOf (systemOf ch s) 1)) (cellOf a s (memberOf (systemOf ch s) 2))) }
+        numbers-small =
+            record { most = st .chosen .most; each = λ s l. rw (number-of s l)
+            (partial-small (systemOf ch s) (cellOf a s (memberOf (systemOf ch s) 0))
+            (cellOf a s (memberOf (systemOf ch s) 1)) (cellOf a s (memberOf (systemOf ch s) 2))) }
 
         pub fit-held : Held ch k a (r .numbers)
-        fit-held = record { sound = fit-sound; carried = record { long = numbers-long; are = number-of }; small = numbers-small }
+        fit-held =
+            record { sound = fit-sound; carried = record { long = numbers-long; are = number-of };
+            small = numbers-small }

@@ -29,26 +29,30 @@ module _ (v : List ℤ) (k : ℕ) (sm : Small v k) where
     at-is = at-back v k i sm h
 
     module _ (low next : ℕ) (e : toZ w64 low ≡ leastTo (listed v) i) where
-      pub low-taken : ltZ (toZ w64 (ofZ w64 (listed v i))) (toZ w64 low) ≡ true → next ≡ ofZ w64 (listed v i) → toZ w64 next ≡ leastTo (listed v) (i + 1)
+      pub low-taken : ltZ (toZ w64 (ofZ w64 (listed v i))) (toZ w64 low) ≡ true → next ≡ ofZ w64 (listed v i)
+          → toZ w64 next ≡ leastTo (listed v) (i + 1)
       unfolding leastTo
       low-taken t n =
           let u : ltZ (listed v i) (leastTo (listed v) i) ≡ true = rw (at-is, e) at t in
           ap (toZ w64) n ∙ at-is ∙ sym (rw (add-one i, leastTo, u))
 
-      pub low-left : ltZ (toZ w64 (ofZ w64 (listed v i))) (toZ w64 low) ≡ false → next ≡ low → toZ w64 next ≡ leastTo (listed v) (i + 1)
+      pub low-left : ltZ (toZ w64 (ofZ w64 (listed v i))) (toZ w64 low) ≡ false → next ≡ low
+          → toZ w64 next ≡ leastTo (listed v) (i + 1)
       unfolding leastTo
       low-left t n =
           let u : ltZ (listed v i) (leastTo (listed v) i) ≡ false = rw (at-is, e) at t in
           ap (toZ w64) n ∙ e ∙ sym (rw (add-one i, leastTo, u))
 
     module _ (high next : ℕ) (e : toZ w64 high ≡ greatestTo (listed v) i) where
-      pub high-taken : ltZ (toZ w64 high) (toZ w64 (ofZ w64 (listed v i))) ≡ true → next ≡ ofZ w64 (listed v i) → toZ w64 next ≡ greatestTo (listed v) (i + 1)
+      pub high-taken : ltZ (toZ w64 high) (toZ w64 (ofZ w64 (listed v i))) ≡ true → next ≡ ofZ w64 (listed v i)
+          → toZ w64 next ≡ greatestTo (listed v) (i + 1)
       unfolding greatestTo
       high-taken t n =
           let u : ltZ (greatestTo (listed v) i) (listed v i) ≡ true = rw (at-is, e) at t in
           ap (toZ w64) n ∙ at-is ∙ sym (rw (add-one i, greatestTo, u))
 
-      pub high-left : ltZ (toZ w64 high) (toZ w64 (ofZ w64 (listed v i))) ≡ false → next ≡ high → toZ w64 next ≡ greatestTo (listed v) (i + 1)
+      pub high-left : ltZ (toZ w64 high) (toZ w64 (ofZ w64 (listed v i))) ≡ false → next ≡ high
+          → toZ w64 next ≡ greatestTo (listed v) (i + 1)
       unfolding greatestTo
       high-left t n =
           let u : ltZ (greatestTo (listed v) i) (listed v i) ≡ false = rw (at-is, e) at t in
@@ -81,7 +85,8 @@ module _ (v : List ℤ) (k : ℕ) (sm : Small v k) where
         less : (a b : ℤ) → (a +ℤ b) -ℤ a ≡ b
         less a b = solve (env (a ∷ b ∷ [])) ((X 0 ⊕ X 1) ⊕ ⊖ (X 0)) (X 1) refl
 
-    module _ (low high i : ℕ) (q : i ≡ k) (e : toZ w64 low ≡ leastTo (listed v) i) (f : toZ w64 high ≡ greatestTo (listed v) i) where
+    module _ (low high i : ℕ) (q : i ≡ k) (e : toZ w64 low ≡ leastTo (listed v) i)
+        (f : toZ w64 high ≡ greatestTo (listed v) i) where
       range-diff : toZ w64 high -ℤ toZ w64 low ≡ greatestTo (listed v) k -ℤ leastTo (listed v) k
       range-diff = ap₂ _-ℤ_ (f ∙ ap (greatestTo (listed v)) q) (e ∙ ap (leastTo (listed v)) q)
 
@@ -89,15 +94,20 @@ module _ (v : List ℤ) (k : ℕ) (sm : Small v k) where
       small-diff = omega (arith, natAbs-- (greatestTo (listed v) k) (leastTo (listed v) k), greatest-small, least-small)
 
       pub range-sub : SFits w64 (toZ w64 high -ℤ toZ w64 low)
-      range-sub = rw range-diff (sfits-small (greatestTo (listed v) k -ℤ leastTo (listed v) k) (omega (arith, small-diff)))
+      range-sub =
+          rw range-diff (sfits-small (greatestTo (listed v) k -ℤ leastTo (listed v) k) (omega (arith, small-diff)))
 
       range-back : toZ w64 (ofZ w64 (toZ w64 high -ℤ toZ w64 low)) ≡ greatestTo (listed v) k -ℤ leastTo (listed v) k
-      range-back = ap (λ d. toZ w64 (ofZ w64 d)) range-diff ∙ back (greatestTo (listed v) k -ℤ leastTo (listed v) k) (omega (arith, small-diff))
+      range-back =
+          ap (λ d. toZ w64 (ofZ w64 d)) range-diff ∙ back (greatestTo (listed v) k -ℤ leastTo (listed v) k)
+          (omega (arith, small-diff))
 
-      pub range-cast : T (nonNeg (toZ w64 (ofZ w64 (toZ w64 high -ℤ toZ w64 low)))) × Fits w64 (natAbs (toZ w64 (ofZ w64 (toZ w64 high -ℤ toZ w64 low))))
+      pub range-cast : T (nonNeg (toZ w64 (ofZ w64 (toZ w64 high -ℤ toZ w64 low))))
+          × Fits w64 (natAbs (toZ w64 (ofZ w64 (toZ w64 high -ℤ toZ w64 low))))
       range-cast = rw (range-back) (sign difference, record { fits = omega (arith, small-diff) })
         where
-          sign : (n : ℕ) × (greatestTo (listed v) k -ℤ leastTo (listed v) k ≡ pos n) → T (nonNeg (greatestTo (listed v) k -ℤ leastTo (listed v) k))
+          sign : (n : ℕ) × (greatestTo (listed v) k -ℤ leastTo (listed v) k ≡ pos n)
+              → T (nonNeg (greatestTo (listed v) k -ℤ leastTo (listed v) k))
           sign (n, e) = rw e tt
 
       pub range-is : natAbs (toZ w64 (ofZ w64 (toZ w64 high -ℤ toZ w64 low))) ≡ spreadOf (listed v) k

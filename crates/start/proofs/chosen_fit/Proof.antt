@@ -1,6 +1,7 @@
 -- `start::chosen_fit` meets its contract. Assumes nothing.
 use borrow.Author.Needs.{needs}
-use Rattle.start.proofs.Tests.{chosen-none, chosen-many, Tested, tested-none, tested-more, tested-off, tested-all}
+use Rattle.start.proofs.Tests.{chosen-none, chosen-many, Tested, tested-none, tested-more, tested-off}
+use Rattle.start.proofs.Tests.{tested-all}
 use Rattle.start.proofs.chosen_fit.Statement.{statement}
 use Rattle.start.proofs.chosen_fit.Tie as tie
 
@@ -29,16 +30,24 @@ member-requires : tie.Need-member-requires Inv-loop μ-loop
 member-requires c κs = search needs
 
 returns-3 : tie.Need-returns-3 Inv-loop μ-loop
-returns-3 c = tested-off _ _ _ (c .before .before .before .before .loop .inv) (c .before .before .before .before .before .before .if1 .left) (c .before .before .before .before .before .if2 .left) _ (c .before .before .before .loop-test .taken) (c .before .member .ensures) (c .if3 .taken)
+returns-3 c =
+    tested-off _ _ _ (c .before .before .before .before .loop .inv)
+    (c .before .before .before .before .before .before .if1 .left)
+    (c .before .before .before .before .before .if2 .left) _ (c .before .before .before .loop-test .taken)
+    (c .before .member .ensures) (c .if3 .taken)
 
 loop-less : tie.Need-loop-less Inv-loop μ-loop
 loop-less c = search needs
 
 loop-again : tie.Need-loop-again Inv-loop μ-loop
-loop-again c = tested-more _ _ _ (c .before .before .before .before .loop .inv) _ (c .before .before .before .loop-test .taken) (c .before .member .ensures) (c .if3 .left)
+loop-again c =
+    tested-more _ _ _ (c .before .before .before .before .loop .inv) _ (c .before .before .before .loop-test .taken)
+    (c .before .member .ensures) (c .if3 .left)
 
 returns-4 : tie.Need-returns-4 Inv-loop μ-loop
-returns-4 c = tested-all _ _ _ (c .before .loop .inv) (c .before .before .before .if1 .left) (c .before .before .if2 .left) (c .loop-test .left)
+returns-4 c =
+    tested-all _ _ _ (c .before .loop .inv) (c .before .before .before .if1 .left) (c .before .before .if2 .left)
+    (c .loop-test .left)
 
 pub chosen-fit-spec : {M : Type 1} → statement M
 chosen-fit-spec =

@@ -35,7 +35,8 @@ add-rank : tie.Need-add-rank Inv-loop μ-loop
 add-rank c =
     omega (
       arith,
-      rank-fits _ _ _ _ _ _ (c .before .before .before .before .pre .0) _ _ _ (c .before .before .before .loop .inv) (c .before .before .loop-test .taken) _ refl,
+      rank-fits _ _ _ _ _ _ (c .before .before .before .before .pre .0) _ _ _ (c .before .before .before .loop .inv)
+          (c .before .before .loop-test .taken) _ refl,
     )
 
 add-i : tie.Need-add-i Inv-loop μ-loop
@@ -46,7 +47,8 @@ loop-less c = search needs
 
 loop-again : tie.Need-loop-again Inv-loop μ-loop
 loop-again c =
-    rewritten-more _ _ _ _ _ _ (c .before .before .before .before .pre .0) _ _ _ (c .before .before .before .loop .inv) _ _ (c .before .before .loop-test .taken) refl (c .part .ensures)
+    rewritten-more _ _ _ _ _ _ (c .before .before .before .before .pre .0) _ _ _
+        (c .before .before .before .loop .inv) _ _ (c .before .before .loop-test .taken) refl (c .part .ensures)
 
 returns : tie.Need-returns Inv-loop μ-loop
 returns c = rewritten-all _ _ _ _ _ _ (c .before .before .pre .0) _ _ _ (c .before .loop .inv) (c .loop-test .left)

@@ -15,7 +15,9 @@ chosen-fit-requires : tie.Need-chosen-fit-requires
 chosen-fit-requires c κs = search needs
 
 returns-2 : tie.Need-returns-2
-returns-2 c = fit-is _ _ _ _ (c .before .before .before .before .mixture-fit .ensures) (not-false _ (c .before .before .before .if1 .left)) (c .chosen-fit .ensures)
+returns-2 c =
+    fit-is _ _ _ _ (c .before .before .before .before .mixture-fit .ensures)
+    (not-false _ (c .before .before .before .if1 .left)) (c .chosen-fit .ensures)
 
 pub fit-spec : {M : Type 1} → statement M
 fit-spec = tie.close (tie.spec mixture-fit-requires returns chosen-fit-requires returns-2)

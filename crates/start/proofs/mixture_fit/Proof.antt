@@ -26,7 +26,8 @@ wide-requires : tie.Need-wide-requires Inv-loop μ-loop
 wide-requires c κs = search needs
 
 add-sum : tie.Need-add-sum Inv-loop μ-loop
-add-sum c = omega (arith, c .before .before .before .loop .inv .few, c .before .before .loop-test .taken, c .wide .ensures .1)
+add-sum c =
+    omega (arith, c .before .before .before .loop .inv .few, c .before .before .loop-test .taken, c .wide .ensures .1)
 
 add-c : tie.Need-add-c Inv-loop μ-loop
 add-c c = search needs
@@ -35,7 +36,8 @@ loop-less : tie.Need-loop-less Inv-loop μ-loop
 loop-less c = search needs
 
 loop-again : tie.Need-loop-again Inv-loop μ-loop
-loop-again c = added-more _ _ _ _ (c .before .before .loop-test .taken) (c .before .before .before .loop .inv) (c .wide .ensures)
+loop-again c =
+    added-more _ _ _ _ (c .before .before .loop-test .taken) (c .before .before .before .loop .inv) (c .wide .ensures)
 
 returns : tie.Need-returns Inv-loop μ-loop
 returns c = added-fit _ _ _ (c .loop-test .left) (c .before .loop .inv)

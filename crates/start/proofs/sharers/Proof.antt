@@ -5,7 +5,8 @@ use Prim.Native.Nat.{_+_, _*_, _-_}
 use mathlib.Core.Path.{_≡_, sym, ap, _∙_}
 use Rattle.systems.specs.Systems.{COMPONENTS}
 use Rattle.start.specs.Inner.Column.{containedAt}
-use Rattle.start.proofs.Shares.{counted-zero, counted-some, counted-few, part-mark, Written, written-none, written-more, written-all}
+use Rattle.start.proofs.Shares.{counted-zero, counted-some, counted-few, part-mark, Written, written-none}
+use Rattle.start.proofs.Shares.{written-more, written-all}
 use Rattle.start.proofs.sharers.Statement.{statement}
 use Rattle.start.proofs.sharers.Tie as tie
 
@@ -20,7 +21,8 @@ loop-holds c = (written-none _ _ _ _ _ _ (c .pre), omega arith)
 
 contains-requires : tie.Need-contains-requires Inv-loop μ-loop
 contains-requires c κs =
-    (omega (arith, c .before .before .pre .room, c .before .loop .inv .1, c .loop-test .taken), c .before .before .pre .low)
+    (omega (arith, c .before .before .pre .room, c .before .loop .inv .1, c .loop-test .taken),
+    c .before .before .pre .low)
 
 mul-a : tie.Need-mul-a Inv-loop μ-loop
 mul-a c = omega (arith, c .before .before .before .pre .room, c .before .loop-test .taken)
@@ -29,10 +31,13 @@ element-write-a : tie.Need-element-write-a Inv-loop μ-loop
 element-write-a c = omega (arith, c .before .before .before .pre .room, c .before .loop-test .taken)
 
 add-r : tie.Need-add-r Inv-loop μ-loop
-add-r c = omega (arith, counted-few _ _ _ (c .before .before .before .pre) _ _ (c .before .before .loop .inv .0 .counted) (c .before .loop-test .taken), c .contains .ensures .1)
+add-r c =
+    omega (arith, counted-few _ _ _ (c .before .before .before .pre) _ _ (c .before .before .loop .inv .0 .counted)
+    (c .before .loop-test .taken), c .contains .ensures .1)
 
 add-s : tie.Need-add-s Inv-loop μ-loop
-add-s c = omega (arith, c .before .before .before .pre .room, c .before .before .loop .inv .1, c .before .loop-test .taken)
+add-s c =
+    omega (arith, c .before .before .before .pre .room, c .before .before .loop .inv .1, c .before .loop-test .taken)
 
 add-i : tie.Need-add-i Inv-loop μ-loop
 add-i c = omega (arith, c .before .before .before .pre .room, c .before .loop-test .taken)
@@ -52,13 +57,15 @@ loop-again c =
 returns : tie.Need-returns Inv-loop μ-loop
 returns c =
     let w = c .before .before .loop .inv .0 in
-    let n = counted-zero _ _ _ (c .before .before .before .pre) _ _ (w .counted) (c .before .loop-test .left) (c .if1 .taken) in
+    let n = counted-zero _ _ _ (c .before .before .before .pre) _ _ (w .counted) (c .before .loop-test .left)
+        (c .if1 .taken) in
     (n .0, n .1, written-all _ _ _ _ _ _ (c .before .before .before .pre) _ _ _ w (c .before .loop-test .left))
 
 returns-2 : tie.Need-returns-2 Inv-loop μ-loop
 returns-2 c =
     let w = c .before .before .loop .inv .0 in
-    let n = counted-some _ _ _ (c .before .before .before .pre) _ _ (w .counted) (c .before .loop-test .left) (c .if1 .left) in
+    let n = counted-some _ _ _ (c .before .before .before .pre) _ _ (w .counted) (c .before .loop-test .left)
+        (c .if1 .left) in
     (n .0, n .1, written-all _ _ _ _ _ _ (c .before .before .before .pre) _ _ _ w (c .before .loop-test .left))
 
 pub sharers-spec : {M : Type 1} → statement M

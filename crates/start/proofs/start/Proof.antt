@@ -14,7 +14,9 @@ cells-requires : tie.Need-cells-requires
 cells-requires c κs = search needs
 
 returns : tie.Need-returns
-returns c = let l : length (c .before .before .before .before .before .args .choice .systems) ≡ 8 = search needs in start-is _ _ _ _ _ (omega arith) (c .before .end-of .ensures) (c .cells .ensures)
+returns c =
+    let l : length (c .before .before .before .before .before .args .choice .systems) ≡ 8 = search needs in
+    start-is _ _ _ _ _ (omega arith) (c .before .end-of .ensures) (c .cells .ensures)
 
 pub start-spec : {M : Type 1} → statement M
 start-spec = tie.close (tie.spec end-of-requires cells-requires returns)

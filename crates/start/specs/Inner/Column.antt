@@ -21,7 +21,8 @@ pub record Cells (end c : ℕ) : Type 0 where
 
 -- the rows' cells of component c hold 1 where the row's system contains it, else 0
 pub record Marked (systems : List ℕ) (end c : ℕ) (cells : List ℕ) : Type 0 where
-  pub mark : (s : ℕ) → s < end / COMPONENTS → getD cells (s * COMPONENTS + c) 0 ≡ cond (hasOf (systemOf systems s) c) 1 0
+  pub mark : (s : ℕ) → s < end / COMPONENTS
+      → getD cells (s * COMPONENTS + c) 0 ≡ cond (hasOf (systemOf systems s) c) 1 0
 
 -- what a row gets: nothing where it does not share, else its share, and 1 more where its rank is below the odd parts
 unfoldable pub partOf : ℕ → ℕ → ℕ → ℕ → ℕ
@@ -34,11 +35,13 @@ sharedRow systems c share odd s = partOf (cond (hasOf (systemOf systems s) c) 1 
 -- the cells with component c's parts in the first n rows
 unfoldable pub columnTo : List ℕ → ℕ → ℕ → ℕ → List ℕ → ℕ → List ℕ
 columnTo systems c share odd cells zero = cells
-columnTo systems c share odd cells (suc n) = set (columnTo systems c share odd cells n) (n * COMPONENTS + c) (sharedRow systems c share odd n)
+columnTo systems c share odd cells (suc n) =
+    set (columnTo systems c share odd cells n) (n * COMPONENTS + c) (sharedRow systems c share odd n)
 
 -- the cells with t parts of component c shared among the rows
 unfoldable pub sharedOf : List ℕ → ℕ → ℕ → ℕ → List ℕ → List ℕ
-sharedOf systems count c t cells = columnTo systems c (t / max 1 (sharersOf systems c count)) (t % max 1 (sharersOf systems c count)) cells count
+sharedOf systems count c t cells =
+    columnTo systems c (t / max 1 (sharersOf systems c count)) (t % max 1 (sharersOf systems c count)) cells count
 
 -- the same of the first n components of a mixture
 unfoldable pub sharedTo : List ℕ → List ℕ → ℕ → List ℕ → ℕ → List ℕ

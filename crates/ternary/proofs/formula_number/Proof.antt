@@ -14,7 +14,8 @@ sum-requires : tie.Need-sum-requires
 sum-requires c κs = search needs
 
 of-sum-requires : tie.Need-of-sum-requires
-of-sum-requires c κs = (sym (c .before .before .is-system .ensures) ∙ c .before .if1 .taken, omega (arith, c .sum .ensures))
+of-sum-requires c κs =
+    (sym (c .before .before .is-system .ensures) ∙ c .before .if1 .taken, omega (arith, c .sum .ensures))
 
 returns : tie.Need-returns
 returns c =

@@ -48,7 +48,8 @@ returns-3 : tie.Need-returns-3
 returns-3 c =
     let a = c .before .before .before .before .before .before .before .args in
     let r = c .before .before .before .before .before .ranges-of in
-    second-out (a .system) (a .n1) (a .n2) (a .n3) (r .result) (r .ensures) _ (c .before .before .before .before .sum .ensures)
+    second-out (a .system) (a .n1) (a .n2) (a .n3) (r .result) (r .ensures) _
+        (c .before .before .before .before .sum .ensures)
     (sym (c .before .before .before .share-in .ensures) ∙ not-false _ (c .before .before .if2 .left))
     (sym (c .before .share-in2 .ensures) ∙ not-true _ (c .if3 .taken))
 
@@ -65,7 +66,8 @@ returns-4 : tie.Need-returns-4
 returns-4 c =
     let a = c .before .before .before .before .before .before .before .before .args in
     let r = c .before .before .before .before .before .before .ranges-of in
-    c .share-in3 .ensures ∙ third-is (a .system) (a .n1) (a .n2) (a .n3) (r .result) (r .ensures) _ (c .before .before .before .before .before .sum .ensures)
+    c .share-in3 .ensures ∙ third-is (a .system) (a .n1) (a .n2) (a .n3) (r .result) (r .ensures) _
+        (c .before .before .before .before .before .sum .ensures)
     (sym (c .before .before .before .before .share-in .ensures) ∙ not-false _ (c .before .before .before .if2 .left))
     (sym (c .before .before .share-in2 .ensures) ∙ not-false _ (c .before .if3 .left))
 

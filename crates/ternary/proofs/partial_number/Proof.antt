@@ -16,7 +16,9 @@ returns : tie.Need-returns
 returns c =
     let a = c .before .before .before .args in
     with-ranged (a .system) (a .n1) (a .n2) (a .n3) _
-    (c .formula-number .ensures .0 ∙ partial-inside (a .system) (a .n1) (a .n2) (a .n3) (sym (c .before .before .in-range .ensures) ∙ c .before .if1 .taken))
+    (c .formula-number .ensures .0
+    ∙ partial-inside (a .system) (a .n1) (a .n2) (a .n3) (sym (c .before .before .in-range .ensures)
+    ∙ c .before .if1 .taken))
 
 sum-requires : tie.Need-sum-requires
 sum-requires c κs = search needs
@@ -28,7 +30,8 @@ returns-2 : tie.Need-returns-2
 returns-2 c =
     let a = c .before .before .before .before .args in
     with-ranged (a .system) (a .n1) (a .n2) (a .n3) _
-    (out-of-range (a .system) (a .n1) (a .n2) (a .n3) _ (c .before .sum .ensures) _ (c .outside .ensures) (sym (c .before .before .before .in-range .ensures) ∙ c .before .before .if1 .left))
+    (out-of-range (a .system) (a .n1) (a .n2) (a .n3) _ (c .before .sum .ensures) _ (c .outside .ensures)
+    (sym (c .before .before .before .in-range .ensures) ∙ c .before .before .if1 .left))
 
 pub partial-number-spec : {M : Type 1} → statement M
 partial-number-spec =

@@ -31,7 +31,8 @@ answered true true p h k = refl
 answered true false p h k = absurd (subst⁻¹ T k tt)
 answered false m p h k = absurd (subst⁻¹ T h tt)
 
-refused-12 : (b m : Bool) (p : Partial) → b ≡ true → m ≡ false → cond b (cond m p (Refused 12)) (Refused 13) ≡ Refused 12
+refused-12 : (b m : Bool) (p : Partial) → b ≡ true → m ≡ false
+    → cond b (cond m p (Refused 12)) (Refused 13) ≡ Refused 12
 refused-12 true true p h k = absurd (subst T k tt)
 refused-12 true false p h k = refl
 refused-12 false m p h k = absurd (subst⁻¹ T h tt)
@@ -126,7 +127,8 @@ module _ (system n1 n2 n3 : ℕ) where
   pub partial-refusal : numberOf (partialOf system n1 n2 n3) ≡ partialRefusal system n1 n2 n3
   unfolding partialOf
   partial-refusal =
-      ranged (isSystem system) (isMixture (n1 + n2 + n3)) (sharesInRange system n1 n2 n3) (partialNumber system n1 n2 n3)
+      ranged (isSystem system) (isMixture (n1 + n2 + n3)) (sharesInRange system n1 n2 n3)
+          (partialNumber system n1 n2 n3)
 
   -- within the ranges: the formula's answer
   pub partial-inside : sharesInRange system n1 n2 n3 ≡ true → formulaOf system n1 n2 n3 ≡ partialOf system n1 n2 n3

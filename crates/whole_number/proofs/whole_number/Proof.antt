@@ -20,7 +20,8 @@ returns : tie.Need-returns
 returns c = low-is (c .before .args .rating) (c .before .fits .rating) (c .if1 .taken)
 
 returns-2 : tie.Need-returns-2
-returns-2 c = mid-is (c .before .before .args .rating) (c .before .before .fits .rating) (c .before .if1 .left) (c .if2 .taken)
+returns-2 c =
+    mid-is (c .before .before .args .rating) (c .before .before .fits .rating) (c .before .if1 .left) (c .if2 .taken)
 
 returns-3 : tie.Need-returns-3
 returns-3 c = high-is (c .before .before .args .rating) (c .before .before .fits .rating) (c .if2 .left)

@@ -1,4 +1,5 @@
--- `writer::listed` meets its contract. The loop's invariant: the count so far and that from this code on make the whole. Assumes nothing.
+-- `writer::listed` meets its contract. The loop's invariant: the count so far and that from this code on make the
+-- whole. Assumes nothing.
 use mathlib.Core.Path.{_≡_}
 use Prim.Native.Nat.{_+_, _-_, _≤_, _<_}
 use native.Mathlib.Omega.{arith}

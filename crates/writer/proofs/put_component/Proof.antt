@@ -21,7 +21,8 @@ put-amount-requires c κs = simp length-set (omega arith)
 same-length : tie.Need-same-length
 same-length c =
     let a = c .before .before .before .before .before .args in
-    length-run (set (a .b .now) (a .at) (a .code)) _ (a .at + 1) (bytesOf (a .x)) (c .before .before .put-amount .ensures) ∙ simp length-set
+    length-run (set (a .b .now) (a .at) (a .code)) _ (a .at + 1) (bytesOf (a .x))
+        (c .before .before .put-amount .ensures) ∙ simp length-set
 
 returns : tie.Need-returns
 returns c =

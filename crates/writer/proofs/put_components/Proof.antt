@@ -1,4 +1,5 @@
--- `writer::put_components` meets its contract. The loop's invariant: the stores so far and those of the codes from k on make the whole run. Assumes nothing.
+-- `writer::put_components` meets its contract. The loop's invariant: the stores so far and those of the codes from k
+-- on make the whole run. Assumes nothing.
 use mathlib.Core.Path.{_≡_, sym, ap, _∙_}
 use Prim.Native.Nat.{ℕ, _+_, _-_, _*_, _≤_, _<_}
 use native.Mathlib.Omega.{arith}
@@ -9,13 +10,16 @@ use lib.ListN.{length, getD, drop}
 use lib.Seq.{sets, length-sets}
 use Rattle.sheet.specs.Bytes.{bytesOf}
 use Rattle.sheet.specs.Components.{countOf, componentBytes}
-use Rattle.writer.proofs.Turns.{sets-append, count-none, count-one, count-end, component-none, component-one, component-end}
+use Rattle.writer.proofs.Turns.{sets-append, count-none, count-one, count-end, component-none, component-one}
+use Rattle.writer.proofs.Turns.{component-end}
 use borrow.Author.Needs.{needs}
 use Rattle.writer.proofs.put_components.Statement.{statement}
 use Rattle.writer.proofs.put_components.Tie as tie
 
 abbrev Inv-loop : tie.InvT-loop
-Inv-loop b₀ a at₀ k₀ b at k = (k ≤ CODES) × (length a ≡ CODES) × (length b ≡ length b₀) × (at + 5 * countOf (drop k a) ≡ 1 + 5 * countOf a) × (sets b at (componentBytes k (drop k a)) ≡ sets b₀ 1 (componentBytes 0 a))
+Inv-loop b₀ a at₀ k₀ b at k =
+    (k ≤ CODES) × (length a ≡ CODES) × (length b ≡ length b₀) × (at + 5 * countOf (drop k a) ≡ 1 + 5 * countOf a)
+    × (sets b at (componentBytes k (drop k a)) ≡ sets b₀ 1 (componentBytes 0 a))
 
 abbrev μ-loop : tie.MeasureT-loop
 μ-loop b₀ a at₀ k₀ b at k = CODES - k

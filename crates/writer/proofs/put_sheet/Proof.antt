@@ -33,7 +33,8 @@ slice-write-b-2 c =
     let a = c .before .before .before .before .before .before .args in
     let n = c .before .before .before .before .listed .result in
     let r = c .before .before .put-components in
-    omega (arith, length-byte (a .b .now) _ 0 n refl, length-run (set (a .b .now) 0 n) _ 1 (componentBytes 0 (a .a)) (r .ensures .1), r .ensures .0, length-sheet (a .a) (a .p))
+    omega (arith, length-byte (a .b .now) _ 0 n refl, length-run (set (a .b .now) 0 n) _ 1 (componentBytes 0 (a .a))
+        (r .ensures .1), r .ensures .0, length-sheet (a .a) (a .p))
 
 add-put-split : tie.Need-add-put-split
 add-put-split c = search needs
@@ -45,7 +46,9 @@ put-split-requires c κs =
     let n = c .before .before .before .before .before .listed .result in
     let r = c .before .before .before .put-components in (
       s .pre .0,
-      omega (arith, length-byte (a .b .now) _ 0 n refl, length-run (set (a .b .now) 0 n) _ 1 (componentBytes 0 (a .a)) (r .ensures .1), length-byte (r .last .1 .0) _ (r .result) (a .p .count) refl, r .ensures .0, length-sheet (a .a) (a .p), s .pre .1),
+      omega (arith, length-byte (a .b .now) _ 0 n refl, length-run (set (a .b .now) 0 n) _ 1 (componentBytes 0 (a .a))
+          (r .ensures .1), length-byte (r .last .1 .0) _ (r .result) (a .p .count) refl, r .ensures .0,
+          length-sheet (a .a) (a .p), s .pre .1),
     )
 
 same-length : tie.Need-same-length
@@ -53,7 +56,8 @@ same-length c =
     let a = c .before .before .before .before .before .before .before .before .before .before .args in
     let n = c .before .before .before .before .before .before .before .before .listed .result in
     let r = c .before .before .before .before .before .before .put-components in
-    length-run (set (r .last .1 .0) (r .result) (a .p .count)) _ (r .result + 1) (splitBytes (a .p)) (c .before .before .put-split .ensures)
+    length-run (set (r .last .1 .0) (r .result) (a .p .count)) _ (r .result + 1) (splitBytes (a .p))
+        (c .before .before .put-split .ensures)
     ∙ length-byte (r .last .1 .0) _ (r .result) (a .p .count) refl
     ∙ length-run (set (a .b .now) 0 n) _ 1 (componentBytes 0 (a .a)) (r .ensures .1)
     ∙ length-byte (a .b .now) _ 0 n refl
@@ -64,7 +68,8 @@ returns c =
     let a = s .args in
     let l = c .before .before .before .before .before .before .before .before .listed in
     let r = c .before .before .before .before .before .before .put-components in
-    sheet-put (a .a) (a .p) (a .b .now) (set (a .b .now) 0 (l .result)) (r .last .1 .0) (set (r .last .1 .0) (r .result) (a .p .count)) _ (l .result) (r .result)
+    sheet-put (a .a) (a .p) (a .b .now) (set (a .b .now) 0 (l .result)) (r .last .1 .0)
+        (set (r .last .1 .0) (r .result) (a .p .count)) _ (l .result) (r .result)
     (l .ensures .0)
     refl
     (r .ensures .0)

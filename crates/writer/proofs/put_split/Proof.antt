@@ -1,4 +1,5 @@
--- `writer::put_split` meets its contract. The loop's invariant: the stores so far and those of the records from place i on make the whole run. Assumes nothing.
+-- `writer::put_split` meets its contract. The loop's invariant: the stores so far and those of the records from place
+-- i on make the whole run. Assumes nothing.
 use mathlib.Core.Path.{_≡_, sym, ap, _∙_}
 use Prim.Native.Nat.{ℕ, _+_, _-_, _*_, _≤_}
 use mathlib.Core.List.{List, _∷_}
@@ -51,8 +52,10 @@ loop-again c =
     let l = c .before .before .before .before .before .loop in
     let a = c .before .before .before .before .before .before .before .before .before .before .args in
     let t = c .before .before .before .before .loop-test .taken in
-    let r : List ℕ = getD (a .p .systems) (l .i) 0 ∷ getD (a .p .codes) (l .i) 0 ∷ bytesOf (getD (a .p .amounts) (l .i) 0) in
-    let rest : List ℕ = recordBytes (a .p .count - (l .i + 1)) (l .i + 1) (a .p .systems) (a .p .codes) (a .p .amounts) in
+    let r : List ℕ = getD (a .p .systems) (l .i) 0 ∷ getD (a .p .codes) (l .i) 0
+        ∷ bytesOf (getD (a .p .amounts) (l .i) 0) in
+    let rest : List ℕ = recordBytes (a .p .count - (l .i + 1)) (l .i + 1) (a .p .systems) (a .p .codes)
+        (a .p .amounts) in
     let g = record-go (a .p .count) (l .i) (a .p .systems) (a .p .codes) (a .p .amounts) t in
     let f : c .before .before .put-record .last .0 ≡ sets (l .b) (l .w) r = c .before .before .put-record .ensures in (
       search needs,

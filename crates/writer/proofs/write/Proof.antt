@@ -22,7 +22,8 @@ returns c =
 
 put-sheet-requires : tie.Need-put-sheet-requires
 put-sheet-requires c κs =
-    let g = room _ _ (c .before .before .before .before .before .before .args .b .now) _ (c .before .before .before .before .answer .ensures) _ (c .before .before .enum-told .given .1) in
+    let g = room _ _ (c .before .before .before .before .before .before .args .b .now) _
+        (c .before .before .before .before .answer .ensures) _ (c .before .before .enum-told .given .1) in
     (allowed-room _ (g .0), g .1)
 
 same-length : tie.Need-same-length
@@ -30,7 +31,8 @@ same-length c = search needs
 
 returns-2 : tie.Need-returns-2
 returns-2 c =
-    let h = wrote _ _ _ _ (c .before .before .before .before .before .before .before .answer .ensures) _ (c .before .before .before .before .before .enum-told .given .1) _ (c .before .before .put-sheet .ensures) in
+    let h = wrote _ _ _ _ (c .before .before .before .before .before .before .before .answer .ensures) _
+        (c .before .before .before .before .before .enum-told .given .1) _ (c .before .before .put-sheet .ensures) in
     (h .answer, (h .buffer, h .code))
 
 pub write-spec : {M : Type 1} → statement M

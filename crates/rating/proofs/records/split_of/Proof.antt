@@ -7,7 +7,8 @@ use Rattle.rating.proofs.records.split_of.Statement.{statement}
 use Rattle.rating.proofs.records.split_of.Tie as tie
 
 abbrev Inv-loop : tie.InvT-loop
-Inv-loop count systems cells found₀ codes₀ amounts₀ last r₀ found codes amounts r = Recorded systems count cells found codes amounts r
+Inv-loop count systems cells found₀ codes₀ amounts₀ last r₀ found codes amounts r =
+    Recorded systems count cells found codes amounts r
 
 abbrev μ-loop : tie.MeasureT-loop
 μ-loop count systems cells found₀ codes₀ amounts₀ last r₀ found codes amounts r = last - r
@@ -22,7 +23,8 @@ array-read-system : tie.Need-array-read-system Inv-loop μ-loop
 array-read-system c = omega (arith, c .before .before .records-of .ensures .1)
 
 component-requires : tie.Need-component-requires Inv-loop μ-loop
-component-requires c κs = (c .before .before .before .pre .known _ (omega (arith, c .before .before .records-of .ensures .0)), omega arith)
+component-requires c κs =
+    (c .before .before .before .pre .known _ (omega (arith, c .before .before .records-of .ensures .0)), omega arith)
 
 array-write-found : tie.Need-array-write-found Inv-loop μ-loop
 array-write-found c = search needs
@@ -58,13 +60,17 @@ loop-less : tie.Need-loop-less Inv-loop μ-loop
 loop-less c = search needs
 
 loop-again : tie.Need-loop-again Inv-loop μ-loop
-loop-again c = recorded-next _ _ _ _ _ _ _ _ (c .before .before .before .before .records-of .ensures) _ _ (c .before .before .before .loop .inv) (c .before .before .loop-test .taken) (c .before .component .ensures .0) (c .code-of .ensures)
+loop-again c =
+    recorded-next _ _ _ _ _ _ _ _ (c .before .before .before .before .records-of .ensures) _ _
+    (c .before .before .before .loop .inv) (c .before .before .loop-test .taken) (c .before .component .ensures .0)
+    (c .code-of .ensures)
 
 mul-t32 : tie.Need-mul-t32 Inv-loop μ-loop
 mul-t32 c = search needs
 
 returns : tie.Need-returns Inv-loop μ-loop
-returns c = recorded-all _ _ _ _ _ _ _ _ (c .before .before .records-of .ensures) (c .before .loop .inv) (c .loop-test .left)
+returns c =
+    recorded-all _ _ _ _ _ _ _ _ (c .before .before .records-of .ensures) (c .before .loop .inv) (c .loop-test .left)
 
 pub split-of-spec : {M : Type 1} → statement M
 split-of-spec =

@@ -20,7 +20,10 @@ mark-requires-2 : tie.Need-mark-requires-2
 mark-requires-2 c κs = search needs
 
 sub-t11 : tie.Need-sub-t11
-sub-t11 c = old-in (listed (c .before .before .before .before .args .v .now) (c .before .before .before .before .args .s)) _ _ _ (c .before .before .before .before .pre .1) (c .before .before .mark .ensures .0) (c .before .before .before .before .pre .3) (c .before .before .before .before .pre .4) .0
+sub-t11 c =
+    old-in (listed (c .before .before .before .before .args .v .now) (c .before .before .before .before .args .s)) _ _
+    _ (c .before .before .before .before .pre .1) (c .before .before .mark .ensures .0)
+    (c .before .before .before .before .pre .3) (c .before .before .before .before .pre .4) .0
 
 add-t12 : tie.Need-add-t12
 add-t12 c = search needs
@@ -29,16 +32,28 @@ mul-t13 : tie.Need-mul-t13
 mul-t13 c = omega (arith, N.mul-le-mul (c .before .before .mark .ensures .1) (c .before .before .mark .ensures .1))
 
 sub-t14 : tie.Need-sub-t14
-sub-t14 c = old-in (listed (c .before .before .before .before .before .args .v .now) (c .before .before .before .before .before .args .s)) _ _ _ (c .before .before .before .before .before .pre .1) (c .before .before .before .mark .ensures .0) (c .before .before .before .before .before .pre .3) (c .before .before .before .before .before .pre .4) .1
+sub-t14 c =
+    old-in (listed (c .before .before .before .before .before .args .v .now)
+    (c .before .before .before .before .before .args .s)) _ _ _ (c .before .before .before .before .before .pre .1)
+    (c .before .before .before .mark .ensures .0) (c .before .before .before .before .before .pre .3)
+    (c .before .before .before .before .before .pre .4) .1
 
 mul-t15 : tie.Need-mul-t15
 mul-t15 c = omega (arith, N.mul-le-mul (c .before .before .mark2 .ensures .1) (c .before .before .mark2 .ensures .1))
 
 add-t16 : tie.Need-add-t16
-add-t16 c = omega (arith, N.mul-le-mul (c .before .before .mark2 .ensures .1) (c .before .before .mark2 .ensures .1), c .before .before .before .before .before .pre .6)
+add-t16 c =
+    omega (arith, N.mul-le-mul (c .before .before .mark2 .ensures .1) (c .before .before .mark2 .ensures .1),
+    c .before .before .before .before .before .pre .6)
 
 returns : tie.Need-returns
-returns c = marks-as _ _ _ _ _ _ (mark-back (listed (c .before .before .before .before .before .args .v .now) (c .before .before .before .before .before .args .s)) _ (c .before .before .before .before .before .pre .1) (c .before .before .before .mark .ensures .0)) (mark-back (c .before .before .before .before .before .args .x) _ (c .before .before .before .before .before .pre .2) (c .before .before .mark2 .ensures .0))
+returns c =
+    marks-as _ _ _ _ _ _ (mark-back
+    (listed (c .before .before .before .before .before .args .v .now)
+    (c .before .before .before .before .before .args .s)) _ (c .before .before .before .before .before .pre .1)
+    (c .before .before .before .mark .ensures .0))
+    (mark-back (c .before .before .before .before .before .args .x) _
+    (c .before .before .before .before .before .pre .2) (c .before .before .mark2 .ensures .0))
 
 pub exchanged-spec : {M : Type 1} → statement M
 exchanged-spec =

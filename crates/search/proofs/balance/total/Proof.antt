@@ -13,7 +13,10 @@ use Rattle.search.proofs.balance.total.Statement.{statement}
 use Rattle.search.proofs.balance.total.Tie as tie
 
 abbrev Inv-loop : tie.InvT-loop
-Inv-loop v k sum₀ squares₀ i₀ sum squares i = (i ≤ k) × (sum ≡ sumTo (λ s. markOf (listed v s)) i) × (squares ≡ sumTo (λ s. markOf (listed v s) * markOf (listed v s)) i) × (sum ≤ 400000000 * i) × (squares ≤ 160000000000000000 * i)
+Inv-loop v k sum₀ squares₀ i₀ sum squares i =
+    (i ≤ k) × (sum ≡ sumTo (λ s. markOf (listed v s)) i)
+    × (squares ≡ sumTo (λ s. markOf (listed v s) * markOf (listed v s)) i) × (sum ≤ 400000000 * i)
+    × (squares ≤ 160000000000000000 * i)
 
 abbrev μ-loop : tie.MeasureT-loop
 μ-loop v k sum₀ squares₀ i₀ sum squares i = k - i
@@ -31,13 +34,18 @@ mark-requires : tie.Need-mark-requires Inv-loop μ-loop
 mark-requires c κs = at-small _ _ _ (c .before .before .before .pre) (c .before .loop-test .taken)
 
 add-sum : tie.Need-add-sum Inv-loop μ-loop
-add-sum c = omega (arith, c .mark .ensures .1, c .before .before .before .before .pre .most, c .before .before .before .loop .inv .0, c .before .before .before .loop .inv .3)
+add-sum c =
+    omega (arith, c .mark .ensures .1, c .before .before .before .before .pre .most,
+    c .before .before .before .loop .inv .0, c .before .before .before .loop .inv .3)
 
 mul-squares : tie.Need-mul-squares Inv-loop μ-loop
 mul-squares c = omega (arith, (N.mul-le-mul (c .mark .ensures .1) (c .mark .ensures .1)))
 
 add-squares : tie.Need-add-squares Inv-loop μ-loop
-add-squares c = omega (arith, (N.mul-le-mul (c .mark .ensures .1) (c .mark .ensures .1)), c .before .before .before .before .pre .most, c .before .before .before .loop .inv .0, c .before .before .before .loop .inv .4)
+add-squares c =
+    omega (arith, (N.mul-le-mul (c .mark .ensures .1) (c .mark .ensures .1)),
+    c .before .before .before .before .pre .most, c .before .before .before .loop .inv .0,
+    c .before .before .before .loop .inv .4)
 
 add-i : tie.Need-add-i Inv-loop μ-loop
 add-i c = search needs
@@ -46,10 +54,20 @@ loop-less : tie.Need-loop-less Inv-loop μ-loop
 loop-less c = search needs
 
 loop-again : tie.Need-loop-again Inv-loop μ-loop
-loop-again c = let e = (c .mark .ensures .0 ∙ ap markOf (at-back _ _ _ (c .before .before .before .before .pre) (c .before .before .loop-test .taken))) in (omega (arith, c .before .before .loop-test .taken), sum-more _ _ _ _ (c .before .before .before .loop .inv .1) e, sum-more _ _ _ _ (c .before .before .before .loop .inv .2) (ap (λ x. x * x) e), omega (arith, c .mark .ensures .1, c .before .before .before .loop .inv .3), omega (arith, (N.mul-le-mul (c .mark .ensures .1) (c .mark .ensures .1)), c .before .before .before .loop .inv .4))
+loop-again c =
+    let e = (c .mark .ensures .0 ∙ ap markOf
+    (at-back _ _ _ (c .before .before .before .before .pre) (c .before .before .loop-test .taken))) in
+    (omega (arith, c .before .before .loop-test .taken), sum-more _ _ _ _ (c .before .before .before .loop .inv .1) e,
+    sum-more _ _ _ _ (c .before .before .before .loop .inv .2) (ap (λ x. x * x) e),
+    omega (arith, c .mark .ensures .1, c .before .before .before .loop .inv .3),
+    omega (arith, (N.mul-le-mul (c .mark .ensures .1) (c .mark .ensures .1)),
+    c .before .before .before .loop .inv .4))
 
 returns : tie.Need-returns Inv-loop μ-loop
-returns c = let q : c .before .loop .i ≡ c .before .before .args .k = omega (arith, c .before .loop .inv .0, c .loop-test .left) in record { added = rw q at (c .before .loop .inv .1); squared = rw q at (c .before .loop .inv .2) }
+returns c =
+    let q : c .before .loop .i ≡ c .before .before .args .k =
+    omega (arith, c .before .loop .inv .0, c .loop-test .left) in
+    record { added = rw q at (c .before .loop .inv .1); squared = rw q at (c .before .loop .inv .2) }
 
 pub total-spec : {M : Type 1} → statement M
 total-spec =

@@ -15,7 +15,8 @@ has-requires : tie.Need-has-requires
 has-requires c κs = search needs
 
 returns : tie.Need-returns
-returns c = give-lacks _ _ _ _ _ (c .before .before .before .pre .2) _ (c .before .has .ensures) (not-true _ (c .if1 .taken))
+returns c =
+    give-lacks _ _ _ _ _ (c .before .before .before .pre .2) _ (c .before .has .ensures) (not-true _ (c .if1 .taken))
 
 mul-i : tie.Need-mul-i
 mul-i c = search needs
@@ -33,22 +34,42 @@ returns-2 : tie.Need-returns-2
 returns-2 c = give-is _ _ _ _ _ (c .before .before .before .before .before .pre .2) _ (c .before .before .before .has .ensures) (not-false _ (c .before .before .if1 .left)) _ (not-had _ (c .before .before .before .before .before .args .k) _ _ _ (c .if2 .taken))
 
 amount-requires : tie.Need-amount-requires
-amount-requires c κs = (known _ _ _ _ (c .before .before .before .before .before .pre .0 .stock) (c .before .before .before .before .before .pre .2), omega arith, omega arith)
+amount-requires c κs =
+    (known _ _ _ _ (c .before .before .before .before .before .pre .0 .stock)
+    (c .before .before .before .before .before .pre .2), omega arith, omega arith)
 
 amount-requires-2 : tie.Need-amount-requires-2
-amount-requires-2 c κs = (known _ _ _ _ (c .before .before .before .before .before .before .pre .0 .stock) (c .before .before .before .before .before .before .pre .2), omega arith, omega arith)
+amount-requires-2 c κs =
+    (known _ _ _ _ (c .before .before .before .before .before .before .pre .0 .stock)
+    (c .before .before .before .before .before .before .pre .2), omega arith, omega arith)
 
 add-result : tie.Need-add-result
-add-result c = omega (arith, two-fit _ _ _ _ (c .before .before .before .before .before .before .before .pre .0 .stock) (c .before .before .before .before .before .before .before .pre .2) _ _ (c .before .amount .ensures) (c .amount2 .ensures))
+add-result c =
+    omega (arith, two-fit _ _ _ _ (c .before .before .before .before .before .before .before .pre .0 .stock)
+    (c .before .before .before .before .before .before .before .pre .2) _ _ (c .before .amount .ensures)
+    (c .amount2 .ensures))
 
 amount-requires-3 : tie.Need-amount-requires-3
-amount-requires-3 c κs = (known _ _ _ _ (c .before .before .before .before .before .before .before .pre .0 .stock) (c .before .before .before .before .before .before .before .pre .2), omega arith, omega arith)
+amount-requires-3 c κs =
+    (known _ _ _ _ (c .before .before .before .before .before .before .before .pre .0 .stock)
+    (c .before .before .before .before .before .before .before .pre .2), omega arith, omega arith)
 
 add-result-2 : tie.Need-add-result-2
-add-result-2 c = omega (arith, all-fit _ _ _ _ (c .before .before .before .before .before .before .before .before .pre .0 .stock) (c .before .before .before .before .before .before .before .before .pre .2) _ _ _ (c .before .before .amount .ensures) (c .before .amount2 .ensures) (c .amount3 .ensures))
+add-result-2 c =
+    omega (arith, all-fit _ _ _ _ (c .before .before .before .before .before .before .before .before .pre .0 .stock)
+    (c .before .before .before .before .before .before .before .before .pre .2) _ _ _
+    (c .before .before .amount .ensures) (c .before .amount2 .ensures) (c .amount3 .ensures))
 
 returns-3 : tie.Need-returns-3
-returns-3 c = give-is _ _ _ _ _ (c .before .before .before .before .before .before .before .before .pre .2) _ (c .before .before .before .before .before .before .has .ensures) (not-false _ (c .before .before .before .before .before .if1 .left)) _ (affords-is _ (c .before .before .before .before .before .before .before .before .args .k) _ _ _ _ (c .before .before .before .if2 .left) (parts-is _ _ _ _ (c .before .before .before .before .before .before .before .before .pre .0 .stock) (c .before .before .before .before .before .before .before .before .pre .2) _ _ _ (c .before .before .amount .ensures) (c .before .amount2 .ensures) (c .amount3 .ensures)))
+returns-3 c =
+    give-is _ _ _ _ _ (c .before .before .before .before .before .before .before .before .pre .2) _
+    (c .before .before .before .before .before .before .has .ensures)
+    (not-false _ (c .before .before .before .before .before .if1 .left)) _
+    (affords-is _ (c .before .before .before .before .before .before .before .before .args .k) _ _ _ _
+    (c .before .before .before .if2 .left)
+    (parts-is _ _ _ _ (c .before .before .before .before .before .before .before .before .pre .0 .stock)
+    (c .before .before .before .before .before .before .before .before .pre .2) _ _ _
+    (c .before .before .amount .ensures) (c .before .amount2 .ensures) (c .amount3 .ensures)))
 
 pub gives-spec : {M : Type 1} → statement M
 gives-spec =

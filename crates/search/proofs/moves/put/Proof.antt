@@ -26,7 +26,10 @@ element-set-from-x : tie.Need-element-set-from-x
 element-set-from-x c = search needs
 
 returns : tie.Need-returns
-returns c = let s = c .before .before .before in put-is (s .args .v .now) (s .args .tried .now) (c .before .forget .last .0) (s .args .s) (s .args .i) (s .args .x) (s .pre .0) (s .pre .1) (s .pre .3) (s .pre .4) (c .before .forget .ensures)
+returns c =
+    let s = c .before .before .before in put-is (s .args .v .now) (s .args .tried .now) (c .before .forget .last .0)
+    (s .args .s) (s .args .i) (s .args .x) (s .pre .0) (s .pre .1) (s .pre .3) (s .pre .4)
+    (c .before .forget .ensures)
 
 pub put-spec : {M : Type 1} → statement M
 put-spec =

@@ -25,7 +25,9 @@ stride-requires : tie.Need-stride-requires
 stride-requires c κs = search needs
 
 first-move-requires : tie.Need-first-move-requires
-first-move-requires c κs = (c .before .before .before .before .before .before .pre .0, tried-as _ _ _ _ _ _ (c .before .stride .ensures) (c .before .before .before .before .before .before .pre .2))
+first-move-requires c κs =
+    (c .before .before .before .before .before .before .pre .0, tried-as _ _ _ _ _ _ (c .before .stride .ensures)
+    (c .before .before .before .before .before .before .pre .2))
 
 go-on-requires : tie.Need-go-on-requires
 go-on-requires c κs = search needs
@@ -34,20 +36,24 @@ returns : tie.Need-returns
 returns c =
     let b = c .before .before in
     let s = b .before in
-    (code-rate _ _ _ _ _ _ _ _ _ (s .spread .ensures) (s .before .pre .0) _ (b .before-round .ensures) (c .enum-told .given .1), s .before .pre .2)
+    (code-rate _ _ _ _ _ _ _ _ _ (s .spread .ensures) (s .before .pre .0) _ (b .before-round .ensures)
+    (c .enum-told .given .1), s .before .pre .2)
 
 returns-2 : tie.Need-returns-2
 returns-2 c =
     let b = c .before .before in
     let s = b .before in
-    (code-refuse _ _ _ _ _ _ _ _ _ (s .spread .ensures) (s .before .pre .0) _ (b .before-round .ensures) (c .enum-told2 .given .1), s .before .pre .2)
+    (code-refuse _ _ _ _ _ _ _ _ _ (s .spread .ensures) (s .before .pre .0) _ (b .before-round .ensures)
+    (c .enum-told2 .given .1), s .before .pre .2)
 
 returns-3 : tie.Need-returns-3
 returns-3 c =
     let d = c .before .before .before in
     let b = d .before .before .before in
     let s = b .before in (
-      code-on _ _ _ _ _ _ _ _ _ (s .spread .ensures) (s .before .pre .0) _ (b .before-round .ensures) (d .before .enum-told3 .given .1) _ _ _ (d .stride .ensures) (c .before .first-move .ensures .0) (c .go-on .ensures),
+      code-on _ _ _ _ _ _ _ _ _ (s .spread .ensures) (s .before .pre .0) _ (b .before-round .ensures)
+          (d .before .enum-told3 .given .1) _ _ _ (d .stride .ensures) (c .before .first-move .ensures .0)
+          (c .go-on .ensures),
       tried-as _ _ _ _ _ _ (sym (d .stride .ensures)) (c .before .first-move .ensures .1),
     )
 

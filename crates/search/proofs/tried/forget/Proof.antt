@@ -43,10 +43,14 @@ loop-less : tie.Need-loop-less Inv-loop μ-loop
 loop-less c = omega (arith, c .loop-test .taken)
 
 loop-again : tie.Need-loop-again Inv-loop μ-loop
-loop-again c = going-on (c .before .before .args .tried .now) (c .before .before .args .s) (c .before .before .pre .0) (c .before .loop .tried) (c .before .loop .c) (c .before .loop .inv) (c .loop-test .taken)
+loop-again c =
+    going-on (c .before .before .args .tried .now) (c .before .before .args .s) (c .before .before .pre .0)
+    (c .before .loop .tried) (c .before .loop .c) (c .before .loop .inv) (c .loop-test .taken)
 
 returns : tie.Need-returns Inv-loop μ-loop
-returns c = going-ends (c .before .before .args .tried .now) (c .before .before .args .s) (c .before .before .pre .0) (c .before .loop .tried) (c .before .loop .c) (c .before .loop .inv) (c .loop-test .left)
+returns c =
+    going-ends (c .before .before .args .tried .now) (c .before .before .args .s) (c .before .before .pre .0)
+    (c .before .loop .tried) (c .before .loop .c) (c .before .loop .inv) (c .loop-test .left)
 
 pub forget-spec : {M : Type 1} → statement M
 forget-spec =

@@ -30,10 +30,19 @@ enum-told : tie.Need-enum-told
 enum-told c = search needs
 
 returns : tie.Need-returns
-returns c = with-ok _ _ _ _ _ _ _ _ (c .before .before .before .before .before .before .instead .ensures) (c .before .before .before .before .before .instead2 .ensures) (c .before .before .before .before .instead3 .ensures) (c .before .before .before .before .before .before .before .before .pre) _ (c .before .before .before .formula-number .ensures .0) _ (c .before .p .given .1)
+returns c =
+    with-ok _ _ _ _ _ _ _ _ (c .before .before .before .before .before .before .instead .ensures)
+    (c .before .before .before .before .before .instead2 .ensures)
+    (c .before .before .before .before .instead3 .ensures)
+    (c .before .before .before .before .before .before .before .before .pre) _
+    (c .before .before .before .formula-number .ensures .0) _ (c .before .p .given .1)
 
 returns-2 : tie.Need-returns-2
-returns-2 c = with-never _ _ _ _ _ _ _ _ (c .before .before .before .before .before .instead .ensures) (c .before .before .before .before .instead2 .ensures) (c .before .before .before .instead3 .ensures) (c .before .before .before .before .before .before .before .pre) _ (c .before .before .formula-number .ensures .0) _ (c .enum-told .given .1)
+returns-2 c =
+    with-never _ _ _ _ _ _ _ _ (c .before .before .before .before .before .instead .ensures)
+    (c .before .before .before .before .instead2 .ensures) (c .before .before .before .instead3 .ensures)
+    (c .before .before .before .before .before .before .before .pre) _ (c .before .before .formula-number .ensures .0)
+    _ (c .enum-told .given .1)
 
 pub number-with-spec : {M : Type 1} → statement M
 number-with-spec =

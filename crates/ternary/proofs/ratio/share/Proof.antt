@@ -1,6 +1,7 @@
 -- `ternary::ratio::share` meets its contract. Assumes nothing.
 use native.Mathlib.Omega.{arith}
-use Rattle.ternary.proofs.Estimate.{high-fits, low-fits, both-fit, room-fits, needed-fits, whole-fits, part-fits, rest-there}
+use Rattle.ternary.proofs.Estimate.{high-fits, low-fits, both-fit, room-fits, needed-fits, whole-fits}
+use Rattle.ternary.proofs.Estimate.{part-fits, rest-there}
 use Rattle.ternary.proofs.Estimate.{z-le, more-fits, is-exact, is-less, is-more}
 use Rattle.ternary.proofs.Signs.{size-le, cast-ok, as-signed, share-is}
 use Rattle.ternary.proofs.ratio.share.Statement.{statement}
@@ -43,7 +44,8 @@ returns : tie.Need-returns
 returns c =
     let s = c .before .before .before in
     let x≤ = size-le (s .args .a) (s .fits .a) (s .pre .1) in
-    share-is (s .args .a) _ (s .args .w .n) (s .args .w .d) (s .fits .a) (omega (arith, z-le _ x≤ (s .pre .2))) (is-exact _ x≤ (s .pre .2) (c .if1 .taken))
+    share-is (s .args .a) _ (s .args .w .n) (s .args .w .d) (s .fits .a) (omega (arith, z-le _ x≤ (s .pre .2)))
+        (is-exact _ x≤ (s .pre .2) (c .if1 .taken))
 
 mul-rest : tie.Need-mul-rest
 mul-rest c =
@@ -79,13 +81,15 @@ returns-2 : tie.Need-returns-2
 returns-2 c =
     let s = c .before .before .before .before .before in
     let x≤ = size-le (s .args .a) (s .fits .a) (s .pre .1) in
-    share-is (s .args .a) _ (s .args .w .n) (s .args .w .d) (s .fits .a) (omega (arith, z-le _ x≤ (s .pre .2))) (is-less _ x≤ (s .pre .2) (omega arith))
+    share-is (s .args .a) _ (s .args .w .n) (s .args .w .d) (s .fits .a) (omega (arith, z-le _ x≤ (s .pre .2)))
+        (is-less _ x≤ (s .pre .2) (omega arith))
 
 returns-3 : tie.Need-returns-3
 returns-3 c =
     let s = c .before .before .before .before .before in
     let x≤ = size-le (s .args .a) (s .fits .a) (s .pre .1) in
-    share-is (s .args .a) _ (s .args .w .n) (s .args .w .d) (s .fits .a) (omega (arith, z-le _ x≤ (s .pre .2))) (is-more _ x≤ (s .pre .2) (omega arith))
+    share-is (s .args .a) _ (s .args .w .n) (s .args .w .d) (s .fits .a) (omega (arith, z-le _ x≤ (s .pre .2)))
+        (is-more _ x≤ (s .pre .2) (omega arith))
 
 pub share-spec : {M : Type 1} → statement M
 share-spec =

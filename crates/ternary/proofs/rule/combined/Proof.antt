@@ -19,7 +19,8 @@ step-requires-2 c κs =
     let s = c .before in
     let a = s .args in (
       room-moved
-          (step-back (a .v .n) (a .v .d) (c .step .ok) (c .step .ensures) (toZ-ofZ w64 (a .high) (s .fits .high)) (toZ-ofZ w64 (a .r3) (s .fits .r3)))
+          (step-back (a .v .n) (a .v .d) (c .step .ok) (c .step .ensures) (toZ-ofZ w64 (a .high) (s .fits .high))
+          (toZ-ofZ w64 (a .r3) (s .fits .r3)))
           (toZ-ofZ w64 (a .r2) (s .fits .r2))
           (room-2 (a .high) (a .r3) (a .r2) (a .r1) (a .r0) (a .v .n) (a .v .d) (s .pre .1 .n-le) (s .pre .0)),
       s .pre .1,
@@ -31,7 +32,8 @@ step-requires-3 c κs =
     let a = s .args in (
       room-moved
           (step-back (a .v .n) (a .v .d) (c .step2 .ok) (c .step2 .ensures)
-          (step-back (a .v .n) (a .v .d) (c .before .step .ok) (c .before .step .ensures) (toZ-ofZ w64 (a .high) (s .fits .high)) (toZ-ofZ w64 (a .r3) (s .fits .r3)))
+          (step-back (a .v .n) (a .v .d) (c .before .step .ok) (c .before .step .ensures)
+          (toZ-ofZ w64 (a .high) (s .fits .high)) (toZ-ofZ w64 (a .r3) (s .fits .r3)))
           (toZ-ofZ w64 (a .r2) (s .fits .r2)))
           (toZ-ofZ w64 (a .r1) (s .fits .r1))
           (room-1 (a .high) (a .r3) (a .r2) (a .r1) (a .r0) (a .v .n) (a .v .d) (s .pre .1 .n-le) (s .pre .0)),
@@ -45,7 +47,8 @@ step-requires-4 c κs =
       room-moved
           (step-back (a .v .n) (a .v .d) (c .step3 .ok) (c .step3 .ensures)
           (step-back (a .v .n) (a .v .d) (c .before .step2 .ok) (c .before .step2 .ensures)
-          (step-back (a .v .n) (a .v .d) (c .before .before .step .ok) (c .before .before .step .ensures) (toZ-ofZ w64 (a .high) (s .fits .high)) (toZ-ofZ w64 (a .r3) (s .fits .r3)))
+          (step-back (a .v .n) (a .v .d) (c .before .before .step .ok) (c .before .before .step .ensures)
+          (toZ-ofZ w64 (a .high) (s .fits .high)) (toZ-ofZ w64 (a .r3) (s .fits .r3)))
           (toZ-ofZ w64 (a .r2) (s .fits .r2)))
           (toZ-ofZ w64 (a .r1) (s .fits .r1)))
           (toZ-ofZ w64 (a .r0) (s .fits .r0))
@@ -60,7 +63,8 @@ returns c =
     step-back (a .v .n) (a .v .d) (c .step4 .ok) (c .step4 .ensures)
     (step-back (a .v .n) (a .v .d) (c .before .step3 .ok) (c .before .step3 .ensures)
     (step-back (a .v .n) (a .v .d) (c .before .before .step2 .ok) (c .before .before .step2 .ensures)
-    (step-back (a .v .n) (a .v .d) (c .before .before .before .step .ok) (c .before .before .before .step .ensures) (toZ-ofZ w64 (a .high) (s .fits .high)) (toZ-ofZ w64 (a .r3) (s .fits .r3)))
+    (step-back (a .v .n) (a .v .d) (c .before .before .before .step .ok) (c .before .before .before .step .ensures)
+    (toZ-ofZ w64 (a .high) (s .fits .high)) (toZ-ofZ w64 (a .r3) (s .fits .r3)))
     (toZ-ofZ w64 (a .r2) (s .fits .r2)))
     (toZ-ofZ w64 (a .r1) (s .fits .r1)))
     (toZ-ofZ w64 (a .r0) (s .fits .r0))

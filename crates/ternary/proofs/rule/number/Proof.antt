@@ -37,7 +37,8 @@ returns c =
     let v = c .before .before .before .ratio-of in
     let w = c .before .before .ratio-of2 in
     read-back (c .rows .result) (c .rows .ok) ∙ c .rows .ensures
-    ∙ number-is (a .system) (a .n1) (a .n2) (a .d) (v .result .n) (w .result .n) (v .result .d) (t .result) (t .ensures) (v .ensures .0) (w .ensures .0) (v .ensures .1)
+    ∙ number-is (a .system) (a .n1) (a .n2) (a .d) (v .result .n) (w .result .n) (v .result .d) (t .result)
+    (t .ensures) (v .ensures .0) (w .ensures .0) (v .ensures .1)
 
 pub number-spec : {M : Type 1} → statement M
 number-spec =

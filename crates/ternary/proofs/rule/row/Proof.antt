@@ -13,7 +13,8 @@ use Rattle.ternary.proofs.rule.row.Statement.{statement}
 use Rattle.ternary.proofs.rule.row.Tie as tie
 
 abbrev Inv-loop : tie.InvT-loop
-Inv-loop t at count w i₀ acc₀ i acc = (at ≤ i) × (i ≤ at + count) × (toZ w64 acc ≡ horner (w .n) (w .d) (coefs (inTable t) i (at + count - i)))
+Inv-loop t at count w i₀ acc₀ i acc =
+    (at ≤ i) × (i ≤ at + count) × (toZ w64 acc ≡ horner (w .n) (w .d) (coefs (inTable t) i (at + count - i)))
 
 abbrev μ-loop : tie.MeasureT-loop
 μ-loop t at count w i₀ acc₀ i acc = i - at
@@ -46,7 +47,8 @@ step-requires c κs =
     let there : 0 < i = omega arith in
     let inside : i ≤ a .at + a .count = omega arith in (
       rw (c .before .before .loop .inv .2, read-back (inTable (a .t .now) (i - 1)) (c .step-arg .given))
-          (row-room (inTable (a .t .now)) (a .w .n) (a .w .d) i (a .at + a .count) there inside 20 (s .pre .2 .n-le) (omega arith) (s .pre .0 .sum)),
+          (row-room (inTable (a .t .now)) (a .w .n) (a .w .d) i (a .at + a .count) there inside 20 (s .pre .2 .n-le)
+          (omega arith) (s .pre .0 .sum)),
       s .pre .2,
     )
 
@@ -62,7 +64,8 @@ loop-again c =
       omega arith,
       omega arith,
       read-back (c .step .result) (c .step .ok) ∙ c .step .ensures
-          ∙ ap₂ (λ (x y : ℤ). stepZ x (a .w .n) (a .w .d) y) (c .before .before .before .loop .inv .2) (read-back (inTable (a .t .now) (i - 1)) (c .before .step-arg .given))
+          ∙ ap₂ (λ (x y : ℤ). stepZ x (a .w .n) (a .w .d) y) (c .before .before .before .loop .inv .2)
+          (read-back (inTable (a .t .now) (i - 1)) (c .before .step-arg .given))
           ∙ row-more (inTable (a .t .now)) (a .w .n) (a .w .d) i (a .at + a .count) there inside,
     )
 

@@ -44,7 +44,8 @@ returns c =
     let a = s .args in
     result-back (c .combined .ok) (c .combined .ensures)
     ∙ rows-worked (inTable (a .t .now)) (a .v .n) (a .w .n) (a .v .d) (a .w .d)
-    (result-back (c .before .before .before .before .before .row .ok) (c .before .before .before .before .before .row .ensures))
+    (result-back (c .before .before .before .before .before .row .ok)
+    (c .before .before .before .before .before .row .ensures))
     (result-back (c .before .before .before .before .row2 .ok) (c .before .before .before .before .row2 .ensures))
     (result-back (c .before .before .before .row3 .ok) (c .before .before .before .row3 .ensures))
     (result-back (c .before .before .row4 .ok) (c .before .before .row4 .ensures))
