@@ -11,7 +11,7 @@ use Rattle.integer.specs.Laws.Ring.{mag-le}
 use Rattle.split.specs.declared.Answer.{Answer}
 use Rattle.split.specs.declared.Answer.the-variants.{Rated, Refused}
 use Rattle.split.specs.AnswerCases.{numberOf, faultOf, figuresOf, bufferOf}
-use Rattle.rating.specs.declared.Outcome.{Outcome}
+use Rattle.outcome.specs.declared.Outcome.{Outcome}
 use Rattle.demand.specs.Small.{SmallFigures}
 use Rattle.c_reply.specs.Interface.{codeIn, replyOf}
 use Rattle.c_reply.specs.declared.Reply.{Reply}

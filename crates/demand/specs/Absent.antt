@@ -44,10 +44,10 @@ use Rattle.split.specs.Laws.Places.{component-lt, component-has, rank-component
 use Rattle.split.specs.Laws.Records.{cells-cell}
 use Rattle.split.specs.Rated.{IsRated, rated-fit}
 use Rattle.split.specs.declared.Answer.the-variants.{Rated, Refused}
-use Rattle.rating.specs.Rate.{mixOf, systemsFor, countFor, ratingRefusal, splitAnswer, searchOutcome}
-use Rattle.rating.specs.RatedOn.{InRange, RatedOn}
-use Rattle.rating.specs.Laws.RatedOn.{enough-on, too-few}
-use Rattle.rating.specs.Laws.Ready.{chosen}
+use Rattle.outcome.specs.Rate.{mixOf, systemsFor, countFor, ratingRefusal, splitAnswer, searchOutcome}
+use Rattle.outcome.specs.RatedOn.{InRange, RatedOn}
+use Rattle.outcome.specs.Laws.RatedOn.{enough-on, too-few}
+use Rattle.outcome.specs.Laws.Ready.{chosen}
 use Rattle.demand.specs.Laws.Answers.{expected-fits, split-by-records, split-fits, split-rated}
 use Rattle.demand.specs.Demand.{Expected, proposal, put-back}
 

@@ -50,13 +50,13 @@ use Rattle.split.specs.Accuracy.{rated-within}
 use Rattle.split.specs.AnswerCases.{numberOf}
 use Rattle.split.specs.declared.Answer.{Answer}
 use Rattle.split.specs.declared.Answer.the-variants.{Rated, Refused}
-use Rattle.rating.specs.Records.{systemAt, codeAt, systemsOf, codesOf, fitsOf}
-use Rattle.rating.specs.Rate.{mixOf, systemsFor, countFor, outcome, splitAnswer, searchOutcome, sheetOutcome}
-use Rattle.rating.specs.RatedOn.{InRange, RatedOn}
-use Rattle.rating.specs.Laws.RatedOn.{on-exactly-when, too-few}
-use Rattle.rating.specs.Laws.Ready.{choosable, chosen, room, filled, million, inert-million}
-use Rattle.rating.specs.Laws.Ends.{read-passed, split-ends, split-few-exactly-when, search-few-exactly-when}
-use Rattle.rating.specs.declared.Outcome.{Outcome}
+use Rattle.outcome.specs.Records.{systemAt, codeAt, systemsOf, codesOf, fitsOf}
+use Rattle.outcome.specs.Rate.{mixOf, systemsFor, countFor, outcome, splitAnswer, searchOutcome, sheetOutcome}
+use Rattle.outcome.specs.RatedOn.{InRange, RatedOn}
+use Rattle.outcome.specs.Laws.RatedOn.{on-exactly-when, too-few}
+use Rattle.outcome.specs.Laws.Ready.{choosable, chosen, room, filled, million, inert-million}
+use Rattle.outcome.specs.Laws.Ends.{read-passed, split-ends, split-few-exactly-when, search-few-exactly-when}
+use Rattle.outcome.specs.declared.Outcome.{Outcome}
 use Rattle.demand.specs.Laws.Answers.{expected-fit, fits-expected, expected-fits, split-by-records}
 use Rattle.demand.specs.Laws.Answers.{split-fits, split-rated, found-back}
 use Rattle.demand.specs.Laws.Sheets.{accepted-ends, read-own, read-few, sheet-ends}

@@ -17,9 +17,9 @@ use Rattle.split.specs.Accuracy.{rated-small, rated-spread-small}
 use Rattle.split.specs.declared.Answer.the-variants.{Rated}
 use Rattle.split.specs.declared.Search.the-variants.{Balanced}
 use Rattle.split.specs.declared.Found.{Found}
-use Rattle.rating.specs.Rate.{ROUNDS, mixOf, systemsFor, countFor, searched, splitAnswer, searchOutcome}
-use Rattle.rating.specs.RatedOn.{RatedOn}
-use Rattle.rating.specs.Laws.Ready.{chosen, million, input}
+use Rattle.outcome.specs.Rate.{ROUNDS, mixOf, systemsFor, countFor, searched, splitAnswer, searchOutcome}
+use Rattle.outcome.specs.RatedOn.{RatedOn}
+use Rattle.outcome.specs.Laws.Ready.{chosen, million, input}
 use Rattle.demand.specs.Laws.Answers.{split-rated, search-rated, found-back}
 
 -- a larger allowance finds the same

@@ -15,7 +15,7 @@ use Rattle.systems.specs.Marked.{fitness, choice}
 use Rattle.split.specs.Start.{sharersOf, shareOf, startAmount, startOf}
 use Rattle.split.specs.Fold.{sumTo, table}
 use Rattle.split.specs.Split.{cellOf, heldOf}
-use Rattle.rating.specs.Rate.{mixOf, systemsFor, countFor}
+use Rattle.outcome.specs.Rate.{mixOf, systemsFor, countFor}
 
 pub record MarkedFigures : Type 0 where
   -- partial numbers, whole numbers

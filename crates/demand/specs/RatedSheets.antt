@@ -15,8 +15,8 @@ use Rattle.sheet.specs.declared.Reading.{Reading}
 use Rattle.sheet.specs.declared.Reading.the-variants as reading
 use Rattle.split.specs.Rated.{IsRated}
 use Rattle.split.specs.declared.Answer.the-variants.{Rated, Refused}
-use Rattle.rating.specs.Rate.{ROUNDS, splitAnswer, outcome, searchOutcome, readBy, sheetOutcome}
-use Rattle.rating.specs.Laws.Ends.{read-long}
+use Rattle.outcome.specs.Rate.{ROUNDS, splitAnswer, outcome, searchOutcome, readBy, sheetOutcome}
+use Rattle.outcome.specs.Laws.Ends.{read-long}
 use Rattle.demand.specs.Laws.Answers.{rated-zero, found-back}
 
 -- the analysis of a sheet, and the split that is rated

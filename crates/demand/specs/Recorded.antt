@@ -18,7 +18,7 @@ use Rattle.analysis.specs.Register.{CODES}
 use Rattle.sheet.specs.declared.Split.{Split}
 use Rattle.split.specs.declared.Answer.{Answer}
 use Rattle.split.specs.declared.Answer.the-variants.{Rated, Refused}
-use Rattle.rating.specs.Rate.{splitAnswer, searchOutcome, sheetOutcome}
+use Rattle.outcome.specs.Rate.{splitAnswer, searchOutcome, sheetOutcome}
 use Rattle.controller.specs.Record.{recordOf}
 use Rattle.controller.specs.Exact.{DividedOnce, divided-once}
 use Rattle.demand.specs.Small.{SmallFigures, split-small, search-small, sheet-small}

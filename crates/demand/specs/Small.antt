@@ -14,8 +14,8 @@ use Rattle.sheet.specs.declared.Reading.{Reading}
 use Rattle.sheet.specs.declared.Reading.the-variants as reading
 use Rattle.split.specs.declared.Answer.{Answer}
 use Rattle.split.specs.declared.Answer.the-variants.{Rated, Refused}
-use Rattle.rating.specs.Rate.{ROUNDS, outcome, splitAnswer, searchOutcome, readBy, sheetOutcome}
-use Rattle.rating.specs.Laws.Ends.{read-long}
+use Rattle.outcome.specs.Rate.{ROUNDS, outcome, splitAnswer, searchOutcome, readBy, sheetOutcome}
+use Rattle.outcome.specs.Laws.Ends.{read-long}
 use Rattle.demand.specs.Lasting.{proposed-small, found-small}
 
 -- rating and spread below 2^53, so that they fit 64 bits with a sign and a double holds them exactly

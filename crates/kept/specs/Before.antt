@@ -23,9 +23,9 @@ use Rattle.split.specs.declared.Answer.the-variants.{Rated, Refused}
 use Rattle.split.specs.declared.Search.{Search}
 use Rattle.split.specs.declared.Search.the-variants.{Balanced, Unbalanced, Unfit}
 use Rattle.split.specs.declared.Found.{Found}
-use Rattle.rating.specs.Records.{splitCode, systemAt, systemsOf}
-use Rattle.rating.specs.Rate.{ROUNDS, FEWEST, checkedBy, outcome}
-use Rattle.rating.specs.declared.Outcome.{Outcome}
+use Rattle.outcome.specs.Records.{splitCode, systemAt, systemsOf}
+use Rattle.outcome.specs.Rate.{ROUNDS, FEWEST, checkedBy, outcome}
+use Rattle.outcome.specs.declared.Outcome.{Outcome}
 use Rattle.kept.specs.BeforeCheck.{registerBefore}
 use Rattle.kept.specs.BeforeMixture.{simplifiedBefore, inertBefore}
 use Rattle.kept.specs.Widths.{BEFORE, componentIn, cellsIn, amountsIn, ratingIn, proposedIn, startIn, searchIn}

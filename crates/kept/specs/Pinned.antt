@@ -13,7 +13,7 @@ use Rattle.sheet.specs.Sheet.{LISTED}
 use Rattle.systems.specs.Systems.{members, hydrocarbonSystems}
 use Rattle.systems.specs.Choice.{weights, hydrocarbonOrder}
 use Rattle.systems.specs.Without.{HYDROCARBONS}
-use Rattle.rating.specs.Records.{codes}
+use Rattle.outcome.specs.Records.{codes}
 use Rattle.kept.specs.BeforeCheck.{registerBefore}
 
 abbrev statusesOf : List Entry → List Status

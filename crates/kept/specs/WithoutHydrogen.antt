@@ -37,15 +37,15 @@ use Rattle.split.specs.declared.Answer.the-variants.{Rated, Refused}
 use Rattle.split.specs.declared.Search.{Search}
 use Rattle.split.specs.declared.Search.the-variants.{Balanced, Unbalanced, Unfit}
 use Rattle.split.specs.declared.Found.{Found}
-use Rattle.rating.specs.Records.{splitCode, systemAt, codeAt, codesOf, systemsOf, matchesAt, fitsOf}
-use Rattle.rating.specs.Rate.{ROUNDS, mixOf, systemsFor, countFor, ratingRefusal, checkedBy, splitBy, splitAnswer}
-use Rattle.rating.specs.Rate.{outcome, recordsOf, foundBy, foundOutcome, searchOutcomeBy, searchOutcome}
-use Rattle.rating.specs.Rate.{sheetOutcome}
-use Rattle.rating.specs.LeftOut.{mixture-number}
-use Rattle.rating.specs.RatedOn.{RatedOn}
-use Rattle.rating.specs.Laws.Ready.{choosable, chosen}
-use Rattle.rating.specs.Laws.Ends.{amounts-long}
-use Rattle.rating.specs.declared.Outcome.{Outcome}
+use Rattle.outcome.specs.Records.{splitCode, systemAt, codeAt, codesOf, systemsOf, matchesAt, fitsOf}
+use Rattle.outcome.specs.Rate.{ROUNDS, mixOf, systemsFor, countFor, ratingRefusal, checkedBy, splitBy, splitAnswer}
+use Rattle.outcome.specs.Rate.{outcome, recordsOf, foundBy, foundOutcome, searchOutcomeBy, searchOutcome}
+use Rattle.outcome.specs.Rate.{sheetOutcome}
+use Rattle.outcome.specs.LeftOut.{mixture-number}
+use Rattle.outcome.specs.RatedOn.{RatedOn}
+use Rattle.outcome.specs.Laws.Ready.{choosable, chosen}
+use Rattle.outcome.specs.Laws.Ends.{amounts-long}
+use Rattle.outcome.specs.declared.Outcome.{Outcome}
 use Rattle.demand.specs.Laws.Sheets.{read-searched, read-own}
 use Rattle.demand.specs.RatedSheets.{analysisIn}
 use Rattle.kept.specs.BeforeCheck as check

@@ -46,18 +46,18 @@ use Rattle.split.specs.declared.Search.the-variants.{Balanced, Unbalanced}
 use Rattle.split.specs.declared.Proposed.{Proposed}
 use Rattle.split.specs.declared.Proposed.the-variants.{Answered, Unfit}
 use Rattle.split.specs.declared.Found.{Found}
-use Rattle.rating.specs.Records.{fitsOf}
-use Rattle.rating.specs.Rate.{ROUNDS, FEWEST, mixOf, systemsFor, countFor, ratingRefusal, splitBy}
-use Rattle.rating.specs.Rate.{splitAnswer, outcome, recordsOf, foundBy, foundOutcome, searched, searchOutcome}
+use Rattle.outcome.specs.Records.{fitsOf}
+use Rattle.outcome.specs.Rate.{ROUNDS, FEWEST, mixOf, systemsFor, countFor, ratingRefusal, splitBy}
+use Rattle.outcome.specs.Rate.{splitAnswer, outcome, recordsOf, foundBy, foundOutcome, searched, searchOutcome}
 use Rattle.split.specs.Accuracy.{fit-few}
 use Rattle.split.specs.PutBack.{balance-fit}
 use Rattle.split.specs.Laws.Size.{rating-small}
 use Rattle.rating.specs.Inner.Given.{FoundFit}
-use Rattle.rating.specs.RatedOn.{InRange, RatedOn}
-use Rattle.rating.specs.Laws.RatedOn.{range-first, enough-on, too-few, on-or-few}
-use Rattle.rating.specs.Laws.Ready.{chosen, room, million, inert-million, shared, input}
-use Rattle.rating.specs.Laws.Ends.{never-unfit, split-in-range, search-in-range, not-five}
-use Rattle.rating.specs.declared.Outcome.{Outcome}
+use Rattle.outcome.specs.RatedOn.{InRange, RatedOn}
+use Rattle.outcome.specs.Laws.RatedOn.{range-first, enough-on, too-few, on-or-few}
+use Rattle.outcome.specs.Laws.Ready.{chosen, room, million, inert-million, shared, input}
+use Rattle.outcome.specs.Laws.Ends.{never-unfit, split-in-range, search-in-range, not-five}
+use Rattle.outcome.specs.declared.Outcome.{Outcome}
 use Rattle.integer.specs.Laws.Bits.{read-back}
 
 -- ---- the check's answer

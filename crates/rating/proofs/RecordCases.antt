@@ -18,13 +18,13 @@ use Rattle.split.specs.Laws.Tables.{length-table, getD-table}
 use Rattle.split.specs.Laws.Clean.{held-row, row-held}
 use Rattle.split.specs.Laws.Places.{rank-lt, component-rank, component-lt, component-has, rank-component}
 use Rattle.sheet.specs.declared.Split.{Split}
-use Rattle.rating.specs.Records.{splitCode, systemAt, codeAt, systemsOf, codesOf, matchesAt, fitsOf}
+use Rattle.outcome.specs.Records.{splitCode, systemAt, codeAt, systemsOf, codesOf, matchesAt, fitsOf}
 use Rattle.split.specs.Proposed.{Proposal, proposedAnswer}
 use Rattle.split.specs.declared.Answer.{Answer}
 use Rattle.split.specs.declared.Answer.the-variants.{Refused}
 use Rattle.split.specs.declared.Proposed.{Proposed}
 use Rattle.split.specs.declared.Proposed.the-variants.{Answered}
-use Rattle.rating.specs.Rate.{splitBy, recordsOf}
+use Rattle.outcome.specs.Rate.{splitBy, recordsOf}
 use Rattle.rating.proofs.CallCases.{misfit, fitting, answered-is}
 
 -- ---- the packed tables

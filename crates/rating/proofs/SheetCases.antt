@@ -19,9 +19,9 @@ use Rattle.sheet.specs.declared.Sheet.{Sheet}
 use Rattle.split.specs.AnswerCases.{numberOf, faultOf}
 use Rattle.split.specs.declared.Answer.{Answer}
 use Rattle.split.specs.declared.Answer.the-variants.{Rated, Refused}
-use Rattle.rating.specs.Rate.{splitAnswer, outcome, searchOutcome, readBy, sheetOutcome}
-use Rattle.rating.specs.Laws.Ends.{RatedOrFew, split-in-range, search-in-range, read-passed, not-five}
-use Rattle.rating.specs.declared.Outcome.{Outcome}
+use Rattle.outcome.specs.Rate.{splitAnswer, outcome, searchOutcome, readBy, sheetOutcome}
+use Rattle.outcome.specs.Laws.Ends.{RatedOrFew, split-in-range, search-in-range, read-passed, not-five}
+use Rattle.outcome.specs.declared.Outcome.{Outcome}
 
 -- ---- a refused sheet
 

@@ -1,7 +1,7 @@
 // The rating of an analysis by a proposed split or by the search, and of a sheet.
 //
-// No public function has a `requires`. What they promise is in specs/Rate.antt; the third demand, which is proved of
-// those promises, is in crate `demand`, specs/Demand.antt.
+// No public function has a `requires`. What they promise is in crate `outcome`, specs/Rate.antt; the third demand,
+// which is proved of those promises, is in crate `demand`, specs/Demand.antt.
 mod records;
 
 ghost use mathlib.Core.Bool.{cond};
@@ -18,11 +18,12 @@ ghost use Rattle.split.specs.AnswerCases.{numberOf, faultOf};
 ghost use Rattle.split.specs.Rating.{ratingOf, LIMIT};
 ghost use Rattle.split.specs.Proposed.{Proposal};
 ghost use Rattle.split.specs.Fits.{Fit};
-ghost use Rattle.rating.specs.Rate.{ROUNDS, splitBy, splitAnswer, outcome, foundOutcome, searchOutcome};
-ghost use Rattle.rating.specs.Rate.{sheetOutcome};
+ghost use Rattle.outcome.specs.Rate.{ROUNDS, splitBy, splitAnswer, outcome, foundOutcome, searchOutcome};
+ghost use Rattle.outcome.specs.Rate.{sheetOutcome};
 ghost use Rattle.rating.specs.Inner.Given.{FoundFit};
 use analysis::Analysis;
 use analysis::Checked;
+use outcome::Outcome;
 use refusal::MISFIT;
 use refusal::OUT_OF_RANGE;
 use refusal::TOO_FEW;
@@ -49,12 +50,6 @@ const ROUNDS: u32 = 4000;
 
 // The fewest components present that a mixture is rated with.
 const FEWEST: u32 = 2;
-
-// A rating or a refusal, and the split that the search found; no split beside anything else.
-pub struct Outcome {
-    pub answer: Answer,
-    pub split: Split,
-}
 
 // The rating of a proposed split of an analysis: 5, 6, 16, then 7 to 10, else its rating and its spread.
 pub fn rate_split(a: Analysis, p: Split) -> Answer

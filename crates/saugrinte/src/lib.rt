@@ -12,7 +12,7 @@ ghost use Rattle.ternary.specs.Answer.{partialOf};
 ghost use Rattle.whole_number.specs.Whole.{wholeNumber};
 ghost use Rattle.controller.specs.Record.{recordOf};
 ghost use Rattle.split.specs.AnswerCases.{figuresOf, bufferOf};
-ghost use Rattle.rating.specs.Rate.{splitAnswer, searchOutcome, sheetOutcome};
+ghost use Rattle.outcome.specs.Rate.{splitAnswer, searchOutcome, sheetOutcome};
 ghost use Rattle.c_reply.specs.Interface.{VERSION, codeIn, replyOf, splitFrom, size};
 ghost use Rattle.c_reply.specs.Interface.{partialReply, partialIn, readReply, readOr};
 ghost use Rattle.c_reply.specs.Interface.{writtenReply, writtenLength};

@@ -1,6 +1,6 @@
 -- `c_ratings::rate_by_search` meets its contract. Assumes nothing.
 use Rattle.analysis.specs.Check.{AtFault}
-use Rattle.rating.specs.Rate.{searchOutcome}
+use Rattle.outcome.specs.Rate.{searchOutcome}
 use Rattle.c_ratings.proofs.Cases.{put-is, fault-at}
 use borrow.Author.Needs.{needs}
 use Rattle.c_ratings.proofs.rate_by_search.Statement.{statement}

@@ -1,7 +1,7 @@
 -- `c_ratings::rate_sheet` meets its contract. Assumes nothing.
 use lib.ListN.{getD}
 use Rattle.sheet.specs.Read.{FaultIn}
-use Rattle.rating.specs.Rate.{sheetOutcome}
+use Rattle.outcome.specs.Rate.{sheetOutcome}
 use Rattle.c_ratings.proofs.Cases.{put-is, fault-at}
 use borrow.Author.Needs.{needs}
 use Rattle.c_ratings.proofs.rate_sheet.Statement.{statement}

@@ -3,7 +3,7 @@ use mathlib.Core.Path.{ap, _∙_}
 use Rattle.analysis.specs.Check.{AtFault}
 use Rattle.sheet.specs.declared.Split.{Split}
 use Rattle.split.specs.AnswerCases.{faultOf}
-use Rattle.rating.specs.Rate.{splitAnswer}
+use Rattle.outcome.specs.Rate.{splitAnswer}
 use Rattle.c_reply.specs.Interface.{splitFrom}
 use Rattle.c_ratings.proofs.Cases.{reply-is, figures-are, fault-at}
 use borrow.Author.Needs.{needs}

@@ -1,6 +1,6 @@
 -- `c_ratings::rated` meets its contract. Assumes nothing.
 use mathlib.Core.Path.{sym, ap, subst}
-use Rattle.rating.specs.declared.Outcome.{Outcome}
+use Rattle.outcome.specs.declared.Outcome.{Outcome}
 use Rattle.demand.specs.Small.{SmallFigures, sheet-small}
 use borrow.Author.Needs.{needs}
 use Rattle.c_ratings.proofs.rated.Statement.{statement}

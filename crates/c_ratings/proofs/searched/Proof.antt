@@ -2,7 +2,7 @@
 use mathlib.Core.Path.{_≡_, sym, ap, subst}
 use lib.ListN.{length}
 use Rattle.analysis.specs.Register.{CODES}
-use Rattle.rating.specs.declared.Outcome.{Outcome}
+use Rattle.outcome.specs.declared.Outcome.{Outcome}
 use Rattle.demand.specs.Small.{SmallFigures, search-small}
 use borrow.Author.Needs.{needs}
 use Rattle.c_ratings.proofs.searched.Statement.{statement}

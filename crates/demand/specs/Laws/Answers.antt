@@ -27,12 +27,12 @@ use Rattle.split.specs.declared.Answer.the-variants.{Rated, Refused}
 use Rattle.split.specs.declared.Search.{Search}
 use Rattle.split.specs.declared.Search.the-variants.{Balanced, Unbalanced, Unfit}
 use Rattle.split.specs.declared.Found.{Found}
-use Rattle.rating.specs.Records.{systemAt, codeAt, systemsOf, codesOf, matchesAt, fitsOf}
-use Rattle.rating.specs.Rate.{ROUNDS, mixOf, systemsFor, countFor, ratingRefusal, checkedBy, splitBy, splitAnswer}
-use Rattle.rating.specs.Rate.{recordsOf, outcome, foundBy, foundOutcome, searched, searchOutcome}
-use Rattle.rating.specs.RatedOn.{RatedOn}
-use Rattle.rating.specs.Laws.Ready.{room, shared, input}
-use Rattle.rating.specs.declared.Outcome.{Outcome}
+use Rattle.outcome.specs.Records.{systemAt, codeAt, systemsOf, codesOf, matchesAt, fitsOf}
+use Rattle.outcome.specs.Rate.{ROUNDS, mixOf, systemsFor, countFor, ratingRefusal, checkedBy, splitBy, splitAnswer}
+use Rattle.outcome.specs.Rate.{recordsOf, outcome, foundBy, foundOutcome, searched, searchOutcome}
+use Rattle.outcome.specs.RatedOn.{RatedOn}
+use Rattle.outcome.specs.Laws.Ready.{room, shared, input}
+use Rattle.outcome.specs.declared.Outcome.{Outcome}
 
 -- the records expected of the chosen systems fit
 pub expected-fit : (ch : List ℕ) (k : ℕ) → 3 * k ≤ RECORDS → fitsOf ch k (3 * k) (systemsOf ch k) (codesOf ch k) ≡ true

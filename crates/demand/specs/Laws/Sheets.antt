@@ -26,11 +26,11 @@ use Rattle.sheet.specs.declared.Sheet.{Sheet}
 use Rattle.split.specs.Rated.{IsRated}
 use Rattle.split.specs.declared.Answer.{Answer}
 use Rattle.split.specs.declared.Answer.the-variants.{Refused}
-use Rattle.rating.specs.Rate.{ROUNDS, ratingRefusal, splitAnswer, searchOutcome, outcome, readBy, sheetOutcome}
-use Rattle.rating.specs.RatedOn.{InRange, RatedOn}
-use Rattle.rating.specs.Laws.Ends.{RatedOr, RatedOrFew, search-ends, search-few, split-few, search-in-range}
-use Rattle.rating.specs.Laws.Ends.{split-in-range, read-passed}
-use Rattle.rating.specs.declared.Outcome.{Outcome}
+use Rattle.outcome.specs.Rate.{ROUNDS, ratingRefusal, splitAnswer, searchOutcome, outcome, readBy, sheetOutcome}
+use Rattle.outcome.specs.RatedOn.{InRange, RatedOn}
+use Rattle.outcome.specs.Laws.Ends.{RatedOr, RatedOrFew, search-ends, search-few, split-few, search-in-range}
+use Rattle.outcome.specs.Laws.Ends.{split-in-range, read-passed}
+use Rattle.outcome.specs.declared.Outcome.{Outcome}
 
 -- ---- reading: 1 to 6
 

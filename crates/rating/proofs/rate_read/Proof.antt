@@ -3,7 +3,7 @@ use Rattle.rating.proofs.CallCases.{split-any, search-any}
 use mathlib.Core.Path.{sym, ap₂, _∙_}
 use Rattle.sheet.specs.declared.Split.{Split}
 use Rattle.split.specs.declared.Answer.{Answer}
-use Rattle.rating.specs.Rate.{outcome}
+use Rattle.outcome.specs.Rate.{outcome}
 use borrow.Author.Tests.{eq-eqb, ne-eqb}
 use borrow.Author.Needs.{needs}
 use Rattle.rating.proofs.rate_read.Statement.{statement}

@@ -1,5 +1,5 @@
 -- `rating::records::code_of` meets its contract. Assumes nothing.
-use Rattle.rating.specs.Records.{splitCode}
+use Rattle.outcome.specs.Records.{splitCode}
 use Rattle.rating.proofs.RecordCases.{code-is}
 use borrow.Author.Needs.{needs}
 use Rattle.rating.proofs.records.code_of.Statement.{statement}

@@ -1,7 +1,7 @@
 -- `rating::records::matches` meets its contract. Assumes nothing.
 use mathlib.Core.Path.{ap, _∙_}
 use Rattle.split.specs.Split.{componentAt}
-use Rattle.rating.specs.Records.{splitCode}
+use Rattle.outcome.specs.Records.{splitCode}
 use Rattle.rating.proofs.RecordCases.{match-is}
 use Rattle.rating.proofs.records.matches.Statement.{statement}
 use Rattle.rating.proofs.records.matches.Tie as tie

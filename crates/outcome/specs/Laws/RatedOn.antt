@@ -10,9 +10,9 @@ use borrow.Author.Tests.{eqb-true, eqb-false, eq-eqb, ltb-true, ltb-false, lt-lt
 use Rattle.refusal.specs.Register.{NO_SYSTEM, TOO_FEW}
 use Rattle.analysis.specs.Check.{allInRange, totalOf, totalFits, refusalByTests, analysisRefusal}
 use Rattle.systems.specs.Choice.{presentCount}
-use Rattle.rating.specs.Rate.{FEWEST, mixOf, ratingRefusal}
-use Rattle.rating.specs.LeftOut.{mixture-number}
-use Rattle.rating.specs.RatedOn.{InRange, RatedOn}
+use Rattle.outcome.specs.Rate.{FEWEST, mixOf, ratingRefusal}
+use Rattle.outcome.specs.LeftOut.{mixture-number}
+use Rattle.outcome.specs.RatedOn.{InRange, RatedOn}
 
 module _ (a : List ℕ) where
   -- a refusal of the range test comes first

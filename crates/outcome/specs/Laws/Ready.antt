@@ -30,9 +30,9 @@ use Rattle.split.specs.Start.{sharersOf}
 use Rattle.split.specs.Laws.Starts.{Shared, Supplied}
 use Rattle.split.specs.Search.{FIRST_LEVEL}
 use Rattle.split.specs.Laws.Finds.{SearchInput, enough-parts}
-use Rattle.rating.specs.Rate.{mixOf, systemsFor, countFor}
-use Rattle.rating.specs.RatedOn.{RatedOn}
-use Rattle.rating.specs.Laws.RatedOn.{on-passed}
+use Rattle.outcome.specs.Rate.{mixOf, systemsFor, countFor}
+use Rattle.outcome.specs.RatedOn.{RatedOn}
+use Rattle.outcome.specs.Laws.RatedOn.{on-passed}
 
 count-sharers : (ch : List ℕ) (c n : ℕ) → countTo (λ i. hasOf (getD ch i 0) c) n ≡ sharersOf ch c n
 unfolding countTo sharersOf sumTo

@@ -14,7 +14,7 @@ use Rattle.systems.specs.Systems.{HYDROGEN, candidates}
 use Rattle.systems.specs.Choice.{inMask, presentOf, presentCount, fold, isChosen, listOf, chosenOf, candidatesFor}
 use Rattle.systems.specs.Choice.{candidatesOf}
 use Rattle.systems.specs.Choice.{chooseOf}
-use Rattle.rating.specs.Rate.{FEWEST, mixtureRefusal}
+use Rattle.outcome.specs.Rate.{FEWEST, mixtureRefusal}
 
 -- every candidate is a system of Table A.2 that keeps the rule
 pub candidates-kept : each isSystem candidates ≡ true

@@ -28,8 +28,8 @@ use Rattle.split.specs.declared.Answer.the-variants.{Rated, Refused}
 use Rattle.split.specs.declared.Search.{Search}
 use Rattle.split.specs.declared.Search.the-variants.{Balanced, Unbalanced, Unfit}
 use Rattle.split.specs.declared.Found.{Found}
-use Rattle.rating.specs.Records.{systemsOf, codesOf, fitsOf}
-use Rattle.rating.specs.declared.Outcome.{Outcome}
+use Rattle.outcome.specs.Records.{systemsOf, codesOf, fitsOf}
+use Rattle.outcome.specs.declared.Outcome.{Outcome}
 
 -- the most rounds
 abbrev pub ROUNDS : ℕ

@@ -6,7 +6,7 @@ use mathlib.Core.Bool.{Bool, true, false, _&&_}
 use mathlib.Core.List.{List, [], _∷_}
 use Prim.Native.Nat.{ℕ}
 use Rattle.analysis.specs.Register.{Status, live, retired, splitsOnly, unknown, statusOf}
-use Rattle.rating.specs.Records.{codes}
+use Rattle.outcome.specs.Records.{codes}
 
 -- may a code of this status stand in a split?
 abbrev legalBy : Status → Bool

@@ -4,7 +4,7 @@ use mathlib.Core.Path.{_≡_}
 use mathlib.Core.List.{List}
 use Prim.Native.Nat.{ℕ}
 use Rattle.analysis.specs.Check.{analysisRefusal}
-use Rattle.rating.specs.Rate.{ratingRefusal}
+use Rattle.outcome.specs.Rate.{ratingRefusal}
 
 -- in range: neither 5 nor 6 turns the analysis away
 abbrev pub InRange : List ℕ → Type 0

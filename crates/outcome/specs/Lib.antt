@@ -1,0 +1,6 @@
+pub mod Records
+pub mod Rate
+pub mod SplitCodes
+pub mod RatedOn
+pub mod LeftOut
+pub mod Laws
