@@ -64,7 +64,7 @@ REFUSALS = {
     12: ('no mixture', 'the amounts add up to 0 or to more than 100 %'),
     13: ('no system', 'a system is not in the table'),
     14: ('short blank', "the writer's buffer is too short"),
-    16: ('too few', 'methane stands alone, and ethane, propane, butanes, pentanes, hexanes+ or hydrogen must be there too'),
+    16: ('too few', 'methane stands alone; ethane, propane, butanes, pentanes, hexanes+ or hydrogen must be there too'),
     17: ('share', "a share is outside the system's range"),
 }
 
