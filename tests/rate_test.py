@@ -30,7 +30,7 @@ FOUND = ref.search(TABLE_A1).split
 SIX = ref.search(BIOMETHANE).split
 TABLE = ref.layout(TABLE_A1, None)
 EXAMPLES = ('biomethane', 'hydrogen', 'table-a1')
-LEFT = ("the split's %s, are not those expected: three for each system chosen for this gas")
+LEFT = "the split's %s, are not those expected: three for each system chosen for this gas"
 SIMPLIFIED = 'the split does not add up to the simplified mixture: it has '
 # What a command without Python may find.
 COMMANDS = ('bash', 'env', 'dirname', 'readlink', 'find', 'mktemp', 'head', 'rm', 'cat', 'touch')
@@ -58,7 +58,7 @@ def components(*records):
 
 
 def held(analysis, cells):
-    """The sheet with a split: the chosen systems' records in order, with the amounts of {system: {component: parts}}."""
+    """The sheet with a split: the chosen systems' records in order, amounts from {system: {component: parts}}."""
     return ref.layout(analysis, [(s, ref.SPLIT_CODE[c], cells[s][c])
                                  for s, c in ref.expected(ref.choose(ref.simplify(analysis)))])
 
@@ -75,8 +75,8 @@ def refused():
     yield TABLE[:49], 1, torn + 'it counts 11 components, and at least 8 bytes are missing'
     yield TABLE[:56], 1, torn + 'it counts 11 components, and at least 1 byte is missing'
     for count in (1, 3, 7, 24, 255):
-        yield TABLE[:56] + bytes([count]), 1, torn + 'it counts %d split record%s, and only 0 or a multiple of three from ' \
-            '6 to 21 may stand there' % (count, '' if count == 1 else 's')
+        yield TABLE[:56] + bytes([count]), 1, torn + 'it counts %d split record%s, and only 0 or a multiple of three ' \
+            'from 6 to 21 may stand there' % (count, '' if count == 1 else 's')
     yield whole[:-1], 1, torn + '11 components and 9 split records make 111 bytes, and 1 byte is missing'
     yield whole[:80], 1, torn + '11 components and 9 split records make 111 bytes, and 31 bytes are missing'
     yield whole + b'\0', 1, torn + '11 components and 9 split records make 111 bytes, and 1 byte is left over'
@@ -129,8 +129,8 @@ def refused():
         late = next(line.split()[1] for line in f if line.startswith('needs-more-than-4000 '))
     yield bytes.fromhex(late), 11, \
         'unbalanced: the search found no split whose partial numbers have a spread of 0.05 or less'
-    yield ref.layout(METHANE, None), 16, 'too few: methane stands alone; ethane, propane, butanes, pentanes, hexanes+ ' \
-        'or hydrogen must be there too'
+    yield ref.layout(METHANE, None), 16, \
+        'too few: methane stands alone; ethane, propane, butanes, pentanes, hexanes+ or hydrogen must be there too'
 
 
 class Place:
@@ -166,8 +166,8 @@ class Place:
     def run(self, *names, given=b'', path=None, by=None):
         """Status, output and errors, called from among the files."""
         environment = dict(os.environ, PATH=path or os.path.dirname(sys.executable) + ':' + os.environ['PATH'])
-        got = subprocess.run([by or os.path.join(self.path, 'rate'), *names], input=given, cwd=self.files, env=environment,
-                             capture_output=True)
+        got = subprocess.run([by or os.path.join(self.path, 'rate'), *names], input=given, cwd=self.files,
+                             env=environment, capture_output=True)
         return got.returncode, got.stdout, got.stderr.decode('utf-8', 'surrogateescape')
 
     def shell(self, command):
@@ -209,7 +209,7 @@ def ratings(place):
         answer = ref.rate(sheet)
         lines[name], said[name] = ref.display(answer).encode(), 'methane number %.4f\n' % (answer.rating / ref.UNITS)
         for kind, data in (('.txt', text), ('.sheet', sheet), ('.back', tool.lines(sheet)),
-                           ('.split', ref.layout(*[TABLE_A1, FOUND]) if name == 'table-a1' else sheet)):
+                           ('.split', ref.layout(TABLE_A1, FOUND))):
             place.write(name + kind, data)
         for arguments, given in (((name + '.txt',), b''), ((name + '.sheet',), b''), ((name + '.back',), b''),
                                  ((), sheet), (('--',), sheet), (('-',), sheet), (('-',), text), (('--', '-'), text)):
@@ -252,7 +252,8 @@ def kinds(place):
     rated, words = b'RATED 910787384 91 369794 8\n', 'methane number 91.0787\n'
     absent = (0, b'REFUSED 5\n', '5: methane is absent\n')
     for what, data, wanted in (
-            ('a tab first', b'\t' + table, (0, rated, words)), ('an empty line first', b'\n' + table, (0, rated, words)),
+            ('a tab first', b'\t' + table, (0, rated, words)),
+            ('an empty line first', b'\n' + table, (0, rated, words)),
             ('CR LF first', b'\r\n' + table, (0, rated, words)), ('a mark', b'\xef\xbb\xbf' + table, (0, rated, words)),
             ('UTF-16', b'\xff\xfe' + table.decode().encode('utf-16-le'), (0, rated, words)),
             ('a comment in another code', b'# \xe9\n' + table, (0, rated, words)),
@@ -272,6 +273,15 @@ def kinds(place):
     expect('lines where a sheet is read', got == (
         0, b'REFUSED 1\n', '1: the sheet is torn: it counts 109 components, and 12 are the most '
         '(it is text: for lines name the file, or - for standard input)\n'), got)
+    longest = ref.layout((0, 800000, 60000, 20000, 1000, 1000, 100, 1000, 1000, 0, 1000, 50000, 14900, 0, 0, 50000),
+                         (FOUND * 3)[:21])
+    assert len(longest) == ref.LONGEST
+    for data, wanted in ((longest, (7, LEFT % '21 records, of systems 4, 7, 8')),
+                         (longest + b'\n', (1, 'the sheet is torn: 12 components and 21 split records make 188 bytes, '
+                                                'and at least 1 byte is left over'))):
+        place.write('longest', data)
+        for got in (place.run(given=data), place.run('longest')):
+            expect('%d bytes' % len(data), got == (0, b'REFUSED %d\n' % wanted[0], '%d: %s\n' % wanted), got)
     # No sheet that passes refusals 1 to 4 is text, whatever its amounts and its split.
     draw = random.Random(3)
     text = bytes(b for b in range(256) if gas.is_text(bytes([b])))
@@ -282,7 +292,7 @@ def kinds(place):
             sheet = bytes([count]) + b''.join(bytes([c, *draw.choices(text, k=4)]) for c in codes) \
                 + bytes([9, *draw.choices(text, k=54)])
             expect('a sheet of text', gas.is_text(sheet) and ref.rate(sheet).number in (2, 3, 4), sheet.hex())
-    for _ in range(5000):
+    for _ in range(3000):
         codes = sorted(draw.sample(sorted(ref.RANGE), draw.randint(0, 12)))
         sheet = bytes([len(codes)]) + b''.join(bytes([c, *draw.choices(text, k=4)]) for c in codes) + bytes([9]) \
             + bytes(draw.choices(text, k=54))
@@ -301,7 +311,7 @@ def statuses(place):
                                  + 'rate: none: No such file or directory\nrate: .: Is a directory\n'
                                  + 'good: methane number 91.0787\n'), got)
     got = place.run('-', given=b'methan 97\n')
-    expect('standard input', got[:2] == (1, b'') and got[2].startswith("rate: standard input: line 1: 'methan' is"), got)
+    expect('standard input', got[:2] == (1, b'') and got[2].startswith("rate: standard input: line 1: 'methan' "), got)
     got = place.run('')
     expect('no name', got == (1, b'', 'rate: : No such file or directory\n'), got)
     for arguments in (('--help',), ('-h',), ('good', '--help'), ('-h', '--bad')):
@@ -314,7 +324,7 @@ def statuses(place):
     got = place.run(long)
     expect('2 MB of lines', got == (1, b'', 'rate: long: the lines have more than 1048576 bytes\n'), got)
     big = place.write('big', bytes(2 << 20))
-    for arguments, command in (((big,), '"$1" big'), ((), '"$1" < /dev/zero'), ((), 'cat big | "$1"')):
+    for command in ('"$1" %s' % big, '"$1" < /dev/zero', 'cat %s | "$1"' % big):
         got = place.shell(command)
         expect(command, got[:2] == (0, b'REFUSED 1\n') and ' bytes are left over\n' in got[2], got)
     for what, status, command in (
@@ -354,7 +364,8 @@ def words(place):
             expect(units, got == (0, line, 'methane number %s\n' % number), got)
     place.script(place.program, 'echo REFUSED 99\n')
     for got in (place.run(given=TABLE), place.run('table-a1.sheet')):
-        expect('a number of later', got == (0, b'REFUSED 99\n', "99: refused: README.md's table of refusals tells more\n"), got)
+        expect('a number of later', got == (
+            0, b'REFUSED 99\n', "99: refused: README.md's table of refusals tells more\n"), got)
     place.script(place.program, 'echo RATED 910787384 91 369794 8 EDGE\n')
     for got in (place.run(given=TABLE), place.run('table-a1.sheet')):
         expect('one field more', got[1:] == (b'RATED 910787384 91 369794 8 EDGE\n', 'methane number 91.0787\n'), got)
@@ -373,7 +384,8 @@ def words(place):
         sheet = bytes(sheet[:draw.randrange(len(sheet) + 1)] if draw.random() < 0.1 else sheet)
         for number in (*range(20), 99):
             said = explain.explain('REFUSED %d\n' % number, sheet)
-            expect('words', said.startswith('%d: ' % number) and '\n' not in said and said.isascii(), (number, sheet.hex()))
+            expect('words', said.startswith('%d: ' % number) and '\n' not in said and said.isascii(),
+                   (number, sheet.hex()))
         answer = ref.read(sheet)
         if isinstance(answer, ref.Refusal) and answer.number < 7:
             detail = explain.detail(answer.number, sheet)
@@ -399,7 +411,7 @@ def building(path, program):
     got = place.run('good', path=tools)
     expect('a build that fails', got == (2, b'', building_said + 'rt: check rate failed\n'), got)
     expect('help needs no build', place.run('--help', path=tools)[0] == 0, '')
-    place.script(os.path.join(place.bare, 'rt'), 'cat; cat "%s" >target/bin/rate; echo x >>built; /bin/chmod +x target/bin/rate\n'
+    place.script(os.path.join(place.bare, 'rt'), 'cat "%s" - >target/bin/rate; /bin/chmod +x target/bin/rate\n'
                  % os.path.abspath(program))
     rated = b'RATED 910787384 91 369794 8\n'
     got = place.run('-', given=tool.lines(TABLE), path=tools)

@@ -296,8 +296,8 @@ def amount(draw):
 def no_traceback():
     """Whatever bytes are given, each way ends with its output or with a message."""
     draw = random.Random(2)
-    words = [b'methane', b'C1', b'hexanes+', b'split', b'4', b'97,0797', b'%', b'#', b'"', b"'", b'.', b',', b' ', b'\0',
-             b'\x01', b'\t', b'\n', b'\r', b'\xff', b'\xef\xbb\xbf', b'\xff\xfe', b'\xe2\x82\x82']
+    words = [b'methane', b'C1', b'hexanes+', b'split', b'4', b'97,0797', b'%', b'#', b'"', b"'", b'.', b',', b' ',
+             b'\0', b'\x01', b'\t', b'\n', b'\r', b'\xff', b'\xef\xbb\xbf', b'\xff\xfe', b'\xe2\x82\x82']
     count = 0
     for _ in range(5000):
         data = b' '.join(draw.choices(words, k=draw.randint(0, 12))) if draw.random() < 0.7 \
