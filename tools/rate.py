@@ -1,0 +1,62 @@
+"""The files that ./rate names: each one's line on standard output, and what it means on standard error.
+
+  python3 tools/rate.py PROGRAM FILE...        PROGRAM is the display program; ./rate --help tells the rest
+"""
+import subprocess
+import sys
+
+sys.dont_write_bytecode = True
+import gas  # noqa: E402
+import sheet  # noqa: E402
+from explain import explain  # noqa: E402
+from sheet import content, put, say  # noqa: E402
+
+
+def answer(program, data):
+    """The status and the line of the display program."""
+    run = subprocess.run([program], input=data, stdout=subprocess.PIPE)
+    return run.returncode, run.stdout
+
+
+def rate(program, data, start):
+    """Rates a sheet; 0, or 2 where the program failed."""
+    status, line = answer(program, data)
+    put(line)
+    if status:
+        say('rate: %sthe display program ended with status %d' % (start, status))
+        return 2
+    words = explain(line.decode('ascii', 'replace'), data)
+    if words:
+        say(start + words)
+    return 0
+
+
+def main():
+    program, *names = sys.argv[1:]
+    worst, standard_input = 0, None
+    for name in names:
+        try:
+            if name != '-':
+                data = content(name)
+            else:
+                data = standard_input = content(name) if standard_input is None else standard_input
+            if gas.is_text(data):
+                data = sheet.of_lines(data)
+        except (OSError, ValueError) as wrong:
+            say('rate: %s: %s' % ('standard input' if name == '-' else name, getattr(wrong, 'strerror', None) or wrong))
+            worst = max(worst, 1)
+            continue
+        worst = max(worst, rate(program, data, name + ': ' if len(names) > 1 else ''))
+    return worst
+
+
+if __name__ == '__main__':
+    try:
+        sys.exit(main())
+    except BrokenPipeError:
+        sys.exit(1)
+    except OSError as wrong:
+        say('rate: %s' % wrong)
+        sys.exit(2)
+    except KeyboardInterrupt:
+        sys.exit(130)
