@@ -49,7 +49,7 @@ use Rattle.outcome.specs.Laws.Ends.{amounts-long, read-long}
 use Rattle.outcome.specs.declared.Outcome.{Outcome}
 use Rattle.demand.specs.Laws.Sheets.{read-searched, read-own}
 use Rattle.demand.specs.RatedSheets.{analysisIn}
-use Rattle.kept.specs.BeforeCheck as check
+use Rattle.kept.specs.Laws.BeforeCheck as check
 use Rattle.kept.specs.BeforeCheck.{registerBefore}
 use Rattle.kept.specs.BeforeMixture.{simplifiedBefore, inertBefore}
 use Rattle.kept.specs.Laws.BeforeMixture.{no-hydrogen}
@@ -69,6 +69,7 @@ refusalBeforeFive a = refusalIn (requiring requiredBefore registerBefore) a
 pub before-exactly-when : (a : List ℕ) → length a ≡ CODES
     → (refusalBeforeFive a ≡ 0)
     ↔ ((InRange a × (getD a 15 0 ≡ 0)) × ((k : ℕ) → isIn k requiredBefore ≡ true → 0 < getD a k 0))
+unfolding isIn
 before-exactly-when a long = (
   λ h. (check.before-exactly-when a long .0 (exactly .0 h .0), exactly .0 h .1),
   λ h. exactly .1 (check.before-exactly-when a long .1 (h .0), h .1),
@@ -103,7 +104,7 @@ searchBeforeFive a allowance code =
 
 -- the gas of 001 Table A.1 passed; one of methane and ethane alone was refused 5
 pub passed-before : (refusalBeforeFive tableA1 ≡ 0) × (refusalBeforeFive methaneEthane ≡ 5)
-unfolding refusalIn totalFits
+unfolding refusalIn totalFits isIn
 passed-before = (refl, refl)
 
 -- ---- an analysis that 5 and 6 let pass before

@@ -6,7 +6,7 @@ use mathlib.Core.List.{List, [], _∷_}
 use Prim.Native.Nat.{_≤_}
 use native.Mathlib.Omega.{arith}
 use lib.ListN.{getD, take}
-use Rattle.refusal.specs.Keys.{allIn}
+use Rattle.refusal.specs.Keys.{allIn, isIn}
 use Rattle.analysis.specs.Register.{Status, live, retired, splitsOnly, Entry, keysOf}
 use Rattle.sheet.specs.Split.{splitCounts}
 use Rattle.sheet.specs.Sheet.{LISTED}
@@ -42,4 +42,5 @@ codes-kept = refl
 
 -- a sheet's counts from before, up to 11 components and 0, 6 or 9 records, are allowed
 pub counts-kept : (11 ≤ LISTED) × (allIn (0 ∷ 6 ∷ 9 ∷ []) splitCounts ≡ true)
+unfolding isIn
 counts-kept = (omega arith, refl)

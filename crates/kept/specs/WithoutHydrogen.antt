@@ -48,7 +48,7 @@ use Rattle.outcome.specs.Laws.Ends.{amounts-long}
 use Rattle.outcome.specs.declared.Outcome.{Outcome}
 use Rattle.demand.specs.Laws.Sheets.{read-searched, read-own}
 use Rattle.demand.specs.RatedSheets.{analysisIn}
-use Rattle.kept.specs.BeforeCheck as check
+use Rattle.kept.specs.Laws.BeforeCheck as check
 use Rattle.kept.specs.BeforeCheck.{registerBefore}
 use Rattle.kept.specs.Laws.BeforeCheck.{without-kept}
 use Rattle.kept.specs.BeforeMixture.{simplifiedBefore}

@@ -71,7 +71,7 @@ module _ (ch : List ℕ) (k : ℕ) (without : Without ch k) (a b : List ℕ) (al
       go : (x : Bool) → betweenOf ch k m ≡ x
           → (x && (affordsIn BEFORE ch a d m && lowersIn BEFORE ch k a d m))
           ≡ (x && (affordsIn BLEND ch b d m && lowersIn BLEND ch k b d m))
-      go true e = ap₂ (affords-same d m h (between-true ch k m e .from) && lowers-same d m h)
+      go true e = ap₂ _&&_ (affords-same d m h (between-true ch k m e .from)) (lowers-same d m h)
       go false e = refl
 
   can-not : (d m : ℕ) → moveCount BEFORE ≤ m → m < moveCount BLEND → canIn BLEND ch k b d m ≡ false
