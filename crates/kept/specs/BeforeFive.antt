@@ -122,7 +122,7 @@ module _ (a : List ℕ) (long : length a ≡ CODES) (before : refusalBeforeFive 
 
   -- with ethane, propane and i-butane, and so all four components present
   pub all-four : (c : ℕ) → c < HYDROCARBONS → 0 < getD (mixOf a) c 0
-  unfolding tenthsOf
+  unfolding tenthsOf isIn
   all-four zero l = omega (arith, simplified-methane a long passes)
   all-four (suc zero) l = omega (arith, simplified-least a long passes 1 (omega arith) (omega (arith, then .1 2 refl)))
   all-four (suc (suc zero)) l =
