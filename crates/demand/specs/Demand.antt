@@ -34,8 +34,7 @@ use Rattle.sheet.specs.declared.Reading.the-variants.{Read}
 use Rattle.mixture.specs.Simplification.{simplifiedOf}
 use Rattle.mixture.specs.Inert.{inertFirst}
 use Rattle.systems.specs.Systems.{COMPONENTS, memberOf, hasOf}
-use Rattle.systems.specs.Laws.Members.{countTo}
-use Rattle.systems.specs.Choice.{presentAt, presentCount}
+use Rattle.systems.specs.Choice.{countTo, presentAt, presentCount}
 use Rattle.systems.specs.Laws.Presence.{present-is, present-in-is}
 use Rattle.systems.specs.Chosen.{two-chosen, three-chosen, five-chosen}
 use Rattle.split.specs.Fold.{sumTo}
@@ -57,8 +56,7 @@ use Rattle.outcome.specs.Laws.RatedOn.{on-exactly-when, too-few}
 use Rattle.outcome.specs.Laws.Ready.{choosable, chosen, room, filled, million, inert-million}
 use Rattle.outcome.specs.Laws.Ends.{read-passed, split-ends, split-few-exactly-when, search-few-exactly-when}
 use Rattle.outcome.specs.declared.Outcome.{Outcome}
-use Rattle.demand.specs.Laws.Answers.{expected-fit, fits-expected, expected-fits, split-by-records}
-use Rattle.demand.specs.Laws.Answers.{split-fits, split-rated, found-back}
+use Rattle.demand.specs.Laws.Answers.{expected-fit, fits-expected, expected-fits, split-by-records, split-fits, split-rated, found-back}
 use Rattle.demand.specs.Laws.Sheets.{accepted-ends, read-own, read-few, sheet-ends}
 use Rattle.demand.specs.RatedSheets.{analysisIn, splitRated, sheet-split}
 

@@ -1,5 +1,5 @@
 -- Amounts as bytes (document 01, "The register and the sheet"): four bytes, high byte first. Assumes nothing.
-use Prim.Native.Nat.{ℕ, _+_, _*_, _/_, _%_}
+use Prim.Native.Nat.{ℕ, _+_, _*_, _/_, _%_, _<_}
 use mathlib.Core.List.{List, [], _∷_}
 use lib.ListN.{getD}
 
@@ -13,3 +13,7 @@ fourBytesAt s at = fourBytes (getD s at 0) (getD s (at + 1) 0) (getD s (at + 2) 
 -- the four bytes of a number
 abbrev pub bytesOf : ℕ → List ℕ
 bytesOf x = x / 16777216 ∷ x / 65536 % 256 ∷ x / 256 % 256 ∷ x % 256 ∷ []
+
+-- each element is a byte
+abbrev pub Bytes : List ℕ → Type 0
+Bytes s = (i : ℕ) → getD s i 0 < 256

@@ -13,7 +13,7 @@ use Rattle.sheet.specs.ReadingCases.{faultOf}
 use Rattle.sheet.specs.WrittenCases as w
 use Rattle.sheet.specs.Read.{readOf, ReadAs}
 use Rattle.sheet.specs.Write.{writtenOf, leftOf, WrittenAs}
-use Rattle.sheet.specs.Laws.Forth.{Bytes}
+use Rattle.sheet.specs.Bytes.{Bytes}
 use Rattle.sheet.specs.RoundTrip.{Sized, Unused, asRead, read-written, read-written-same, written-read}
 
 -- `write` after `read`: the bytes of a sheet that reads come out again, in every buffer with room, whose rest stays

@@ -31,8 +31,9 @@ use Rattle.sheet.specs.Laws.Cases.{length-components, length-sheet, numb
 use Rattle.sheet.specs.Laws.Cases.{written-back, left-sheet}
 use Rattle.sheet.specs.Laws.Back.{unlisted, codes-back, zero-back, amounts-filled, rest-here, cut, cut-take}
 use Rattle.sheet.specs.Laws.Back.{split-back}
-use Rattle.sheet.specs.Laws.Forth.{Bytes, one, Filled, filled-forth, split-forth, column-forth}
-use Rattle.sheet.specs.Laws.Forth.{length-byte-column, length-amount-column}
+use Rattle.sheet.specs.Bytes.{Bytes}
+use Rattle.sheet.specs.Laws.Forth.{one, Filled, filled-forth, split-forth, column-forth, length-byte-column}
+use Rattle.sheet.specs.Laws.Forth.{length-amount-column}
 
 -- ---- how long a sheet is
 

@@ -2,7 +2,7 @@
 -- bytes. A split is its count and three columns. Assumes nothing.
 use Prim.Native.Nat.{ℕ, zero, suc, _+_, _-_}
 use mathlib.Core.List.{List, [], _∷_, _++_}
-use mathlib.Core.Bool.{Bool, true}
+use mathlib.Core.Bool.{Bool}
 use lib.ListN.{length, getD, take, replicate}
 use Rattle.refusal.specs.Keys.{isIn}
 use Rattle.sheet.specs.declared.Split.{Split}

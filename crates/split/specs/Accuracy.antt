@@ -10,44 +10,49 @@ use lib.IntN.{ℤ, natAbs}
 use Rattle.integer.specs.Figures.{MILLION}
 use Rattle.integer.specs.Fraction.{Within}
 use Rattle.split.specs.Fold.{sumTo}
-use Rattle.split.specs.Split.{CELLS, partsOf, Chosen, Sound}
+use Rattle.split.specs.Split.{CELLS, partsOf, Chosen, Sound, Clean, mixtureParts}
 use Rattle.split.specs.Rating.{ratingOf, proposedOf}
-use Rattle.split.specs.Laws.Clean.{Clean}
 use Rattle.split.specs.Exact.{NoneEmpty, exactRating}
 use Rattle.split.specs.Laws.Exact.{rating-within}
 use Rattle.split.specs.Fits.{Resums, Fit}
 use Rattle.split.specs.Rated.{IsRated, rated-fit, rated-is}
-use Rattle.split.specs.Laws.Sums.{totalOf, parts-le, parts-columns, resummed}
+use Rattle.split.specs.Laws.Sums.{parts-le, parts-columns, resummed}
 use Rattle.split.specs.Laws.Size.{spread-small, rating-small}
 use Rattle.split.specs.declared.Answer.the-variants.{Rated}
 
-module _ (ch : List ℕ) (k : ℕ) (mix a : List ℕ) (chosen : Chosen ch k) where
+module _ (systems : List ℕ) (count : ℕ) (mix cells : List ℕ) (chosen : Chosen systems count) where
   -- cells that re-sum to a million parts at most, with no system empty, can be worked out
-  pub fit-sound : length a ≡ CELLS → totalOf mix ≤ MILLION → Resums mix k a → NoneEmpty ch k a → Sound ch k a
+  pub fit-sound : length cells ≡ CELLS → mixtureParts mix ≤ MILLION → Resums mix count cells
+      → NoneEmpty systems count cells → Sound systems count cells
   fit-sound long few sums some =
-      record { stock = record { chosen = chosen; long = long; few = rw (resummed mix k a sums) few }; some = some }
+      record { stock = record { chosen = chosen; long = long; few = rw (resummed mix count cells sums) few };
+          some = some }
 
-  pub fit-few : totalOf mix ≤ MILLION → Resums mix k a → sumTo (partsOf ch a) k ≤ MILLION
-  fit-few few sums = omega (arith, parts-le ch k a chosen, resummed mix k a sums)
+  pub fit-few : mixtureParts mix ≤ MILLION → Resums mix count cells → sumTo (partsOf systems cells) count ≤ MILLION
+  fit-few few sums = omega (arith, parts-le systems count cells chosen, resummed mix count cells sums)
 
   -- a split that re-sums has exactly a million parts, so the mean is a weighted mean
-  pub fit-million : Clean ch k a → totalOf mix ≡ MILLION → Resums mix k a → sumTo (partsOf ch a) k ≡ MILLION
-  fit-million clean million sums = parts-columns ch k a chosen clean ∙ resummed mix k a sums ∙ million
+  pub fit-million : Clean systems count cells → mixtureParts mix ≡ MILLION → Resums mix count cells
+      → sumTo (partsOf systems cells) count ≡ MILLION
+  fit-million clean million sums =
+      parts-columns systems count cells chosen clean ∙ resummed mix count cells sums ∙ million
 
-  module _ (limit n1 : ℕ) (w : ℤ) (s n : ℕ) (is : proposedOf limit ch k mix a n1 ≡ Rated w s n) where
-    fit : Fit limit ch k mix a
-    fit = rated-fit limit ch k mix a n1 (subst IsRated (sym is) tt)
+  module _ (limit n1 : ℕ) (w : ℤ) (s n : ℕ) (is : proposedOf limit systems count mix cells n1 ≡ Rated w s n) where
+    fit : Fit limit systems count mix cells
+    fit = rated-fit limit systems count mix cells n1 (subst IsRated (sym is) tt)
 
-    rating-is : w ≡ ratingOf ch k a n1
-    rating-is = rated-is limit ch k mix a n1 w s n is .0
+    rating-is : w ≡ ratingOf systems count cells n1
+    rating-is = rated-is limit systems count mix cells n1 w s n is .0
 
     -- less than 40 units from the exact fraction at the same whole amounts
-    pub rated-within : totalOf mix ≤ MILLION → n1 ≤ MILLION → Within w (exactRating ch k a n1) 40
-    rated-within few l = rw rating-is (rating-within ch k a n1 (fit .some) (fit-few few (fit .sums)) l)
+    pub rated-within : mixtureParts mix ≤ MILLION → n1 ≤ MILLION → Within w (exactRating systems count cells n1) 40
+    rated-within few l = rw rating-is (rating-within systems count cells n1 (fit .some) (fit-few few (fit .sums)) l)
 
     -- below 2 ^ 53 in magnitude
-    pub rated-small : totalOf mix ≤ MILLION → natAbs w < 9007199254740992
-    rated-small few = rw rating-is (N.lt-of-le-of-lt (rating-small ch k a n1 (fit-few few (fit .sums))) (omega arith))
+    pub rated-small : mixtureParts mix ≤ MILLION → natAbs w < 9007199254740992
+    rated-small few =
+        rw rating-is (N.lt-of-le-of-lt (rating-small systems count cells n1 (fit-few few (fit .sums))) (omega arith))
 
     pub rated-spread-small : s < 9007199254740992
-    rated-spread-small = omega (arith, rated-is limit ch k mix a n1 w s n is .1, spread-small ch k a)
+    rated-spread-small =
+        omega (arith, rated-is limit systems count mix cells n1 w s n is .1, spread-small systems count cells)

@@ -6,10 +6,9 @@ use Prim.Native.Nat.{ℕ, _≤_}
 use lib.Dec.{ltb, leb}
 use Rattle.integer.specs.Figures.{MILLION}
 use Rattle.refusal.specs.Register.{WIDE}
-use Rattle.split.specs.Split.{rowNumber, Chosen}
+use Rattle.split.specs.Split.{rowNumber, Chosen, mixtureParts}
 use Rattle.split.specs.Rating.{spreadOf, ratingOf, proposedOf}
 use Rattle.split.specs.Find.{chosenFit, mixtureFit}
-use Rattle.split.specs.Laws.Sums.{totalOf}
 use Rattle.split.specs.declared.Answer.{Answer}
 use Rattle.split.specs.declared.Answer.the-variants.{Rated, Refused}
 use Rattle.split.specs.declared.Proposed.{Proposed}
@@ -34,5 +33,5 @@ ratedOf limit systems count cells n1 =
 -- input that is answered by the rules
 pub record Proposal (mix systems : List ℕ) (count n1 : ℕ) : Type 0 where
   pub chosen : Chosen systems count
-  pub few : totalOf mix ≤ MILLION
+  pub few : mixtureParts mix ≤ MILLION
   pub inert : n1 ≤ MILLION

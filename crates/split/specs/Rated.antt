@@ -33,39 +33,44 @@ verdict-9 b e w r h i = ap₂ (λ (x y : Bool). verdict x y w r) h i
 verdict-last : (b e w v : Bool) (r : Answer) → b ≡ true → e ≡ false → w ≡ v → verdict b e w r ≡ verdict true false v r
 verdict-last b e w v r h i j = ap₂ (λ (x y : Bool). verdict x y w r) h i ∙ ap (λ (z : Bool). verdict true false z r) j
 
-module _ (limit : ℕ) (ch : List ℕ) (k : ℕ) (mix a : List ℕ) (n1 : ℕ) where
+module _ (limit : ℕ) (systems : List ℕ) (count : ℕ) (mix cells : List ℕ) (n1 : ℕ) where
   abbrev spread : ℕ
-  spread = spreadOf (rowNumber ch a) k
+  spread = spreadOf (rowNumber systems cells) count
 
   abbrev rated : Answer
-  rated = Rated (ratingOf ch k a n1) spread 0
+  rated = Rated (ratingOf systems count cells n1) spread 0
 
-  pub proposed-unsummed : resums mix k a ≡ false → proposedOf limit ch k mix a n1 ≡ Refused 8 0
+  pub proposed-unsummed : resums mix count cells ≡ false → proposedOf limit systems count mix cells n1 ≡ Refused 8 0
   unfolding proposedOf
-  proposed-unsummed h = verdict-8 (resums mix k a) (someEmpty ch k a) _ rated h
+  proposed-unsummed h = verdict-8 (resums mix count cells) (someEmpty systems count cells) _ rated h
 
-  pub proposed-empty : resums mix k a ≡ true → someEmpty ch k a ≡ true → proposedOf limit ch k mix a n1 ≡ Refused 9 0
+  pub proposed-empty : resums mix count cells ≡ true → someEmpty systems count cells ≡ true
+      → proposedOf limit systems count mix cells n1 ≡ Refused 9 0
   unfolding proposedOf
-  proposed-empty h e = verdict-9 (resums mix k a) (someEmpty ch k a) _ rated h e
+  proposed-empty h e = verdict-9 (resums mix count cells) (someEmpty systems count cells) _ rated h e
 
-  pub proposed-wide : resums mix k a ≡ true → someEmpty ch k a ≡ false → ltb limit spread ≡ true
-      → proposedOf limit ch k mix a n1 ≡ Refused 10 0
+  pub proposed-wide : resums mix count cells ≡ true → someEmpty systems count cells ≡ false → ltb limit spread ≡ true
+      → proposedOf limit systems count mix cells n1 ≡ Refused 10 0
   unfolding proposedOf
-  proposed-wide h e w = verdict-last (resums mix k a) (someEmpty ch k a) (ltb limit spread) true rated h e w
+  proposed-wide h e w =
+      verdict-last (resums mix count cells) (someEmpty systems count cells) (ltb limit spread) true rated h e w
 
-  pub proposed-rated : resums mix k a ≡ true → someEmpty ch k a ≡ false → ltb limit spread ≡ false
-      → proposedOf limit ch k mix a n1 ≡ Rated (ratingOf ch k a n1) (spreadOf (rowNumber ch a) k) 0
+  pub proposed-rated : resums mix count cells ≡ true → someEmpty systems count cells ≡ false → ltb limit spread ≡ false
+      → proposedOf limit systems count mix cells n1 ≡ Rated (ratingOf systems count cells n1)
+      (spreadOf (rowNumber systems cells) count) 0
   unfolding proposedOf
-  proposed-rated h e w = verdict-last (resums mix k a) (someEmpty ch k a) (ltb limit spread) false rated h e w
+  proposed-rated h e w =
+      verdict-last (resums mix count cells) (someEmpty systems count cells) (ltb limit spread) false rated h e w
 
   -- ---- rated exactly when
 
   -- rated, with the rating and the spread, when the split is fit
-  pub fit-rated : Fit limit ch k mix a → proposedOf limit ch k mix a n1 ≡ Rated (ratingOf ch k a n1)
-      (spreadOf (rowNumber ch a) k) 0
+  pub fit-rated : Fit limit systems count mix cells
+      → proposedOf limit systems count mix cells n1 ≡ Rated (ratingOf systems count cells n1)
+      (spreadOf (rowNumber systems cells) count) 0
   fit-rated f =
-      proposed-rated (yes-resums mix k a (f .sums)) (no-empty ch k a (f .some))
-      (le-ltb limit spread (near-spread limit (rowNumber ch a) k (f .near)))
+      proposed-rated (yes-resums mix count cells (f .sums)) (no-empty systems count cells (f .some))
+      (le-ltb limit spread (near-spread limit (rowNumber systems cells) count (f .near)))
 
   passed : (b e w : Bool) (r : Answer) → IsRated (verdict b e w r) → (b ≡ true) × (e ≡ false) × (w ≡ false)
   passed false e w r t = absurd t
@@ -74,20 +79,22 @@ module _ (limit : ℕ) (ch : List ℕ) (k : ℕ) (mix a : List ℕ) (n1 : ℕ) w
   passed true false false r t = (refl, refl, refl)
 
   -- and only then
-  pub rated-fit : IsRated (proposedOf limit ch k mix a n1) → Fit limit ch k mix a
+  pub rated-fit : IsRated (proposedOf limit systems count mix cells n1) → Fit limit systems count mix cells
   unfolding proposedOf
   rated-fit t =
-      let (b, e, w) = passed (resums mix k a) (someEmpty ch k a) (ltb limit spread) rated t in
-      record { sums = resums-yes mix k a b; some = empty-no ch k a e; near = spread-near limit (rowNumber ch a) k
+      let (b, e, w) = passed (resums mix count cells) (someEmpty systems count cells) (ltb limit spread) rated t in
+      record { sums = resums-yes mix count cells b; some = empty-no systems count cells e; near = spread-near limit
+          (rowNumber systems cells) count
           (ltb-false limit spread w) }
 
-  pub rated-exactly-when : IsRated (proposedOf limit ch k mix a n1) ↔ Fit limit ch k mix a
+  pub rated-exactly-when : IsRated (proposedOf limit systems count mix cells n1) ↔ Fit limit systems count mix cells
   rated-exactly-when = (rated-fit, λ f. subst IsRated (sym (fit-rated f)) tt)
 
   -- and then with this rating and this spread
-  pub rated-is : (w : ℤ) (s n : ℕ) → proposedOf limit ch k mix a n1 ≡ Rated w s n → (w ≡ ratingOf ch k a n1)
-      × (s ≡ spreadOf (rowNumber ch a) k) × (n ≡ 0)
+  pub rated-is : (w : ℤ) (s n : ℕ) → proposedOf limit systems count mix cells n1 ≡ Rated w s n
+      → (w ≡ ratingOf systems count cells n1)
+      × (s ≡ spreadOf (rowNumber systems cells) count) × (n ≡ 0)
   rated-is w s n is =
-      let same : Rated w s n ≡ Rated (ratingOf ch k a n1) spread 0 = sym is
+      let same : Rated w s n ≡ Rated (ratingOf systems count cells n1) spread 0 = sym is
           ∙ fit-rated (rated-fit (subst IsRated (sym is) tt)) in
       (cc, cc, cc)

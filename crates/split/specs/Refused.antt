@@ -52,51 +52,61 @@ at-10 true true w x y h = absurd (omega (arith, ap numberOf h))
 at-10 true false true x y h = (refl, refl, refl)
 at-10 true false false x y h = absurd (omega (arith, ap numberOf h))
 
-module _ (limit : ℕ) (ch : List ℕ) (k : ℕ) (mix a : List ℕ) (n1 : ℕ) where
+module _ (limit : ℕ) (systems : List ℕ) (count : ℕ) (mix cells : List ℕ) (n1 : ℕ) where
   abbrev wide : Bool
-  wide = ltb limit (spreadOf (rowNumber ch a) k)
+  wide = ltb limit (spreadOf (rowNumber systems cells) count)
 
-  not-wide : wide ≡ false → EveryTwo limit (rowNumber ch a) k
-  not-wide w = spread-near limit (rowNumber ch a) k (ltb-false limit (spreadOf (rowNumber ch a) k) w)
+  not-wide : wide ≡ false → EveryTwo limit (rowNumber systems cells) count
+  not-wide w =
+      spread-near limit (rowNumber systems cells) count (ltb-false limit (spreadOf (rowNumber systems cells) count) w)
 
-  near-not-wide : EveryTwo limit (rowNumber ch a) k → wide ≡ false
-  near-not-wide n = le-ltb limit (spreadOf (rowNumber ch a) k) (near-spread limit (rowNumber ch a) k n)
+  near-not-wide : EveryTwo limit (rowNumber systems cells) count → wide ≡ false
+  near-not-wide n =
+      le-ltb limit (spreadOf (rowNumber systems cells) count) (near-spread limit (rowNumber systems cells) count n)
 
-  pub refused-8-exactly-when : (proposedOf limit ch k mix a n1 ≡ Refused 8 0) ↔ (Resums mix k a → ⊥)
+  pub refused-8-exactly-when : (proposedOf limit systems count mix cells n1 ≡ Refused 8 0)
+      ↔ (Resums mix count cells → ⊥)
   unfolding proposedOf
   refused-8-exactly-when = (
-    λ h r. differ (resums mix k a) (yes-resums mix k a r)
-    (at-8 (resums mix k a) (someEmpty ch k a) wide (ratingOf ch k a n1) (spreadOf (rowNumber ch a) k) h),
-    λ n. proposed-unsummed limit ch k mix a n1 (fails (resums mix k a) (resums-yes mix k a) n),
+    λ h r. differ (resums mix count cells) (yes-resums mix count cells r)
+    (at-8 (resums mix count cells) (someEmpty systems count cells) wide (ratingOf systems count cells n1)
+    (spreadOf (rowNumber systems cells) count) h),
+    λ n. proposed-unsummed limit systems count mix cells n1
+    (fails (resums mix count cells) (resums-yes mix count cells) n),
   )
 
-  pub refused-9-exactly-when : (proposedOf limit ch k mix a n1 ≡ Refused 9 0)
-      ↔ (Resums mix k a × (NoneEmpty ch k a → ⊥))
+  pub refused-9-exactly-when : (proposedOf limit systems count mix cells n1 ≡ Refused 9 0)
+      ↔ (Resums mix count cells × (NoneEmpty systems count cells → ⊥))
   unfolding proposedOf
   refused-9-exactly-when = (
-    λ h. let (b, e) = at-9 (resums mix k a) (someEmpty ch k a) wide (ratingOf ch k a n1) (spreadOf (rowNumber ch a) k)
+    λ h. let (b, e) = at-9 (resums mix count cells) (someEmpty systems count cells) wide
+    (ratingOf systems count cells n1) (spreadOf (rowNumber systems cells) count)
     h in
-        (resums-yes mix k a b, λ n. differ (someEmpty ch k a) e (no-empty ch k a n)),
-    λ g. proposed-empty limit ch k mix a n1 (yes-resums mix k a (g .0))
-    (holds (someEmpty ch k a) (empty-no ch k a) (g .1)),
+        (resums-yes mix count cells b, λ n. differ (someEmpty systems count cells) e (no-empty systems count cells n)),
+    λ g. proposed-empty limit systems count mix cells n1 (yes-resums mix count cells (g .0))
+    (holds (someEmpty systems count cells) (empty-no systems count cells) (g .1)),
   )
 
-  pub refused-10-exactly-when : (proposedOf limit ch k mix a n1 ≡ Refused 10 0)
-      ↔ (Resums mix k a × NoneEmpty ch k a × (EveryTwo limit (rowNumber ch a) k → ⊥))
+  pub refused-10-exactly-when : (proposedOf limit systems count mix cells n1 ≡ Refused 10 0)
+      ↔ (Resums mix count cells × NoneEmpty systems count cells × (EveryTwo limit (rowNumber systems cells) count → ⊥))
   unfolding proposedOf
   refused-10-exactly-when = (
-    λ h. let (b, e, w) = at-10 (resums mix k a) (someEmpty ch k a) wide (ratingOf ch k a n1)
-    (spreadOf (rowNumber ch a) k) h in
-        (resums-yes mix k a b, empty-no ch k a e, λ n. differ wide w (near-not-wide n)),
-    λ g. proposed-wide limit ch k mix a n1 (yes-resums mix k a (g .0)) (no-empty ch k a (g .1))
+    λ h. let (b, e, w) = at-10 (resums mix count cells) (someEmpty systems count cells) wide
+    (ratingOf systems count cells n1)
+    (spreadOf (rowNumber systems cells) count) h in
+        (resums-yes mix count cells b, empty-no systems count cells e, λ n. differ wide w (near-not-wide n)),
+    λ g. proposed-wide limit systems count mix cells n1 (yes-resums mix count cells (g .0))
+    (no-empty systems count cells (g .1))
     (holds wide not-wide (g .2)),
   )
 
 -- a wider limit never turns a rated split into a refused one, and the rating stays
-pub wider : (limit limit′ : ℕ) (ch : List ℕ) (k : ℕ) (mix a : List ℕ) (n1 : ℕ) (w : ℤ) (s n : ℕ) → limit ≤ limit′
-    → proposedOf limit ch k mix a n1 ≡ Rated w s n → proposedOf limit′ ch k mix a n1 ≡ Rated w s n
-wider limit limit′ ch k mix a n1 w s n l is =
-    let f = rated-fit limit ch k mix a n1 (subst IsRated (sym is) tt) in
-    fit-rated limit′ ch k mix a n1
+pub wider : (limit limit′ : ℕ) (systems : List ℕ) (count : ℕ) (mix cells : List ℕ) (n1 : ℕ) (w : ℤ) (s n : ℕ)
+    → limit ≤ limit′
+    → proposedOf limit systems count mix cells n1 ≡ Rated w s n
+    → proposedOf limit′ systems count mix cells n1 ≡ Rated w s n
+wider limit limit′ systems count mix cells n1 w s n l is =
+    let f = rated-fit limit systems count mix cells n1 (subst IsRated (sym is) tt) in
+    fit-rated limit′ systems count mix cells n1
         (record { sums = f .sums; some = f .some; near = λ i j p q. N.le-trans (f .near i j p q) l })
-    ∙ sym (fit-rated limit ch k mix a n1 f) ∙ is
+    ∙ sym (fit-rated limit systems count mix cells n1 f) ∙ is

@@ -6,7 +6,7 @@
 -- lacks is 0.
 use Prim.Native.Nat.{ℕ, _+_, _*_, _/_, _%_, _≤_, _<_}
 use mathlib.Core.List.{List}
-use mathlib.Core.Bool.{Bool, cond, _&&_}
+use mathlib.Core.Bool.{Bool, cond, _&&_, false}
 use mathlib.Core.Path.{_≡_}
 use lib.Dec.{ltb, eqb}
 use lib.ListN.{getD, length}
@@ -45,6 +45,10 @@ partsOf systems cells s = amountOf systems cells s 0 + amountOf systems cells s 
 -- component c's amounts in the rows, added
 unfoldable pub columnOf : ℕ → List ℕ → ℕ → ℕ
 columnOf count cells c = sumTo (λ s. cellOf cells s c) count
+
+-- the parts of a mixture
+abbrev pub mixtureParts : List ℕ → ℕ
+mixtureParts mix = sumTo (λ c. getD mix c 0) COMPONENTS
 
 -- row s's partial number, as worked out
 unfoldable pub rowNumber : List ℕ → List ℕ → ℕ → ℤ
@@ -105,3 +109,7 @@ pub record Stock (systems : List ℕ) (count : ℕ) (cells : List ℕ) : Type 0 
 pub record Sound (systems : List ℕ) (count : ℕ) (cells : List ℕ) : Type 0 where
   pub stock : Stock systems count cells
   pub some : (s : ℕ) → s < count → 1 ≤ partsOf systems cells s
+
+-- a cell of a row beyond those that count, or of a component that its row's system lacks, is 0
+pub record Clean (systems : List ℕ) (count : ℕ) (cells : List ℕ) : Type 0 where
+  pub none : (s c : ℕ) → c < COMPONENTS → heldOf systems count s c ≡ false → cellOf cells s c ≡ 0

@@ -1,5 +1,5 @@
 -- The split that a search begins with (document 01, "The search"). Assumes nothing.
-use Prim.Native.Nat.{ℕ, _+_, _/_, _%_}
+use Prim.Native.Nat.{ℕ, _+_, _/_, _%_, _<_}
 use mathlib.Core.List.{List}
 use mathlib.Core.Bool.{cond}
 use lib.Dec.{ltb}
@@ -7,6 +7,8 @@ use lib.ListN.{getD}
 use Rattle.systems.specs.Systems.{COMPONENTS, hasOf}
 use Rattle.split.specs.Fold.{sumTo, table}
 use Rattle.split.specs.Split.{CELLS, systemOf, heldOf}
+use mathlib.Core.Path.{_≡_}
+use mathlib.Core.Logic.{_⊎_}
 
 -- how many of the first n chosen systems contain component c
 unfoldable pub sharersOf : List ℕ → ℕ → ℕ → ℕ
@@ -26,3 +28,7 @@ startCell mix systems count i = startAmount mix systems count (i / COMPONENTS) (
 
 unfoldable pub startOf : List ℕ → List ℕ → ℕ → List ℕ
 startOf mix systems count = table (startCell mix systems count) CELLS 0
+
+-- the mixture has none of component c, or a chosen system contains it
+abbrev pub Shared : List ℕ → List ℕ → ℕ → ℕ → Type 0
+Shared mix systems count c = (getD mix c 0 ≡ 0) ⊎ (0 < sharersOf systems c count)

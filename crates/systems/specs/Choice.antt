@@ -181,3 +181,8 @@ choiceFrom l = record { count = length l; systems = paddedOf l }
 
 abbrev pub choiceOf : List ℕ → Choice
 choiceOf mix = choiceFrom (chooseOf mix)
+
+-- the number of the numbers below n that the test passes at
+unfoldable pub countTo : (ℕ → Bool) → ℕ → ℕ
+countTo f zero = 0
+countTo f (suc n) = countTo f n + cond (f n) 1 0

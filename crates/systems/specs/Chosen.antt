@@ -19,13 +19,12 @@ use borrow.Author.Tests.{eqb-true, eq-eqb, ne-eqb, ltb-true, ltb-false, lt-ltb, 
 use Rattle.refusal.specs.Keys.{isIn}
 use Rattle.systems.specs.Systems.{COMPONENTS, METHANE, HYDROGEN, memberOf, hasOf, Candidate}
 use Rattle.systems.specs.Laws.Table.{of-true, to-true, every, each, everyTo, eachTo}
-use Rattle.systems.specs.Laws.Members.{countTo}
+use Rattle.systems.specs.Choice.{countTo, NUMBERS, order, fold, maskFrom, maskOf, inMask, presentOf}
+use Rattle.systems.specs.Choice.{presentCount, presentIn, keep, containingOf, openOf, fittestOf, takeOf}
+use Rattle.systems.specs.Choice.{passOf, marksOf, listOf, chosenOf, chooseBy, chooseOf, paddedOf, choiceOf}
+use Rattle.systems.specs.Choice.{standingOf, candidatesFor, candidatesOf}
 use Rattle.systems.specs.Laws.Presence.{present-is, present-lt, standing-more, offered-candidate}
 use Rattle.systems.specs.Fittest.{elem-here, elem-there, rises, Fittest, fittest-is}
-use Rattle.systems.specs.Choice.{NUMBERS, order, fold, maskFrom, maskOf, inMask, presentOf, presentCount}
-use Rattle.systems.specs.Choice.{presentIn, keep, containingOf, openOf, fittestOf, takeOf, passOf, marksOf}
-use Rattle.systems.specs.Choice.{listOf, chosenOf, chooseBy, chooseOf, paddedOf, choiceOf, standingOf}
-use Rattle.systems.specs.Choice.{candidatesFor, candidatesOf}
 
 -- the test passes at some number of the list
 abbrev pub some : (ℕ → Bool) → List ℕ → Bool

@@ -20,7 +20,8 @@ use Rattle.split.specs.Split.{RECORDS, cellsOf}
 use Rattle.split.specs.Rating.{ratingOf, proposedOf, LIMIT}
 use Rattle.split.specs.Rated.{IsRated, rated-is}
 use Rattle.split.specs.Search.{FIRST_LEVEL}
-use Rattle.split.specs.Laws.Finds.{Balance, input-fits, find-search, find-balanced}
+use Rattle.split.specs.Find.{Balance}
+use Rattle.split.specs.Laws.Finds.{input-fits, find-search, find-balanced}
 use Rattle.split.specs.PutBack.{put-back-records}
 use Rattle.split.specs.declared.Answer.{Answer}
 use Rattle.split.specs.declared.Answer.the-variants.{Rated, Refused}
@@ -28,8 +29,7 @@ use Rattle.split.specs.declared.Search.{Search}
 use Rattle.split.specs.declared.Search.the-variants.{Balanced, Unbalanced, Unfit}
 use Rattle.split.specs.declared.Found.{Found}
 use Rattle.outcome.specs.Records.{systemAt, codeAt, systemsOf, codesOf, matchesAt, fitsOf}
-use Rattle.outcome.specs.Rate.{ROUNDS, mixOf, systemsFor, countFor, ratingRefusal, checkedBy, splitBy, splitAnswer}
-use Rattle.outcome.specs.Rate.{recordsOf, outcome, foundBy, foundOutcome, searched, searchOutcome}
+use Rattle.outcome.specs.Rate.{ROUNDS, mixOf, systemsFor, countFor, ratingRefusal, checkedBy, splitBy, splitAnswer, recordsOf, outcome, foundBy, foundOutcome, searched, searchOutcome}
 use Rattle.outcome.specs.RatedOn.{RatedOn}
 use Rattle.outcome.specs.Laws.Ready.{room, shared, input}
 use Rattle.outcome.specs.declared.Outcome.{Outcome}

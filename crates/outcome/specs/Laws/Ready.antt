@@ -16,18 +16,15 @@ use Rattle.analysis.specs.Check as analysis
 use Rattle.analysis.specs.Laws.Ranges.{NoneOr, total-go, total-end}
 use Rattle.mixture.specs.Simplification.{simplifiedOf}
 use Rattle.mixture.specs.Inert.{inertFirst}
-use Rattle.mixture.specs.Laws.Bounds.{LEAST_PARTS, simplified-length, simplified-total, simplified-or-absent}
-use Rattle.mixture.specs.Laws.Bounds.{inert-greatest, tenths-positive, simplified-methane}
+use Rattle.mixture.specs.Laws.Bounds.{LEAST_PARTS, simplified-length, simplified-total, simplified-or-absent, inert-greatest, tenths-positive, simplified-methane}
 use Rattle.systems.specs.Systems.{COMPONENTS, hasOf}
-use Rattle.systems.specs.Laws.Members.{countTo}
-use Rattle.systems.specs.Choice.{presentAt, presentOf}
+use Rattle.systems.specs.Choice.{countTo, presentAt, presentOf}
 use Rattle.systems.specs.Laws.Presence.{present-is, Supply, supply}
 use Rattle.systems.specs.Chosen.{Choosable, choice-choosable, Filled, choice-filled}
 use Rattle.split.specs.Fold.{sumTo}
-use Rattle.split.specs.Split.{RECORDS, systemOf, Chosen}
-use Rattle.split.specs.Laws.Sums.{totalOf}
-use Rattle.split.specs.Start.{sharersOf}
-use Rattle.split.specs.Laws.Starts.{Shared, Supplied}
+use Rattle.split.specs.Split.{RECORDS, systemOf, Chosen, mixtureParts}
+use Rattle.split.specs.Start.{sharersOf, Shared}
+use Rattle.split.specs.Laws.Starts.{Supplied}
 use Rattle.split.specs.Search.{FIRST_LEVEL}
 use Rattle.split.specs.Laws.Finds.{SearchInput, enough-parts}
 use Rattle.outcome.specs.Rate.{mixOf, systemsFor, countFor}
@@ -53,7 +50,7 @@ total-to mix (suc n) h =
           (λ (k : ℕ). analysis.totalOf (drop k mix)) (add-one n),
     )
 
-total-is : (mix : List ℕ) → length mix ≡ COMPONENTS → analysis.totalOf mix ≡ totalOf mix
+total-is : (mix : List ℕ) → length mix ≡ COMPONENTS → analysis.totalOf mix ≡ mixtureParts mix
 total-is mix h = omega (arith, total-to mix COMPONENTS (omega arith), total-end COMPONENTS mix (omega arith))
 
 module _ (a : List ℕ) (on : RatedOn a) where
@@ -80,7 +77,7 @@ module _ (a : List ℕ) (on : RatedOn a) where
       go false e = inl (omega (arith, ltb-false 0 (getD (mixOf a) c 0) e))
 
 module _ (a : List ℕ) (long : length a ≡ CODES) (on : RatedOn a) where
-  pub million : totalOf (mixOf a) ≡ MILLION
+  pub million : mixtureParts (mixOf a) ≡ MILLION
   million =
       sym (total-is (simplifiedOf a) (simplified-length a))
       ∙ simplified-total a (tenths-positive a long (on-passed a on .0))

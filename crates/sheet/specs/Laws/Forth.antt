@@ -10,7 +10,7 @@ use lib.Dec.{eqb, leb}
 use borrow.Author.Tests.{ne-eqb, eqb-true, eqb-false, leb-true, leb-false}
 use Rattle.analysis.specs.Register.{CODES, statusOf}
 use Rattle.sheet.specs.declared.Reading.the-variants.{Read, Refused}
-use Rattle.sheet.specs.Bytes.{fourBytes, fourBytesAt, bytesOf}
+use Rattle.sheet.specs.Bytes.{fourBytes, fourBytesAt, bytesOf, Bytes}
 use Rattle.sheet.specs.Components.{refusalBy, codeRefusal, codesReading, amountsFrom, zeroListed, countOf}
 use Rattle.sheet.specs.Components.{componentBytes}
 use Rattle.sheet.specs.Split.{RECORDS, padded, recordBytes, byteColumn, amountColumn}
@@ -26,10 +26,6 @@ bytes-number a b c d ha hb hc hd =
     let r : (a * 16777216 + b * 65536 + c * 256 + d) / 256 % 256 ≡ c = omega arith in
     let s : (a * 16777216 + b * 65536 + c * 256 + d) % 256 ≡ d = omega arith in
     rw (p, q, r, s)
-
--- each element is a byte
-abbrev pub Bytes : List ℕ → Type 0
-Bytes s = (i : ℕ) → getD s i 0 < 256
 
 module _ (s : List ℕ) (bytes : Bytes s) where
   -- the byte at `at`, and the next place

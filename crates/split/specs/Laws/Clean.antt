@@ -6,12 +6,8 @@ use mathlib.Core.Path.{_≡_, refl}
 use native.Mathlib.Omega.{arith}
 use lib.Dec.{ltb}
 use borrow.Author.Tests.{lt-ltb, ltb-true}
-use Rattle.systems.specs.Systems.{COMPONENTS, hasOf}
-use Rattle.split.specs.Split.{cellOf, systemOf, heldOf}
-
--- a cell of a row beyond the k, or of a component that its row's system lacks, is 0
-pub record Clean (ch : List ℕ) (k : ℕ) (a : List ℕ) : Type 0 where
-  pub none : (s c : ℕ) → c < COMPONENTS → heldOf ch k s c ≡ false → cellOf a s c ≡ 0
+use Rattle.systems.specs.Systems.{hasOf}
+use Rattle.split.specs.Split.{systemOf, heldOf}
 
 -- a row that holds a component is one of the k, and its system contains it
 pub held-row : (ch : List ℕ) (k s c : ℕ) → heldOf ch k s c ≡ true → (s < k) × (hasOf (systemOf ch s) c ≡ true)

@@ -9,13 +9,13 @@ use lib.Dec.{ltb}
 use lib.ListN.{length, List·getD-eq-default}
 use borrow.Author.Tests.{ltb-true, ltb-false}
 use Rattle.systems.specs.Systems.{COMPONENTS}
-use Rattle.split.specs.Split.{SYSTEMS, CELLS, cellOf, heldOf, Sound}
+use Rattle.split.specs.Split.{SYSTEMS, CELLS, cellOf, heldOf, Sound, Clean}
 use Rattle.split.specs.Start.{startAmount, startCell, startOf}
 use Rattle.split.specs.Move.{componentOf, giverOf, takerOf, movedOf}
 use Rattle.split.specs.Search.{turnOf, stepOf, runOf}
 use Rattle.split.specs.declared.Turn.the-variants.{Move}
 use Rattle.split.specs.Laws.Tables.{length-table, getD-table}
-use Rattle.split.specs.Laws.Clean.{Clean, row-held}
+use Rattle.split.specs.Laws.Clean.{row-held}
 use Rattle.split.specs.Laws.Tests.{MayMove, Between}
 use Rattle.split.specs.Laws.Moves.{cell-same}
 use Rattle.split.specs.Laws.Steps.{bt, component-low}

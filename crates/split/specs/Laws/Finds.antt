@@ -15,20 +15,19 @@ use Rattle.refusal.specs.Keys.{isIn}
 use Rattle.formula.specs.WorkingRule.{LARGEST}
 use Rattle.systems.specs.Systems.{COMPONENTS, candidates}
 use Rattle.split.specs.Fold.{sumTo}
-use Rattle.split.specs.Split.{SYSTEMS, CELLS, systemOf, partsOf, columnOf, rowNumber, Chosen, Stock, Sound}
-use Rattle.split.specs.Rating.{spreadOf, someEmpty}
-use Rattle.split.specs.Start.{startOf}
+use Rattle.split.specs.Split.{SYSTEMS, CELLS, systemOf, partsOf, columnOf, rowNumber, Chosen, Stock, Sound, Clean, mixtureParts}
+use Rattle.split.specs.Rating.{someEmpty}
+use Rattle.split.specs.Start.{startOf, Shared}
 use Rattle.split.specs.Move.{imbalanceOf}
 use Rattle.split.specs.Search.{FIRST_LEVEL, foundOf, searchOf}
-use Rattle.split.specs.Find.{chosenFit, mixtureFit, searchFit, findOf}
+use Rattle.split.specs.Find.{chosenFit, mixtureFit, searchFit, findOf, Balance}
 use Rattle.split.specs.declared.Search.the-variants.{Balanced, Unfit}
 use Rattle.split.specs.declared.Found.{Found}
 use Rattle.split.specs.Laws.Folds.{all-each, all-of, some-each, some-of}
 use Rattle.split.specs.Laws.Members.{both-left, both-right}
-use Rattle.split.specs.Laws.Starts.{Shared, Supplied, start-sums, start-stock, start-sound}
+use Rattle.split.specs.Laws.Starts.{Supplied, start-sums, start-stock, start-sound}
 use Rattle.split.specs.Laws.Runs.{Reached, reached-kept, reached-falls, reached-rounds, result-kept}
 use Rattle.split.specs.Laws.Runs.{result-says, result-rounds, larger-allowance, result-fit}
-use Rattle.split.specs.Laws.Clean.{Clean}
 use Rattle.split.specs.Laws.Size.{number-small}
 use Rattle.split.specs.Laws.CleanCells.{start-clean, reached-clean, result-clean}
 
@@ -78,7 +77,7 @@ none-empty ch k a so =
 -- an input that the search takes
 pub record SearchInput (mix ch : List ℕ) (k level : ℕ) : Type 0 where
   pub low : level ≤ FIRST_LEVEL
-  pub few : sumTo (λ c. getD mix c 0) COMPONENTS ≤ MILLION
+  pub few : mixtureParts mix ≤ MILLION
   pub chosen : Chosen ch k
   pub sound : Sound ch k (startOf mix ch k)
 
@@ -161,15 +160,6 @@ reached-state {mix} {ch} {k} {limit} {level} {allowance} {b} i x =
     }
 
 -- ---- what is found: a split with the spread and the rounds that are answered
-
-pub record Balance (mix ch : List ℕ) (k limit allowance : ℕ) (a : List ℕ) (s r : ℕ) : Type 0 where
-  pub chosen : Chosen ch k
-  pub sound : Sound ch k a
-  pub clean : Clean ch k a
-  pub sums : (c : ℕ) → c < COMPONENTS → Shared mix ch k c → columnOf k a c ≡ getD mix c 0
-  pub spread : s ≡ spreadOf (rowNumber ch a) k
-  pub within : s ≤ limit
-  pub rounds : r ≤ allowance
 
 module _ (mix ch : List ℕ) (k limit level allowance : ℕ) where
   searched : SearchInput mix ch k level → (s r : ℕ)

@@ -11,9 +11,9 @@ use lib.Seq.{ext-getD}
 use borrow.Author.Tests.{lt-ltb, le-ltb, ltb-true, ltb-false}
 use Rattle.systems.specs.Systems.{COMPONENTS}
 use Rattle.split.specs.Split.{SYSTEMS, CELLS, RECORDS, cellOf, systemOf, heldOf, rankOf, componentAt, cellsOf}
-use Rattle.split.specs.Split.{amountsOf, Chosen, amountAt, cellAt, recordedIn}
+use Rattle.split.specs.Split.{amountsOf, Chosen, amountAt, cellAt, recordedIn, Clean}
 use Rattle.split.specs.Laws.Tables.{length-table, getD-table}
-use Rattle.split.specs.Laws.Clean.{Clean, held-row, row-held}
+use Rattle.split.specs.Laws.Clean.{held-row, row-held}
 use Rattle.split.specs.Laws.Places.{rank-lt, component-rank, component-lt, component-has, rank-component}
 
 module _ (ch : List ℕ) (k : ℕ) where

@@ -2,7 +2,7 @@
 use Prim.Native.Nat.{ℕ, zero, suc, _+_, _*_, _-_, _/_, _%_, _≤_, _<_, min}
 use mathlib.Core.Path.{_≡_, refl, sym, ap, ap₂, _∙_}
 use mathlib.Core.Bool.{Bool, true, false, cond}
-use mathlib.Core.Logic.{_⊎_, inl, inr}
+use mathlib.Core.Logic.{inl, inr}
 use mathlib.Core.List.{List}
 use native.Mathlib.Nat as N
 use native.Mathlib.Omega.{arith}
@@ -14,7 +14,7 @@ use Rattle.systems.specs.Systems.{COMPONENTS, memberOf, hasOf}
 use Rattle.systems.specs.Laws.Members.{has-cases}
 use Rattle.split.specs.Fold.{sumTo}
 use Rattle.split.specs.Split.{SYSTEMS, CELLS, cellOf, systemOf, partsOf, columnOf, heldOf, Chosen, Stock, Sound}
-use Rattle.split.specs.Start.{sharersOf, shareOf, startAmount, startCell, startOf}
+use Rattle.split.specs.Start.{sharersOf, shareOf, startAmount, startCell, startOf, Shared}
 use Rattle.split.specs.Laws.Tables.{length-table, getD-table}
 use Rattle.split.specs.Laws.Folds.{sum-le, sum-more, sum-none, sum-same, sum-has}
 
@@ -56,10 +56,6 @@ ranked p f (suc j) = go (p j) refl (ranked p f j)
         (sumTo (λ r. cond (p r) 1 0) (suc j))
     go true e ih = rw e (sum-more f (sumTo (λ r. cond (p r) 1 0) j) _ _ ih refl)
     go false e ih = rw (e, N.add-zero, N.add-zero) ih
-
--- the mixture has none of component c, or a chosen system contains it
-abbrev pub Shared : List ℕ → List ℕ → ℕ → ℕ → Type 0
-Shared mix ch k c = (getD mix c 0 ≡ 0) ⊎ (0 < sharersOf ch c k)
 
 -- the start
 module _ (mix ch : List ℕ) (k : ℕ) (most : k ≤ SYSTEMS) where

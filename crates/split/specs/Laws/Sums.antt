@@ -12,13 +12,8 @@ use Rattle.systems.specs.Systems.{COMPONENTS, memberOf, hasOf, Candidate}
 use Rattle.systems.specs.Laws.Members.{member-lt, members-apart}
 use Rattle.split.specs.Fold.{sumTo}
 use Rattle.split.specs.Laws.Folds.{sum-le, sum-same, sum-but}
-use Rattle.split.specs.Split.{cellOf, systemOf, partsOf, columnOf, heldOf, Chosen}
-use Rattle.split.specs.Laws.Clean.{Clean}
+use Rattle.split.specs.Split.{cellOf, systemOf, partsOf, columnOf, heldOf, Chosen, Clean, mixtureParts}
 use Rattle.split.specs.Fits.{Resums}
-
--- the parts of a mixture
-abbrev pub totalOf : List ℕ → ℕ
-totalOf mix = sumTo (λ c. getD mix c 0) COMPONENTS
 
 -- ---- sums of sums
 
@@ -116,5 +111,5 @@ module _ (ch : List ℕ) (k : ℕ) (a : List ℕ) (chosen : Chosen ch k) where
       sum-same (partsOf ch a) (λ s. sumTo (cellOf a s) COMPONENTS) k (row-is clean) ∙ sym (columns-rows k a)
 
 -- a split that re-sums has the mixture's parts
-pub resummed : (mix : List ℕ) (k : ℕ) (a : List ℕ) → Resums mix k a → sumTo (columnOf k a) COMPONENTS ≡ totalOf mix
+pub resummed : (mix : List ℕ) (k : ℕ) (a : List ℕ) → Resums mix k a → sumTo (columnOf k a) COMPONENTS ≡ mixtureParts mix
 resummed mix k a h = sum-same (columnOf k a) (λ c. getD mix c 0) COMPONENTS h

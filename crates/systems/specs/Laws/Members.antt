@@ -1,8 +1,8 @@
 -- What holds of each candidate and its three members, each by one computed test over the candidates. Assumes nothing.
-use Prim.Native.Nat.{ℕ, zero, suc, _+_, _≤_, _<_}
+use Prim.Native.Nat.{ℕ, zero, suc, _≤_, _<_}
 use mathlib.Core.Path.{_≡_, refl}
-use mathlib.Core.Bool.{Bool, true, false, not, cond, _||_, Bool·beq}
-use mathlib.Core.List.{[], _∷_}
+use mathlib.Core.Bool.{Bool, true, false, not, _||_, Bool·beq}
+use mathlib.Core.List.{[]}
 use native.Mathlib.Omega.{arith}
 use lib.Dec.{T, eqb, ltb, leb, eqb→eq, ltb→lt, leb→le}
 use lib.ListN.{getD, length, List·getD-eq-default}
@@ -10,11 +10,7 @@ use borrow.Author.Tests.{eqb-true, eq-eqb}
 use Rattle.refusal.specs.Keys.{isIn}
 use Rattle.systems.specs.Systems.{COMPONENTS, HYDROGEN, hydrocarbonSystems, members, memberOf, hasOf, Candidate}
 use Rattle.systems.specs.Laws.Table.{each-candidate, everyTo, eachTo, of-true, beq-is}
-
--- the number of the numbers below n that the test passes at
-unfoldable pub countTo : (ℕ → Bool) → ℕ → ℕ
-countTo f zero = 0
-countTo f (suc n) = countTo f n + cond (f n) 1 0
+use Rattle.systems.specs.Choice.{countTo}
 
 -- ---- of each candidate
 
