@@ -26,13 +26,16 @@ use Rattle.mixture.specs.Scaling.{distributed, scaledOf}
 use Rattle.mixture.specs.Marked.{methaneEthane, methane-ethane}
 use Rattle.mixture.specs.Laws.Bounds.{simplified-methane, simplified-least, simplified-absent}
 use Rattle.systems.specs.Systems.{COMPONENTS, HYDROGEN, hasOf, memberOf}
-use Rattle.systems.specs.Choice.{countTo, fold, maskFrom, maskOf, inMask, presentAt, presentOf, presentCount, presentIn, keep, fitnessOf, standingOf, containingOf, scoreOf, betterOf, fittestOf, takeOf, passOf, marksOf, listOf, chosenOf, candidatesOf, chooseOf, paddedOf}
+use Rattle.systems.specs.Choice.{countTo, fold, maskFrom, maskOf, inMask, presentAt, presentOf, presentCount}
+use Rattle.systems.specs.Choice.{presentIn, keep, fitnessOf, standingOf, containingOf, scoreOf, betterOf, fittestOf}
+use Rattle.systems.specs.Choice.{takeOf, passOf, marksOf, listOf, chosenOf, candidatesOf, chooseOf, paddedOf}
 use Rattle.systems.specs.Choice as choice
 use Rattle.systems.specs.Laws.Presence.{present-count, two-present}
 use Rattle.split.specs.Fold.{sumTo, sumToZ, greatestTo, leastTo, allTo, someTo, table}
 use Rattle.split.specs.Laws.Folds.{sum-has}
 use Rattle.split.specs.Split.{cellOf, systemOf, columnOf, componentAt, cellsOf, partsOf, rowNumber, heldOf, rankOf}
-use Rattle.split.specs.Rating.{spreadOf, weightedOf, meanOf, inertNumber, ratingOf, resums, someEmpty, proposedOf, LIMIT}
+use Rattle.split.specs.Rating.{spreadOf, weightedOf, meanOf, inertNumber, ratingOf, resums, someEmpty, proposedOf}
+use Rattle.split.specs.Rating.{LIMIT}
 use Rattle.split.specs.Fits.{Resums}
 use Rattle.split.specs.Refused.{refused-8-exactly-when}
 use Rattle.split.specs.Laws.Clean.{row-held}

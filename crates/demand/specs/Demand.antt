@@ -56,208 +56,236 @@ use Rattle.outcome.specs.Laws.RatedOn.{on-exactly-when, too-few}
 use Rattle.outcome.specs.Laws.Ready.{choosable, chosen, room, filled, million, inert-million}
 use Rattle.outcome.specs.Laws.Ends.{read-passed, split-ends, split-few-exactly-when, search-few-exactly-when}
 use Rattle.outcome.specs.declared.Outcome.{Outcome}
-use Rattle.demand.specs.Laws.Answers.{expected-fit, fits-expected, expected-fits, split-by-records, split-fits, split-rated, found-back}
+use Rattle.demand.specs.Laws.Answers.{expected-fit, fits-expected, expected-fits, split-by-records}
+use Rattle.demand.specs.Laws.Answers.{split-fits, split-rated, found-back}
 use Rattle.demand.specs.Laws.Sheets.{accepted-ends, read-own, read-few, sheet-ends}
 use Rattle.demand.specs.RatedSheets.{analysisIn, splitRated, sheet-split}
 
--- ---- the words: of an analysis a
+-- ---- the words
 
 -- rated on: in range, and two components at least are present after simplification
-pub rated-on-exactly-when : (a : List ℕ) → RatedOn a ↔ (InRange a × (2 ≤ presentCount (simplifiedOf a)))
-rated-on-exactly-when a = on-exactly-when a
+pub rated-on-exactly-when : (analysis : List ℕ) → RatedOn analysis
+    ↔ (InRange analysis × (2 ≤ presentCount (simplifiedOf analysis)))
+rated-on-exactly-when analysis = on-exactly-when analysis
 
 -- 16 is the answer to an analysis in range exactly where they are fewer: to every proposed split, and by the search
-pub few-exactly-when : (a : List ℕ) → InRange a → (p : Split) (allowance code : ℕ)
-    → ((splitAnswer a p code ≡ Refused 16 0) ↔ (presentCount (simplifiedOf a) < 2))
-    × ((searchOutcome a allowance code .answer ≡ Refused 16 0) ↔ (presentCount (simplifiedOf a) < 2))
-few-exactly-when a h p allowance code =
-    (split-few-exactly-when a code h p, search-few-exactly-when a code h allowance)
+pub few-exactly-when : (analysis : List ℕ) → InRange analysis → (p : Split) (allowance code : ℕ)
+    → ((splitAnswer analysis p code ≡ Refused 16 0) ↔ (presentCount (simplifiedOf analysis) < 2))
+    × ((searchOutcome analysis allowance code .answer ≡ Refused 16 0) ↔ (presentCount (simplifiedOf analysis) < 2))
+few-exactly-when analysis h p allowance code =
+    (split-few-exactly-when analysis code h p, search-few-exactly-when analysis code h allowance)
 
 -- rated on, two components present have two chosen systems, three or four have three, and five have four or five
-pub two-to-five : (a : List ℕ) → length a ≡ CODES → RatedOn a
-    → let n = presentCount (simplifiedOf a) in
-    (n ≡ 2 → countFor a ≡ 2) × (3 ≤ n → n ≤ 4 → countFor a ≡ 3)
-    × (n ≡ 5 → (4 ≤ countFor a) × (countFor a ≤ 5))
-two-to-five a long on =
-    let n = presentCount (simplifiedOf a) in
-    let h = filled a long on .number in (
-      λ e. two-chosen n (countFor a) e h,
-      λ l m. three-chosen n (countFor a) l m h,
-      λ e. five-chosen n (countFor a) e h,
+pub two-to-five : (analysis : List ℕ) → length analysis ≡ CODES → RatedOn analysis
+    → let n = presentCount (simplifiedOf analysis) in
+    (n ≡ 2 → countFor analysis ≡ 2) × (3 ≤ n → n ≤ 4 → countFor analysis ≡ 3)
+    × (n ≡ 5 → (4 ≤ countFor analysis) × (countFor analysis ≤ 5))
+two-to-five analysis long on =
+    let n = presentCount (simplifiedOf analysis) in
+    let h = filled analysis long on .number in (
+      λ e. two-chosen n (countFor analysis) e h,
+      λ l m. three-chosen n (countFor analysis) l m h,
+      λ e. five-chosen n (countFor analysis) e h,
     )
 
 -- there are never more
-pub five-at-most : (a : List ℕ) → RatedOn a → countFor a ≤ 5
-five-at-most a on = choosable a on .few
+pub five-at-most : (analysis : List ℕ) → RatedOn analysis → countFor analysis ≤ 5
+five-at-most analysis on = choosable analysis on .few
 
 -- each component that is present is in two of them, and each of them contains two that are present
-pub present-twice : (a : List ℕ) → RatedOn a → (c : ℕ) → c < COMPONENTS → 0 < getD (simplifiedOf a) c 0
-    → 2 ≤ countTo (λ i. hasOf (systemOf (systemsFor a) i) c) (countFor a)
-present-twice a on c l h = choosable a on .twice c l (present-is (simplifiedOf a) c l ∙ lt-ltb 0 _ h)
+pub present-twice : (analysis : List ℕ) → RatedOn analysis → (c : ℕ) → c < COMPONENTS
+    → 0 < getD (simplifiedOf analysis) c 0
+    → 2 ≤ countTo (λ i. hasOf (systemOf (systemsFor analysis) i) c) (countFor analysis)
+present-twice analysis on c l h =
+    choosable analysis on .twice c l (present-is (simplifiedOf analysis) c l ∙ lt-ltb 0 _ h)
 
-pub two-present-in : (a : List ℕ) → length a ≡ CODES → RatedOn a → (s : ℕ) → s < countFor a
-    → 2 ≤ countTo (λ c. hasOf (systemOf (systemsFor a) s) c && presentAt (simplifiedOf a) c) COMPONENTS
-two-present-in a long on s l =
-    rw (present-in-is (simplifiedOf a) (systemOf (systemsFor a) s)) at (filled a long on .filled s l)
+pub two-present-in : (analysis : List ℕ) → length analysis ≡ CODES → RatedOn analysis → (s : ℕ) → s < countFor analysis
+    → 2 ≤ countTo (λ c. hasOf (systemOf (systemsFor analysis) s) c && presentAt (simplifiedOf analysis) c) COMPONENTS
+two-present-in analysis long on s l =
+    rw (present-in-is (simplifiedOf analysis) (systemOf (systemsFor analysis) s)) at
+        (filled analysis long on .filled s l)
 
--- any amounts xs at all, in the records of the chosen systems: systems rising, in each methane, ethane, propane,
+-- any amounts at all, in the records of the chosen systems: systems rising, in each methane, ethane, propane,
 -- butane, hydrogen as contained, so that record r is of the system in place r / 3 and has its component in place r %
 -- 3
 abbrev pub proposal : List ℕ → List ℕ → Split
-proposal a xs = record {
-  count = 3 * countFor a;
-  systems = systemsOf (systemsFor a) (countFor a);
-  codes = codesOf (systemsFor a) (countFor a);
-  amounts = xs;
+proposal analysis amounts = record {
+  count = 3 * countFor analysis;
+  systems = systemsOf (systemsFor analysis) (countFor analysis);
+  codes = codesOf (systemsFor analysis) (countFor analysis);
+  amounts = amounts;
 }
 
 -- the chosen systems rise, and so do the components of each one's three records
-pub records-rise : (a : List ℕ) → RatedOn a
-    → ((i j : ℕ) → i < j → j < countFor a → systemOf (systemsFor a) i < systemOf (systemsFor a) j)
-    × ((s : ℕ) → s < countFor a
-    → (componentAt (systemOf (systemsFor a) s) 0 < componentAt (systemOf (systemsFor a) s) 1)
-    × (componentAt (systemOf (systemsFor a) s) 1 < componentAt (systemOf (systemsFor a) s) 2))
-records-rise a on =
-    let x = choosable a on in
-    (x .rising, λ s l. components-rise (systemOf (systemsFor a) s) (x .known s l))
+pub records-rise : (analysis : List ℕ) → RatedOn analysis
+    → ((i j : ℕ) → i < j → j < countFor analysis → systemOf (systemsFor analysis) i < systemOf (systemsFor analysis) j)
+    × ((s : ℕ) → s < countFor analysis
+    → (componentAt (systemOf (systemsFor analysis) s) 0 < componentAt (systemOf (systemsFor analysis) s) 1)
+    × (componentAt (systemOf (systemsFor analysis) s) 1 < componentAt (systemOf (systemsFor analysis) s) 2))
+records-rise analysis on =
+    let x = choosable analysis on in
+    (x .rising, λ s l. components-rise (systemOf (systemsFor analysis) s) (x .known s l))
 
 -- a split has these records: as many, each of the system and of the code expected of it
-pub record Expected (a : List ℕ) (p : Split) : Type 0 where
-  pub many : p .count ≡ 3 * countFor a
-  pub systems : (r : ℕ) → r < 3 * countFor a → getD (p .systems) r 0 ≡ systemAt (systemsFor a) (countFor a) r
-  pub codes : (r : ℕ) → r < 3 * countFor a → getD (p .codes) r 0 ≡ codeAt (systemsFor a) (countFor a) r
+pub record Expected (analysis : List ℕ) (p : Split) : Type 0 where
+  pub many : p .count ≡ 3 * countFor analysis
+  pub systems : (r : ℕ) → r < 3 * countFor analysis
+      → getD (p .systems) r 0 ≡ systemAt (systemsFor analysis) (countFor analysis) r
+  pub codes : (r : ℕ) → r < 3 * countFor analysis
+      → getD (p .codes) r 0 ≡ codeAt (systemsFor analysis) (countFor analysis) r
 
-pub proposal-expected : (a : List ℕ) → RatedOn a → (xs : List ℕ) → Expected a (proposal a xs)
-proposal-expected a on xs =
-    let x = fits-expected _ _ _ _ _ (expected-fit (systemsFor a) (countFor a) (room a on)) in
+pub proposal-expected : (analysis : List ℕ) → RatedOn analysis → (amounts : List ℕ)
+    → Expected analysis (proposal analysis amounts)
+proposal-expected analysis on amounts =
+    let x = fits-expected _ _ _ _ _ (expected-fit (systemsFor analysis) (countFor analysis) (room analysis on)) in
     record { many = x .0; systems = x .1; codes = x .2 }
 
 -- the amounts by chosen system and component: what the system in place s is given of component c, which are 0 methane,
 -- 1 ethane, 2 propane, 3 butane, 4 hydrogen; 0 of one that it lacks
 abbrev pub cellsIn : List ℕ → List ℕ → List ℕ
-cellsIn a xs = cellsOf (systemsFor a) (countFor a) xs
+cellsIn analysis amounts = cellsOf (systemsFor analysis) (countFor analysis) amounts
 
 abbrev pub given : List ℕ → List ℕ → ℕ → ℕ → ℕ
-given a xs s c = cellOf (cellsIn a xs) s c
+given analysis amounts s c = cellOf (cellsIn analysis amounts) s c
 
 -- what it is given of its three components, of which the first two are the formula's variables
 abbrev pub amount : List ℕ → List ℕ → ℕ → ℕ → ℕ
-amount a xs s j = given a xs s (memberOf (systemOf (systemsFor a) s) j)
+amount analysis amounts s j = given analysis amounts s (memberOf (systemOf (systemsFor analysis) s) j)
 
 -- its partial number, as worked out
 abbrev pub number : List ℕ → List ℕ → ℕ → ℤ
-number a xs s = partialNumber (systemOf (systemsFor a) s) (amount a xs s 0) (amount a xs s 1) (amount a xs s 2)
+number analysis amounts s =
+    partialNumber (systemOf (systemsFor analysis) s) (amount analysis amounts s 0) (amount analysis amounts s 1)
+    (amount analysis amounts s 2)
 
 -- they re-sum: each component's amounts, added as whole numbers, equal that component's simplified amount
 abbrev pub ReSums : List ℕ → List ℕ → Type 0
-ReSums a xs = (c : ℕ) → c < COMPONENTS → sumTo (λ s. given a xs s c) (countFor a) ≡ getD (simplifiedOf a) c 0
+ReSums analysis amounts =
+    (c : ℕ) → c < COMPONENTS
+    → sumTo (λ s. given analysis amounts s c) (countFor analysis) ≡ getD (simplifiedOf analysis) c 0
 
 -- no chosen system is empty: its three amounts are not all 0
 abbrev pub NoneEmpty : List ℕ → List ℕ → Type 0
-NoneEmpty a xs = (s : ℕ) → s < countFor a → 0 < amount a xs s 0 + amount a xs s 1 + amount a xs s 2
+NoneEmpty analysis amounts =
+    (s : ℕ) → s < countFor analysis
+    → 0 < amount analysis amounts s 0 + amount analysis amounts s 1 + amount analysis amounts s 2
 
 -- every two partial numbers lie at most 0.05 apart, the limit of 500000 units
 abbrev pub AllNear : List ℕ → List ℕ → Type 0
-AllNear a xs = (s t : ℕ) → s < countFor a → t < countFor a → natAbs (number a xs s -ℤ number a xs t) ≤ LIMIT
+AllNear analysis amounts =
+    (s t : ℕ) → s < countFor analysis → t < countFor analysis
+    → natAbs (number analysis amounts s -ℤ number analysis amounts t) ≤ LIMIT
 
 -- the formulas' rating and spread, and the exact fraction: the same formulas with no fraction dropped
 abbrev pub ratingAt : List ℕ → List ℕ → ℤ
-ratingAt a xs = ratingOf (systemsFor a) (countFor a) (cellsIn a xs) (inertFirst a)
+ratingAt analysis amounts =
+    ratingOf (systemsFor analysis) (countFor analysis) (cellsIn analysis amounts) (inertFirst analysis)
 
 abbrev pub spreadAt : List ℕ → List ℕ → ℕ
-spreadAt a xs = spreadOf (number a xs) (countFor a)
+spreadAt analysis amounts = spreadOf (number analysis amounts) (countFor analysis)
 
 abbrev pub exactAt : List ℕ → List ℕ → Fraction
-exactAt a xs = exactRating (systemsFor a) (countFor a) (cellsIn a xs) (inertFirst a)
+exactAt analysis amounts =
+    exactRating (systemsFor analysis) (countFor analysis) (cellsIn analysis amounts) (inertFirst analysis)
 
 -- the three are all that `split` proves a rating of
-is-fit : (a xs : List ℕ) → ReSums a xs × NoneEmpty a xs × AllNear a xs
-    → Fit LIMIT (systemsFor a) (countFor a) (mixOf a) (cellsIn a xs)
+is-fit : (analysis amounts : List ℕ) → ReSums analysis amounts × NoneEmpty analysis amounts × AllNear analysis amounts
+    → Fit LIMIT (systemsFor analysis) (countFor analysis) (mixOf analysis) (cellsIn analysis amounts)
 unfolding columnOf partsOf rowNumber
-is-fit a xs h = record { sums = h .0; some = h .1; near = h .2 }
+is-fit analysis amounts h = record { sums = h .0; some = h .1; near = h .2 }
 
-fit-is : (a xs : List ℕ) → Fit LIMIT (systemsFor a) (countFor a) (mixOf a) (cellsIn a xs)
-    → ReSums a xs × NoneEmpty a xs × AllNear a xs
+fit-is : (analysis amounts : List ℕ) → Fit LIMIT (systemsFor analysis) (countFor analysis) (mixOf analysis)
+    (cellsIn analysis amounts)
+    → ReSums analysis amounts × NoneEmpty analysis amounts × AllNear analysis amounts
 unfolding columnOf partsOf rowNumber
-fit-is a xs f = (f .sums, f .some, f .near)
+fit-is analysis amounts f = (f .sums, f .some, f .near)
 
 -- ---- (1) any amounts at all, proposed for an analysis that is rated on, are rated exactly when: the three
 
-pub rated-exactly-when : (a : List ℕ) → RatedOn a → (xs : List ℕ) (code : ℕ)
-    → IsRated (splitAnswer a (proposal a xs) code) ↔ (ReSums a xs × NoneEmpty a xs × AllNear a xs)
-rated-exactly-when a on xs code =
-    let e = split-fits a (proposal a xs) code on refl refl refl in
-    let fitted = fit-rated LIMIT (systemsFor a) (countFor a) (mixOf a) (cellsIn a xs) (inertFirst a) in
-    let only = rated-fit LIMIT (systemsFor a) (countFor a) (mixOf a) (cellsIn a xs) (inertFirst a) in
-    (λ r. fit-is a xs (only (subst IsRated e r)), λ h. subst IsRated (sym (e ∙ fitted (is-fit a xs h))) tt)
+pub rated-exactly-when : (analysis : List ℕ) → RatedOn analysis → (amounts : List ℕ) (code : ℕ)
+    → IsRated (splitAnswer analysis (proposal analysis amounts) code)
+    ↔ (ReSums analysis amounts × NoneEmpty analysis amounts × AllNear analysis amounts)
+rated-exactly-when analysis on amounts code =
+    let e = split-fits analysis (proposal analysis amounts) code on refl refl refl in
+    let fitted = fit-rated LIMIT (systemsFor analysis) (countFor analysis) (mixOf analysis) (cellsIn analysis amounts)
+        (inertFirst analysis) in
+    let only = rated-fit LIMIT (systemsFor analysis) (countFor analysis) (mixOf analysis) (cellsIn analysis amounts)
+        (inertFirst analysis) in
+    (λ r. fit-is analysis amounts (only (subst IsRated e r)),
+    λ h. subst IsRated (sym (e ∙ fitted (is-fit analysis amounts h))) tt)
 
 --     and then with the formulas' rating and spread, which is within the limit
-pub rated-with : (a : List ℕ) → RatedOn a → (xs : List ℕ) (code : ℕ)
-    → ReSums a xs × NoneEmpty a xs × AllNear a xs
-    → (splitAnswer a (proposal a xs) code ≡ Rated (ratingAt a xs) (spreadAt a xs) 0) × (spreadAt a xs ≤ LIMIT)
+pub rated-with : (analysis : List ℕ) → RatedOn analysis → (amounts : List ℕ) (code : ℕ)
+    → ReSums analysis amounts × NoneEmpty analysis amounts × AllNear analysis amounts
+    → (splitAnswer analysis (proposal analysis amounts) code ≡ Rated (ratingAt analysis amounts)
+    (spreadAt analysis amounts) 0) × (spreadAt analysis amounts ≤ LIMIT)
 unfolding rowNumber
-rated-with a on xs code h =
-    let e = split-fits a (proposal a xs) code on refl refl refl in
-    let fitted = fit-rated LIMIT (systemsFor a) (countFor a) (mixOf a) (cellsIn a xs) (inertFirst a) (is-fit a xs h) in
-    (e ∙ fitted, near-spread LIMIT (number a xs) (countFor a) (h .2))
+rated-with analysis on amounts code h =
+    let e = split-fits analysis (proposal analysis amounts) code on refl refl refl in
+    let fitted = fit-rated LIMIT (systemsFor analysis) (countFor analysis) (mixOf analysis) (cellsIn analysis amounts)
+        (inertFirst analysis) (is-fit analysis amounts h) in
+    (e ∙ fitted, near-spread LIMIT (number analysis amounts) (countFor analysis) (h .2))
 
 --     a split in any records at all is answered as those amounts are where the records are those expected,
-pub expected-same : (a : List ℕ) → RatedOn a → (p : Split) (code : ℕ) → Expected a p
-    → splitAnswer a p code ≡ splitAnswer a (proposal a (p .amounts)) code
-expected-same a on p code x =
+pub expected-same : (analysis : List ℕ) → RatedOn analysis → (p : Split) (code : ℕ) → Expected analysis p
+    → splitAnswer analysis p code ≡ splitAnswer analysis (proposal analysis (p .amounts)) code
+expected-same analysis on p code x =
     let fits = expected-fits _ _ _ (p .systems) (p .codes) (x .many) (x .systems) (x .codes) in
-    split-by-records a p code true on fits ∙ sym (split-fits a (proposal a (p .amounts)) code on refl refl refl)
+    split-by-records analysis p code true on fits
+        ∙ sym (split-fits analysis (proposal analysis (p .amounts)) code on refl refl refl)
 
 --     and is rated exactly when they are, and the amounts keep the three
-pub records-rated-exactly-when : (a : List ℕ) → RatedOn a → (p : Split) (code : ℕ)
-    → IsRated (splitAnswer a p code)
-    ↔ (Expected a p × ReSums a (p .amounts) × NoneEmpty a (p .amounts) × AllNear a (p .amounts))
-records-rated-exactly-when a on p code =
-    let (only, when) = rated-exactly-when a on (p .amounts) code in (
+pub records-rated-exactly-when : (analysis : List ℕ) → RatedOn analysis → (p : Split) (code : ℕ)
+    → IsRated (splitAnswer analysis p code)
+    ↔ (Expected analysis p × ReSums analysis (p .amounts) × NoneEmpty analysis (p .amounts)
+    × AllNear analysis (p .amounts))
+records-rated-exactly-when analysis on p code =
+    let (only, when) = rated-exactly-when analysis on (p .amounts) code in (
       λ r.
           let x = expected r in
-          let h = only (subst IsRated (expected-same a on p code x) r) in
+          let h = only (subst IsRated (expected-same analysis on p code x) r) in
           (x, h .0, h .1, h .2),
-      λ h. subst IsRated (sym (expected-same a on p code (h .0))) (when (h .1, h .2, h .3)),
+      λ h. subst IsRated (sym (expected-same analysis on p code (h .0))) (when (h .1, h .2, h .3)),
     )
   where
     fits : Bool
-    fits = fitsOf (systemsFor a) (countFor a) (p .count) (p .systems) (p .codes)
+    fits = fitsOf (systemsFor analysis) (countFor analysis) (p .count) (p .systems) (p .codes)
 
-    known : fits ≡ true → Expected a p
+    known : fits ≡ true → Expected analysis p
     known e =
-        let x = fits-expected (systemsFor a) (countFor a) (p .count) (p .systems) (p .codes) e in
+        let x = fits-expected (systemsFor analysis) (countFor analysis) (p .count) (p .systems) (p .codes) e in
         record { many = x .0; systems = x .1; codes = x .2 }
 
-    expected : IsRated (splitAnswer a p code) → Expected a p
+    expected : IsRated (splitAnswer analysis p code) → Expected analysis p
     expected r = go fits refl
       where
-        go : (b : Bool) → fits ≡ b → Expected a p
+        go : (b : Bool) → fits ≡ b → Expected analysis p
         go true e = known e
-        go false e = absurd (subst IsRated (split-by-records a p code false on e) r)
+        go false e = absurd (subst IsRated (split-by-records analysis p code false on e) r)
 
 -- ---- (2) a found split, put back as a proposal for the same analysis, gets the same rating and the same spread
 
-pub put-back : (a : List ℕ) → length a ≡ CODES → (allowance code code′ : ℕ) (w : ℤ) (s r : ℕ)
-    → searchOutcome a allowance code .answer ≡ Rated w s r
-    → splitAnswer a (searchOutcome a allowance code .split) code′ ≡ Rated w s 0
-put-back a long allowance code code′ w s r is = found-back a long allowance code code′ w s r is
+pub put-back : (analysis : List ℕ) → length analysis ≡ CODES → (allowance code code′ : ℕ) (w : ℤ) (s r : ℕ)
+    → searchOutcome analysis allowance code .answer ≡ Rated w s r
+    → splitAnswer analysis (searchOutcome analysis allowance code .split) code′ ≡ Rated w s 0
+put-back analysis long allowance code code′ w s r is = found-back analysis long allowance code code′ w s r is
 
 -- ---- (3) each rating, of a proposed split and of a found one, is less than 40 units from the exact fraction
 
-pub proposed-within : (a : List ℕ) → length a ≡ CODES → (p : Split) (code : ℕ) (w : ℤ) (s r : ℕ)
-    → splitAnswer a p code ≡ Rated w s r → Within w (exactAt a (p .amounts)) 40
-proposed-within a long p code w s r is =
-    let (on, e) = split-rated a p code w s r is in
-    rated-within (systemsFor a) (countFor a) (mixOf a) (cellsIn a (p .amounts)) (chosen a on) LIMIT (inertFirst a)
-    w s r e (omega (arith, million a long on)) (inert-million a long on)
+pub proposed-within : (analysis : List ℕ) → length analysis ≡ CODES → (p : Split) (code : ℕ) (w : ℤ) (s r : ℕ)
+    → splitAnswer analysis p code ≡ Rated w s r → Within w (exactAt analysis (p .amounts)) 40
+proposed-within analysis long p code w s r is =
+    let (on, e) = split-rated analysis p code w s r is in
+    rated-within (systemsFor analysis) (countFor analysis) (mixOf analysis) (cellsIn analysis (p .amounts))
+        (chosen analysis on) LIMIT (inertFirst analysis)
+    w s r e (omega (arith, million analysis long on)) (inert-million analysis long on)
 
-pub found-within : (a : List ℕ) → length a ≡ CODES → (allowance code : ℕ) (w : ℤ) (s r : ℕ)
-    → searchOutcome a allowance code .answer ≡ Rated w s r
-    → Within w (exactAt a (searchOutcome a allowance code .split .amounts)) 40
-found-within a long allowance code w s r is =
-    let back = put-back a long allowance code code w s r is in
-    proposed-within a long (searchOutcome a allowance code .split) code w s 0 back
+pub found-within : (analysis : List ℕ) → length analysis ≡ CODES → (allowance code : ℕ) (w : ℤ) (s r : ℕ)
+    → searchOutcome analysis allowance code .answer ≡ Rated w s r
+    → Within w (exactAt analysis (searchOutcome analysis allowance code .split .amounts)) 40
+found-within analysis long allowance code w s r is =
+    let back = put-back analysis long allowance code code w s r is in
+    proposed-within analysis long (searchOutcome analysis allowance code .split) code w s 0 back
 
 --     and of a sheet, whichever it has: the amounts are those of the split that was rated
 pub sheet-within : (s : List ℕ) (code : ℕ) (w : ℤ) (d r : ℕ) → sheetOutcome s code .answer ≡ Rated w d r
@@ -296,10 +324,11 @@ own-split-ends s code h on n =
 -- and is rated exactly when its records are those expected and the amounts in them keep the three
 pub own-split-rated-exactly-when : (s : List ℕ) (code : ℕ)
     → readOf s code .answer ≡ Read → RatedOn (analysisIn s code) → (readOf s code .split .count ≡ 0 → ⊥)
-    → let a = analysisIn s code in
+    → let analysis = analysisIn s code in
     let p = readOf s code .split in
     IsRated (sheetOutcome s code .answer)
-    ↔ (Expected a p × ReSums a (p .amounts) × NoneEmpty a (p .amounts) × AllNear a (p .amounts))
+    ↔ (Expected analysis p × ReSums analysis (p .amounts) × NoneEmpty analysis (p .amounts)
+    × AllNear analysis (p .amounts))
 own-split-rated-exactly-when s code h on n =
     let (only, when) = records-rated-exactly-when (analysisIn s code) on (readOf s code .split) code in
     let same = own-split-answered s code h n in

@@ -1,4 +1,3 @@
-pub mod Today
 pub mod Steady
 pub mod Alike
 pub mod AlikeCells

@@ -2,6 +2,7 @@ pub mod BeforeCheck
 pub mod BeforeMixture
 pub mod Pinned
 pub mod Widths
+pub mod Today
 pub mod Before
 pub mod WithoutHydrogen
 pub mod BeforeFive

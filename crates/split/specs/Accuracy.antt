@@ -5,14 +5,13 @@ use mathlib.Core.List.{List}
 use Prim.Native.Nat.{ℕ, _≤_, _<_}
 use native.Mathlib.Nat as N
 use native.Mathlib.Omega.{arith}
-use lib.ListN.{length}
 use lib.IntN.{ℤ, natAbs}
 use Rattle.integer.specs.Figures.{MILLION}
 use Rattle.integer.specs.Fraction.{Within}
 use Rattle.split.specs.Fold.{sumTo}
-use Rattle.split.specs.Split.{CELLS, partsOf, Chosen, Sound, Clean, mixtureParts}
+use Rattle.split.specs.Split.{partsOf, Chosen, Clean, mixtureParts}
 use Rattle.split.specs.Rating.{ratingOf, proposedOf}
-use Rattle.split.specs.Exact.{NoneEmpty, exactRating}
+use Rattle.split.specs.Exact.{exactRating}
 use Rattle.split.specs.Laws.Exact.{rating-within}
 use Rattle.split.specs.Fits.{Resums, Fit}
 use Rattle.split.specs.Rated.{IsRated, rated-fit, rated-is}
@@ -21,13 +20,6 @@ use Rattle.split.specs.Laws.Size.{spread-small, rating-small}
 use Rattle.split.specs.declared.Answer.the-variants.{Rated}
 
 module _ (systems : List ℕ) (count : ℕ) (mix cells : List ℕ) (chosen : Chosen systems count) where
-  -- cells that re-sum to a million parts at most, with no system empty, can be worked out
-  pub fit-sound : length cells ≡ CELLS → mixtureParts mix ≤ MILLION → Resums mix count cells
-      → NoneEmpty systems count cells → Sound systems count cells
-  fit-sound long few sums some =
-      record { stock = record { chosen = chosen; long = long; few = rw (resummed mix count cells sums) few };
-          some = some }
-
   pub fit-few : mixtureParts mix ≤ MILLION → Resums mix count cells → sumTo (partsOf systems cells) count ≤ MILLION
   fit-few few sums = omega (arith, parts-le systems count cells chosen, resummed mix count cells sums)
 
