@@ -62,6 +62,10 @@ register =
 abbrev pub CODES : ℕ
 CODES = 16
 
+-- hydrogen's code
+abbrev pub hydrogenCode : ℕ
+hydrogenCode = 15
+
 -- what a code is by the entries of a list
 abbrev pub statusIn : List Entry → ℕ → Status
 statusIn [] c = unknown

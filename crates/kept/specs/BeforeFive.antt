@@ -18,7 +18,7 @@ use lib.ListN.{getD, length}
 use borrow.Author.Tests.{eqb-true, leb-true}
 use Rattle.refusal.specs.Keys.{isIn}
 use Rattle.refusal.specs.Laws.Keys.{each-passes}
-use Rattle.analysis.specs.Register.{CODES, statusIn}
+use Rattle.analysis.specs.Register.{CODES, statusIn, hydrogenCode}
 use Rattle.analysis.specs.Check.{requiredBy, totalFits}
 use Rattle.analysis.specs.Required.{requiring, refusalIn}
 use Rattle.analysis.specs.Laws.Required.{requiring-exactly-when}
@@ -68,7 +68,7 @@ refusalBeforeFive a = refusalIn (requiring requiredBefore registerBefore) a
 -- what 5 and 6 let pass then: what is in range, with an amount of each of these and no hydrogen
 pub before-exactly-when : (a : List ℕ) → length a ≡ CODES
     → (refusalBeforeFive a ≡ 0)
-    ↔ ((InRange a × (getD a 15 0 ≡ 0)) × ((k : ℕ) → isIn k requiredBefore ≡ true → 0 < getD a k 0))
+    ↔ ((InRange a × (getD a hydrogenCode 0 ≡ 0)) × ((k : ℕ) → isIn k requiredBefore ≡ true → 0 < getD a k 0))
 unfolding isIn
 before-exactly-when a long = (
   λ h. (check.before-exactly-when a long .0 (exactly .0 h .0), exactly .0 h .1),
@@ -110,14 +110,14 @@ passed-before = (refl, refl)
 -- ---- an analysis that 5 and 6 let pass before
 
 module _ (a : List ℕ) (long : length a ≡ CODES) (before : refusalBeforeFive a ≡ 0) where
-  then : (InRange a × (getD a 15 0 ≡ 0)) × ((k : ℕ) → isIn k requiredBefore ≡ true → 0 < getD a k 0)
+  then : (InRange a × (getD a hydrogenCode 0 ≡ 0)) × ((k : ℕ) → isIn k requiredBefore ≡ true → 0 < getD a k 0)
   then = before-exactly-when a long .0 before
 
   -- passes now, without hydrogen
   pub passes : InRange a
   passes = then .0 .0
 
-  none : getD a 15 0 ≡ 0
+  none : getD a hydrogenCode 0 ≡ 0
   none = then .0 .1
 
   -- with ethane, propane and i-butane, and so all four components present

@@ -13,6 +13,7 @@ use lib.Count.{ones}
 use lib.Dec.{eqb, ltb}
 use lib.ListN.{getD}
 use borrow.Author.Tests.{eqb-true, ltb-true}
+use Rattle.analysis.specs.Register.{hydrogenCode}
 use Rattle.split.specs.Rating.{LIMIT}
 use Rattle.refusal.specs.Keys.{isIn}
 use Rattle.analysis.specs.Required.{refusalIn}
@@ -121,7 +122,7 @@ getD-end [] (suc c) = refl
 getD-end (x ∷ xs) zero = refl
 getD-end (x ∷ xs) (suc c) = getD-end xs c
 
-module _ (a : List ℕ) (none : getD a 15 0 ≡ 0) where
+module _ (a : List ℕ) (none : getD a hydrogenCode 0 ≡ 0) where
   -- has the same amounts of each component
   pub amount-same : (c : ℕ) → getD (mixOf a) c 0 ≡ getD (simplifiedBefore a) c 0
   amount-same c = ap (λ (l : List ℕ). getD l c 0) (simplified-kept a none) ∙ getD-end (simplifiedBefore a) c
@@ -215,7 +216,7 @@ sheet-read-kept s code n m first sections codes none before =
 
 -- and answered as it was: by the search, or by its own split
 module _ (s : List ℕ) (code : ℕ) (h : readOf s code .answer ≡ Read)
-    (none : getD (analysisIn s code) 15 0 ≡ 0) where
+    (none : getD (analysisIn s code) hydrogenCode 0 ≡ 0) where
   pub sheet-search-kept : readOf s code .split .count ≡ 0
       → sheetOutcome s code ≡ searchBefore (analysisIn s code) ROUNDS code
   sheet-search-kept e = read-searched s code h e ∙ search-kept-all (analysisIn s code) none ROUNDS code

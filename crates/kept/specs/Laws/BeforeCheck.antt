@@ -9,7 +9,7 @@ use native.Mathlib.Omega.{arith}
 use lib.Dec.{eqb, leb}
 use lib.ListN.{length, getD, drop}
 use borrow.Author.Tests.{eqb-true, eqb-false, ne-eqb, leb-true}
-use Rattle.analysis.specs.Register.{CODES, BASE, Status, unknown, Entry, register, statusIn}
+use Rattle.analysis.specs.Register.{CODES, BASE, Status, unknown, Entry, register, statusIn, hydrogenCode}
 use Rattle.analysis.specs.Check.{inRangeBy, totalOf, totalFits, refusalByTests, analysisRefusal}
 use Rattle.analysis.specs.Required.{allInRangeIn, refusalIn}
 use Rattle.analysis.specs.Laws.Required.{refusal-register, all-head, all-from, refusal-none}
@@ -38,31 +38,31 @@ all-alike es fs code (x ∷ xs) h =
 -- ---- the register and the one before
 
 -- every code but 15 is what it was
-pub status-kept : (c : ℕ) → (c ≡ 15 → ⊥) → statusIn register c ≡ statusIn registerBefore c
-status-kept c n = status-added registerBefore (drop BASE register) c (rw (ne-eqb c 15 n))
+pub status-kept : (c : ℕ) → (c ≡ hydrogenCode → ⊥) → statusIn register c ≡ statusIn registerBefore c
+status-kept c n = status-added registerBefore (drop BASE register) c (rw (ne-eqb c hydrogenCode n))
 
-code-alike : (c x : ℕ) → (c ≡ 15 → x ≡ 0)
+code-alike : (c x : ℕ) → (c ≡ hydrogenCode → x ≡ 0)
     → inRangeBy (statusIn registerBefore c) x ≡ inRangeBy (statusIn register c) x
-code-alike c x none = go (eqb c 15) refl
+code-alike c x none = go (eqb c hydrogenCode) refl
   where
-    go : (b : Bool) → eqb c 15 ≡ b
+    go : (b : Bool) → eqb c hydrogenCode ≡ b
         → inRangeBy (statusIn registerBefore c) x ≡ inRangeBy (statusIn register c) x
     go true e =
-        let p = eqb-true c 15 e in
+        let p = eqb-true c hydrogenCode e in
         let q = none p in
         rw (p, q)
-    go false e = ap (λ (s : Status). inRangeBy s x) (sym (status-kept c (eqb-false c 15 e)))
+    go false e = ap (λ (s : Status). inRangeBy s x) (sym (status-kept c (eqb-false c hydrogenCode e)))
 
 -- an analysis without hydrogen is checked as before
-pub without-kept : (a : List ℕ) → getD a 15 0 ≡ 0 → refusalIn registerBefore a ≡ analysisRefusal a
+pub without-kept : (a : List ℕ) → getD a hydrogenCode 0 ≡ 0 → refusalIn registerBefore a ≡ analysisRefusal a
 unfolding refusalIn
 without-kept a none =
     ap (λ (b : Bool). refusalByTests b (totalFits (totalOf a)))
     (all-alike registerBefore register 0 a (λ k. code-alike (0 + k) (getD a k 0) (at k)))
     ∙ refusal-register a
   where
-    at : (k : ℕ) → 0 + k ≡ 15 → getD a k 0 ≡ 0
-    at k e = let p : k ≡ 15 = omega arith in rw p none
+    at : (k : ℕ) → 0 + k ≡ hydrogenCode → getD a k 0 ≡ 0
+    at k e = let p : k ≡ hydrogenCode = omega arith in rw p none
 
 -- no amount of a code that is no key
 unknown-none : (x : ℕ) → inRangeBy unknown x ≡ true → x ≡ 0
@@ -73,15 +73,15 @@ unknown-none x h = go (eqb x 0) refl h
     go false e h = let l = leb-true x 0 (all-head (leb 1 x) (leb x 0) h .1) in omega arith
 
 -- hydrogen did not pass
-before-none : (a : List ℕ) → length a ≡ CODES → refusalIn registerBefore a ≡ 0 → getD a 15 0 ≡ 0
+before-none : (a : List ℕ) → length a ≡ CODES → refusalIn registerBefore a ≡ 0 → getD a hydrogenCode 0 ≡ 0
 unfolding refusalIn
 before-none a l h =
     let t = refusal-none (allInRangeIn registerBefore 0 a) (totalFits (totalOf a)) h .0 in
-    unknown-none (getD a 15 0) (all-from registerBefore a 0 15 t (omega arith))
+    unknown-none (getD a hydrogenCode 0) (all-from registerBefore a 0 hydrogenCode t (omega arith))
 
 -- what passed before: what passes, without hydrogen
 pub before-exactly-when : (a : List ℕ) → length a ≡ CODES
-    → (refusalIn registerBefore a ≡ 0) ↔ ((analysisRefusal a ≡ 0) × (getD a 15 0 ≡ 0))
+    → (refusalIn registerBefore a ≡ 0) ↔ ((analysisRefusal a ≡ 0) × (getD a hydrogenCode 0 ≡ 0))
 before-exactly-when a l = (
   λ h. let none = before-none a l h in (sym (without-kept a none) ∙ h, none),
   λ h. without-kept a (h .1) ∙ h .0,

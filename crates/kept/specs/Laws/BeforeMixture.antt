@@ -10,6 +10,7 @@ use lib.Dec.{ltb}
 use lib.ListN.{getD, set, length, length-set, length-map, length-append, List·getD-append}
 use lib.Seq.{set-append-left, getD-append-seam, getD-at}
 use borrow.Author.Tests.{le-ltb}
+use Rattle.analysis.specs.Register.{hydrogenCode}
 use Rattle.integer.specs.Figures.{MILLION}
 use Rattle.analysis.specs.Check.{totalOf}
 use Rattle.mixture.specs.Scaling.{quotientOf, remainderOf, quotientsOf, remaindersOf, missingOf, largestTo}
@@ -107,7 +108,7 @@ scaled-end xs h =
 
 -- ---- an analysis without hydrogen
 
-module _ (a : List ℕ) (none : getD a 15 0 ≡ 0) where
+module _ (a : List ℕ) (none : getD a hydrogenCode 0 ≡ 0) where
   tenths-kept : tenthsOf a ≡ tenthsBefore a ++ (0 ∷ [])
   unfolding tenthsOf tenthsBefore
   tenths-kept = rw none

@@ -20,10 +20,13 @@ use Rattle.split.specs.Rating.{ratingOf, proposedOf}
 use Rattle.split.specs.Start.{startOf}
 use Rattle.split.specs.Search.{searchOf}
 use Rattle.split.specs.declared.Found.{Found}
-use Rattle.kept.specs.Widths.{BEFORE, BLEND, cellIn, columnIn, componentIn, cellsIn, amountsIn, ratingIn, resumsIn, proposedIn, startIn, searchIn}
-use Rattle.kept.specs.Today.{component-today, from-records-today, records-today, rating-today, proposed-today, start-today, search-today}
+use Rattle.kept.specs.Widths.{BEFORE, BLEND, cellIn, columnIn, componentIn, cellsIn, amountsIn, ratingIn}
+use Rattle.kept.specs.Widths.{resumsIn, proposedIn, startIn, searchIn}
+use Rattle.kept.specs.Today.{component-today, from-records-today, records-today, rating-today, proposed-today}
+use Rattle.kept.specs.Today.{start-today, search-today}
 use Rattle.kept.specs.Laws.Steady.{sum-zero, all-same}
-use Rattle.kept.specs.Laws.Alike.{Without, Alike, component-same, spreads-same, empty-same, rating-same, amounts-same}
+use Rattle.kept.specs.Laws.Alike.{Without, Alike, component-same, spreads-same, empty-same, rating-same}
+use Rattle.kept.specs.Laws.Alike.{amounts-same}
 use Rattle.kept.specs.Laws.AlikeCells.{blend-cell, records-alike, start-alike}
 use Rattle.kept.specs.Laws.AlikeRuns.{EndsAlike, search-alike}
 
