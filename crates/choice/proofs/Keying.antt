@@ -21,7 +21,7 @@ use Rattle.systems.specs.Choice.{maskOf, inMask, presentOf, presentIn, standing
 use Rattle.systems.specs.Choice.{oneIf, countOf, containingOf, scoreOf, betterOf, fittestOf, takeOf, passOf}
 use Rattle.systems.specs.Choice.{marksOf}
 use Rattle.systems.specs.Laws.Table.{none-has, to-true, everyTo, eachTo}
-use Rattle.systems.specs.Laws.Presence.{Every, every-elem, mask-lt}
+use Rattle.systems.specs.Laws.Presence.{Every, every-in, mask-lt}
 use Rattle.systems.specs.Without.{HYDROCARBONS}
 use Rattle.systems.specs.Laws.Scores.{better-next, better-before}
 use Rattle.choice.specs.Inner.Keys.{KEYS, keyWeights, keyOf, Keyed}
@@ -39,7 +39,7 @@ weighed-next mix system c k x e w = rw (add-one c) (omega (arith, e, w))
 fitness-at : (mix : List ℕ) (s : ℕ) → isIn s candidates ≡ true → keyWeights mix s COMPONENTS ≡ fitnessOf mix s
 unfolding Every keyWeights fitnessOf hasOf memberOf
 fitness-at mix =
-    every-elem (λ s. keyWeights mix s COMPONENTS ≡ fitnessOf mix s) candidates
+    every-in (λ s. keyWeights mix s COMPONENTS ≡ fitnessOf mix s) candidates
     (omega arith, (omega arith, (omega arith, (omega arith, (omega arith, (omega arith, (omega arith, omega arith)))))))
 
 listedAt : Bool → ℕ → Bool

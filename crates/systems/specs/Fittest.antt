@@ -26,22 +26,22 @@ rises-lower b s (x ∷ systems) h t =
     (le→leb b x (omega (arith, leb→le s x (and-l (leb s x) (rises x systems) t))))
     (and-r (leb s x) (rises x systems) t)
 
-elem-cases : (P : Type 0) (n x : ℕ) (xs : List ℕ) → isIn n (x ∷ xs) ≡ true
+in-cases : (P : Type 0) (n x : ℕ) (xs : List ℕ) → isIn n (x ∷ xs) ≡ true
     → (n ≡ x → P) → (isIn n xs ≡ true → P) → P
 unfolding isIn
-elem-cases P n x xs h f g = go (eqb n x) refl
+in-cases P n x xs h f g = go (eqb n x) refl
   where
     go : (b : Bool) → eqb n x ≡ b → P
     go true e = f (eqb-true n x e)
     go false e = g (rw (e, isIn) at h)
 
-pub elem-here : (x : ℕ) (xs : List ℕ) → isIn x (x ∷ xs) ≡ true
+pub in-here : (x : ℕ) (xs : List ℕ) → isIn x (x ∷ xs) ≡ true
 unfolding isIn
-elem-here x xs = rw (eq-eqb x x refl, isIn)
+in-here x xs = rw (eq-eqb x x refl, isIn)
 
-pub elem-there : (n x : ℕ) (xs : List ℕ) → isIn n xs ≡ true → isIn n (x ∷ xs) ≡ true
+pub in-there : (n x : ℕ) (xs : List ℕ) → isIn n xs ≡ true → isIn n (x ∷ xs) ≡ true
 unfolding isIn
-elem-there n x xs h = go (eqb n x) refl
+in-there n x xs h = go (eqb n x) refl
   where
     go : (b : Bool) → eqb n x ≡ b → isIn n (x ∷ xs) ≡ true
     go true e = rw (e, isIn)
@@ -72,7 +72,7 @@ module _ (key : ℕ → ℕ) (marks : List Bool) (c : ℕ) where
   unfolding fold isIn
   tops [] b s e = absurd (of-true false e)
   tops (x ∷ systems) b s e =
-      elem-cases (score s ≤ score (best (x ∷ systems) b)) s x systems e
+      in-cases (score s ≤ score (best (x ∷ systems) b)) s x systems e
       (λ p. rw p (omega (arith, grows systems (betterOf key marks c b x), better-tops b x)))
       (λ q. tops systems (betterOf key marks c b x) s q)
 
@@ -92,8 +92,8 @@ module _ (key : ℕ → ℕ) (marks : List Bool) (c : ℕ) where
   among P [] b p f = p
   among P (x ∷ systems) b p f =
       among P systems (betterOf key marks c b x)
-      (better-cases key marks c P b x (λ h. f x (elem-here x systems)) (λ h. p))
-      (λ s e. f s (elem-there s x systems e))
+      (better-cases key marks c P b x (λ h. f x (in-here x systems)) (λ h. p))
+      (λ s e. f s (in-there s x systems e))
 
   -- and none that scores as much has a lower number
   lowest-best : (systems : List ℕ) (b s : ℕ) → T (rises b systems) → isIn s systems ≡ true
@@ -103,7 +103,7 @@ module _ (key : ℕ → ℕ) (marks : List Bool) (c : ℕ) where
   lowest-best (x ∷ systems) b s t e q =
       let l : b ≤ x = leb→le b x (and-l (leb b x) (rises x systems) t) in
       let u : T (rises x systems) = and-r (leb b x) (rises x systems) t in
-      elem-cases (best (x ∷ systems) b ≤ s) s x systems e
+      in-cases (best (x ∷ systems) b ≤ s) s x systems e
       (λ p.
       let z : best systems (betterOf key marks c b x) ≡ betterOf key marks c b x =
       stays systems (betterOf key marks c b x) (omega (arith, better-tops b x, ap score p)) in

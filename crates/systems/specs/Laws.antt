@@ -3,3 +3,4 @@ pub mod Members
 pub mod Scores
 pub mod Presence
 pub mod Full
+pub mod Passes

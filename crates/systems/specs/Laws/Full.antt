@@ -14,7 +14,7 @@ use Rattle.refusal.specs.Keys.{isIn}
 use Rattle.systems.specs.Systems.{COMPONENTS, HYDROGEN, memberOf, hasOf, candidates, hydrocarbonSystems}
 use Rattle.systems.specs.Laws.Table.{of-true, every, each, none-has}
 use Rattle.systems.specs.Laws.Scores.{score-open, score-closed, better-cases}
-use Rattle.systems.specs.Fittest.{elem-here, elem-there}
+use Rattle.systems.specs.Fittest.{in-here, in-there}
 use Rattle.systems.specs.Laws.Presence.{standing-fitter, choose-is}
 use Rattle.systems.specs.Without.{HYDROCARBONS, present-before}
 use Rattle.systems.specs.Choice.{NUMBERS, hydrocarbonOrder, order, fold, maskFrom, maskOf, inMask, presentAt}
@@ -71,9 +71,9 @@ module _ (k l : ℕ → ℕ) (systems : List ℕ)
     unfolding fold
     best-alike [] f b p = refl
     best-alike (s ∷ xs) f b p =
-        best-alike xs (λ t e. f t (elem-there t s xs e)) (betterOf k marks c b s)
-        (better-cases k marks c Known b s (λ h o. f s (elem-here s xs)) (λ h. p))
-        ∙ ap (fold (betterOf l marks c) xs) (better-alike b s p (λ o. f s (elem-here s xs)))
+        best-alike xs (λ t e. f t (in-there t s xs e)) (betterOf k marks c b s)
+        (better-cases k marks c Known b s (λ h o. f s (in-here s xs)) (λ h. p))
+        ∙ ap (fold (betterOf l marks c) xs) (better-alike b s p (λ o. f s (in-here s xs)))
 
     fittest-alike : c < COMPONENTS → fittestOf k systems marks c ≡ fittestOf l systems marks c
     unfolding fittestOf

@@ -184,10 +184,10 @@ unfoldable pub Every : (ℕ → Type 0) → List ℕ → Type 0
 Every P [] = 0 ≤ 0
 Every P (x ∷ xs) = P x × Every P xs
 
-pub every-elem : (P : ℕ → Type 0) (xs : List ℕ) → Every P xs → (s : ℕ) → isIn s xs ≡ true → P s
+pub every-in : (P : ℕ → Type 0) (xs : List ℕ) → Every P xs → (s : ℕ) → isIn s xs ≡ true → P s
 unfolding Every isIn
-every-elem P [] e s h = absurd (of-true false h)
-every-elem P (x ∷ xs) e s h = go (eqb s x) refl (every-elem P xs (e .1) s)
+every-in P [] e s h = absurd (of-true false h)
+every-in P (x ∷ xs) e s h = go (eqb s x) refl (every-in P xs (e .1) s)
   where
     go : (b : Bool) → eqb s x ≡ b → (isIn s xs ≡ true → P s) → P s
     go true q r = rw (eqb-true s x q) (e .0)
@@ -215,7 +215,7 @@ offered-candidate present s = go (inMask present HYDROGEN)
 pub fitness-le : (mix : List ℕ) (s : ℕ) → isIn s candidates ≡ true → fitnessOf mix s ≤ allTo mix COMPONENTS
 unfolding Every allTo fitnessOf memberOf
 fitness-le mix =
-    every-elem (λ s. fitnessOf mix s ≤ allTo mix COMPONENTS) candidates (
+    every-in (λ s. fitnessOf mix s ≤ allTo mix COMPONENTS) candidates (
       omega arith,
       (omega arith, (omega arith, (omega arith, (omega arith, (omega arith, (omega arith, omega arith)))))),
     )
