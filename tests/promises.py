@@ -15,7 +15,7 @@ and what stands between backquotes is `requires`, a crate, a folder of the crate
 of functions alone, and what a public function's row says of its promise stands in its contract.
 In README.md and the other documents each link's file is there, and so is what stands between backquotes as
 crate::function, crate/specs/File.name or crate/edit. README.md's table of crates is crates.txt's, stage by stage.
-Whatever is not found is an error, with its line. Ends with 1 where there is one.
+Whatever is not found is an error, with its line (in the other documents its paragraph's). Ends with 1 where there is one.
 """
 import os
 import re
@@ -302,11 +302,12 @@ def check_other(tree, document):
         first = crate + '::' + ('' if module in ('lib', 'main') else module + '::')
         here.update((first + name, path) for name in source.names)
         here[first[:-2]] = path
-    for number, line in enumerate(text_of(document).split('\n'), 1):
-        for said, link in LINK.findall(line):
+    number = 1
+    for paragraph in text_of(document).split('\n\n'):
+        for said, link in LINK.findall(paragraph):
             if '://' not in link and not there(document, link):
                 errors.append('%s:%d: [%s](%s): no such file or section' % (document, number, said, link))
-        for said in re.findall(r'`([^`]*)`', line):
+        for said in re.findall(r'`([^`]*)`', paragraph):
             first = re.match(r'\w+(?=::|/)', said)
             if not first or first[0] not in tree.crates or ' ' in said:
                 continue
@@ -320,6 +321,7 @@ def check_other(tree, document):
                         or (path in tree.declared and (file[2] or os.path.basename(file[1])) in tree.declared[path])):
                     where = tree.elsewhere(file[2] if file and file[2] else name.rpartition('/')[2], first[0])
                     errors.append('%s:%d: `%s`: not found%s' % (document, number, name, where))
+        number += paragraph.count('\n') + 2
     return errors
 
 
