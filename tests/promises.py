@@ -4,18 +4,20 @@
 
   python3 tests/promises.py [--show | --write]
     --show     each name with its line and its file
-    --write    writes the table of must-fail edits anew, then checks
+    --write    writes the table of must-fail edits anew and points each link whose name has moved at the one file that
+               declares it, then checks
 
 A link of docs/PROMISES.md is one of
   [name](../crates/x/specs/File.antt)      a definition or theorem that the file declares, or the file, by its own name
   [x::f](../crates/x/src/lib.rt)           a function, type or constant of the file; [x::m::f] of src/m.rt
   [edit](../crates/x/must-fail/edit.edit)  in the table of edits; elsewhere [x/edit]
   [path](../path)                          any other file
-and what stands between backquotes is `requires`, a crate, a folder of the crates or a command. Functions stand in columns
-of functions alone, and what a public function's row says of its promise stands in its contract.
+and what stands between backquotes is `requires`, a crate, a folder of the crates or a command. Functions stand in
+columns of functions alone, and what a public function's row says of its promise stands in its contract.
 In README.md and the other documents each link's file is there, and so is what stands between backquotes as
 crate::function, crate/specs/File.name or crate/edit. README.md's table of crates is crates.txt's, stage by stage.
-Whatever is not found is an error, with its line (in the other documents its paragraph's). Ends with 1 where there is one.
+Whatever is not found is an error, with its line (in the other documents its paragraph's). Ends with 1 where there is
+one.
 """
 import os
 import re
@@ -122,11 +124,24 @@ class Tree:
         return {(crate, name) for crate in self.crates
                 for name in getattr(self.sources.get('crates/%s/src/lib.rt' % crate), 'public', ())}
 
-    def elsewhere(self, name, crate):
-        """Where a name is declared that was not found: in the crate, else in any."""
+    def places(self, name, crate):
+        """Where a name is declared: in the crate's specs, else in the crate, else in any."""
         places = [path for path, names in self.declared.items() if name in names]
-        near = [path for path in places if path.startswith('crates/%s/' % crate)]
-        return '; it is in ' + ', '.join(near or places) if places else ''
+        for near in ('crates/%s/specs/' % crate, 'crates/%s/' % crate, 'crates/'):
+            found = [path for path in places if path.startswith(near)]
+            if found:
+                return found
+        return []
+
+    def elsewhere(self, name, crate):
+        found = self.places(name, crate)
+        return '; it is in ' + ', '.join(found) if found else ''
+
+    def moved(self, link):
+        """A link to definitions or laws, pointed at the one file that declares its name where its own does not."""
+        crate = re.match(r'\.\./crates/(\w+)/.*\.antt$', link[2])
+        found = self.places(link[1], crate[1]) if crate and link[1] not in self.declared.get(link[2][3:], ()) else []
+        return '[%s](../%s)' % (link[1], found[0]) if len(found) == 1 else link[0]
 
     def wrongs(self, path):
         """What an edit wrongs: the first line of its file, to the first colon or semicolon after three words."""
@@ -343,7 +358,7 @@ def main():
     if options == ['--write']:
         head, _, rest = text.partition('\n'.join(EDITS) + '\n')
         after = rest[re.match(r'(\|[^\n]*\n)*', rest).end():]
-        text = head + '\n'.join(tree.table_of_edits()) + '\n' + after
+        text = LINK.sub(tree.moved, head) + '\n'.join(tree.table_of_edits()) + '\n' + after
         with open(os.path.join(ROOT, DOCUMENT), 'w', encoding='utf-8') as f:
             f.write(text)
     document = Document(tree, text)
