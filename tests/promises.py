@@ -1,45 +1,45 @@
 #!/usr/bin/env python3
-"""Checks that docs/PROMISES.md names what is there: each definition, theorem, function, must-fail edit and file; and that
-it names every must-fail edit and every public function. README.md's table of crates has every crate.
+"""Checks that docs/PROMISES.md leads where it says: each name is a link to the file that declares it. It has document
+01's sections in their order, every public function, every refusal and every must-fail edit.
 
-  python3 tests/promises.py [--show]       --show: each name with its line and what it was taken for
+  python3 tests/promises.py [--show | --write]
+    --show     each name with its line and its file
+    --write    writes the table of must-fail edits anew and points each link whose name has moved at the one file that
+               declares it, then checks
 
-What stands between backquotes is one of
-  crate/specs/File.name      a definition or theorem; also crate/File.name, proofs/File.name, crate/specs/File alone,
-                             File.{a, b}, File.Record.field. File.name is looked for in the crates of the row, then in
-                             those of the section
-  name                       in the file named before it in the same cell; else in a crate of the row, of the section,
-                             or below these, and there in one file only, or in one that the cell names; or a function,
-                             type or constant of these crates
-  crate::function            also crate::module::function, crate::{a, b}, crate::Type; with (a, b) its parameters are
-                             compared
-  crate/edit                 crates/crate/must-fail/edit.edit; in the same cell the next ones of the crate by name alone
-  saugrinte_x, _x            a function of the C interface
-  a path, a command, a crate, a file of a crate's data
-  an expression              of words that are declared, or stand in the sources of these crates
-Whatever is none of these is an error, with its line. Ends with 1 where there is one.
+A link of docs/PROMISES.md is one of
+  [name](../crates/x/specs/File.antt)      a definition or theorem that the file declares, or the file, by its own name
+  [x::f](../crates/x/src/lib.rt)           a function, type or constant of the file; [x::m::f] of src/m.rt
+  [edit](../crates/x/must-fail/edit.edit)  in the table of edits; elsewhere [x/edit]
+  [path](../path)                          any other file
+and what stands between backquotes is `requires`, a crate, a folder of the crates or a command. Functions stand in
+columns of functions alone, and what a public function's row says of its promise stands in its contract.
+In README.md and the other documents each link's file is there, and so is what stands between backquotes as
+crate::function, crate/specs/File.name or crate/edit. README.md's table of crates is crates.txt's, stage by stage.
+Whatever is not found is an error, with its line (in the other documents its paragraph's). Ends with 1 where there is
+one.
 """
-import glob
 import os
 import re
 import sys
 
 ROOT = os.path.dirname(os.path.dirname(os.path.abspath(__file__)))
-DOCUMENT = os.path.join(ROOT, 'docs', 'PROMISES.md')
-README = os.path.join(ROOT, 'README.md')
-LANGUAGE = {'requires', 'ensures', 'simp', 'struct', 'i64'}
-WORD = r"[^\s(){},;:|\[\]`]+"
+DOCUMENT, README = 'docs/PROMISES.md', 'README.md'
+OTHERS = (README, 'docs/DECISIONS.md', 'docs/CONTRIBUTING.md')
+HEADINGS = [
+    'The three demands', 'The register and the sheet', 'Simplification', 'Choice of systems', 'A partial number',
+    'The split and the rating', 'The search', 'Writer, display, controller', 'What is turned away',
+    'Gases and their figures', 'Mistakes lying ready', 'Which form to use where', 'Raters worth nothing',
+    'Public functions', "Answers' cases", 'Keys', 'Refusals', 'Must-fail edits']
+LINK = re.compile(r'\[([^][]*)\]\(([^()\s]*)\)')
+EDITS = ('| crate | edit | what it wrongs |', '|---|---|---|')
 
 
 # ------------------------------------------------------------ what the tree has
 
 def text_of(path):
-    with open(path, encoding='utf-8') as f:
+    with open(os.path.join(ROOT, path), encoding='utf-8') as f:
         return f.read()
-
-
-def indent(line):
-    return len(line) - len(line.lstrip(' '))
 
 
 def declared(text):
@@ -50,7 +50,7 @@ def declared(text):
         said = line.strip()
         if not said or said.startswith('--'):
             continue
-        at = indent(line)
+        at = len(line) - len(line.lstrip(' '))
         if header is None:
             while blocks and blocks[-1][0] >= at:
                 blocks.pop()
@@ -67,7 +67,7 @@ def declared(text):
         if said == 'where' or said.endswith(' where'):
             blocks.append((at, True, None))
             continue
-        found = re.match(r'(?:(?:pub|abbrev|unfoldable|private|opaque) )*(\S+)((?: \{[^}]*\})*) :( |$)', said) \
+        found = re.match(r'(?:(?:pub|abbrev|unfoldable|private|opaque) )*([^\s(){}]+)((?: \{[^}]*\})*) :( |$)', said) \
             or re.match(r'(?:pub )?ruleset (\S+) =', said)
         if found and not any(b[1] for b in blocks):
             names.add(found[1])
@@ -76,365 +76,301 @@ def declared(text):
     return names
 
 
-def files_under(folder, kind):
-    """The files of a kind; one of another kind is an error, since nothing reads it."""
-    out = []
-    for place, _, found in os.walk(folder):
-        for file in sorted(found):
-            if not file.endswith(kind):
-                sys.exit('promises: %s is no %s file' % (os.path.relpath(os.path.join(place, file), ROOT), kind))
-            out.append(os.path.join(place, file))
-    return out
+class Source:
+    """A file of code: its functions with their contracts, its types and constants, its public functions."""
 
-
-class Crate:
-    """A crate's files of definitions and laws, its code, its edits."""
-
-    def __init__(self, name, below):
-        self.name, self.below = name, below
-        self.folder = os.path.join(ROOT, 'crates', name)
-        self.files, self.functions, self.public, self.types, self.source = {}, {}, set(), set(), ''
-        for part in ('specs', 'proofs'):
-            for path in files_under(os.path.join(self.folder, part), '.antt'):
-                text = text_of(path)
-                self.files[os.path.relpath(path, self.folder)[:-len('.antt')]] = declared(text)
-                self.source += text if part == 'specs' else ''
-        for path in files_under(os.path.join(self.folder, 'src'), '.rt'):
-            module = os.path.basename(path)[:-len('.rt')]
-            self.source += text_of(path)
-            self.read_code(text_of(path), () if module in ('lib', 'main') else (module,))
-        edits = files_under(os.path.join(self.folder, 'must-fail'), '.edit')
-        self.edits = {os.path.basename(path)[:-len('.edit')] for path in edits}
-        self.words = set(re.findall(r'[\w·→-]+', self.source))
-        self.imported = {word for items in re.findall(r'\buse [^\n{]*\{([^}]*)\}', self.source)
-                         for word in re.split(r',\s*', items)}
-
-    def read_code(self, text, module):
-        text = re.sub(r'//[^\n]*', '', text)
-        self.functions[module] = None
-        for opened, name, given in re.findall(
-                r'^(pub )?(?:pub\(crate\) )?(?:extern "C" )?fn (\w+)(?:<[^>]*>)?\(([^)]*)\)', text, re.M):
-            self.functions[(*module, name)] = re.findall(r'(\w+):', given)
-            if opened and not module:
-                self.public.add(name)
+    def __init__(self, path):
+        text = re.sub(r'//[^\n]*', '', text_of(path))
+        self.contracts = {name: contract for name, contract in re.findall(
+            r'^(?:pub )?(?:pub\(crate\) )?(?:extern "C" )?fn (\w+)([^\n]*\{$|.*?^\{)', text, re.M | re.S)}
+        self.public = set(re.findall(r'^pub (?:extern "C" )?fn (\w+)', text, re.M))
+        self.names = {*self.contracts, *re.findall(r'^(?:pub )?(?:struct|const|type|enum) (\w+)', text, re.M)}
         for line, name in re.findall(r'^( *pub\b[^\n(]*\bfn (\w+)|.*\bpub mod \w+)', text, re.M):
-            if (*module, name) not in self.functions:
-                sys.exit('promises: crates/%s/src: not understood: %s' % (self.name, line))
-        for name, body in re.findall(r'^(?:pub )?(?:struct|enum) (\w+)(?:<[^>]*>)? \{(.*?)^\}', text, re.M | re.S):
-            members = re.findall(r'^ +(?:pub )?(\w+)', body, re.M)
-            self.types |= {name, *members, *(name + '.' + member for member in members)}
-        self.types |= set(re.findall(r'^(?:pub )?(?:struct|const|type|enum) (\w+)', text, re.M))
-
-    def library(self):
-        return os.path.exists(os.path.join(self.folder, 'src', 'lib.rt'))
-
-    def file(self, name, part):
-        """The key of a file named with its part or without, or None."""
-        return next((key for key in (name, part + '/' + name) if key in self.files and key.startswith(part + '/')), None)
-
-    def defined_in(self, name):
-        return [key for key, names in self.files.items() if key.startswith('specs/') and name in names]
+            if name not in self.contracts:
+                sys.exit('promises: %s: not understood: %s' % (path, line))
 
 
-def crates():
-    out = {}
-    for line in text_of(os.path.join(ROOT, 'crates.txt')).split('\n'):
-        name, colon, below = line.partition(':')
-        if colon and not line.startswith('#'):
-            out[name] = Crate(name, below.split())
-    return out
+class Tree:
+    """The crates' files: what each declares."""
+
+    def __init__(self):
+        self.crates, self.stages, self.declared, self.sources, self.edits = [], [], {}, {}, {}
+        for line in text_of('crates.txt').split('\n'):
+            if line.startswith('# ') and not line.endswith('.'):
+                self.stages.append((line[2:], []))
+            elif ':' in line:
+                self.crates.append(line.partition(':')[0])
+                self.stages[-1][1].append(self.crates[-1])
+        for crate in self.crates:
+            for part in ('specs', 'proofs'):
+                for path in self.files(crate, part, '.antt'):
+                    self.declared[path] = declared(text_of(path)) | {os.path.basename(path)[:-len('.antt')]}
+            for path in self.files(crate, 'src', '.rt'):
+                self.sources[path] = Source(path)
+            for path in self.files(crate, 'must-fail', '.edit'):
+                self.edits[crate, os.path.basename(path)[:-len('.edit')]] = path
+
+    def files(self, crate, part, kind):
+        """The files of a kind; one of another kind is an error, since nothing reads it."""
+        for place, folders, found in os.walk(os.path.join(ROOT, 'crates', crate, part)):
+            folders.sort()
+            for file in sorted(found):
+                path = os.path.relpath(os.path.join(place, file), ROOT)
+                if not file.endswith(kind):
+                    sys.exit('promises: %s is no %s file' % (path, kind))
+                yield path
+
+    def public(self):
+        return {(crate, name) for crate in self.crates
+                for name in getattr(self.sources.get('crates/%s/src/lib.rt' % crate), 'public', ())}
+
+    def places(self, name, crate):
+        """Where a name is declared: in the crate's specs, else in the crate, else in any."""
+        places = [path for path, names in self.declared.items() if name in names]
+        for near in ('crates/%s/specs/' % crate, 'crates/%s/' % crate, 'crates/'):
+            found = [path for path in places if path.startswith(near)]
+            if found:
+                return found
+        return []
+
+    def elsewhere(self, name, crate):
+        found = self.places(name, crate)
+        return '; it is in ' + ', '.join(found) if found else ''
+
+    def moved(self, link):
+        """A link to definitions or laws, pointed at the one file that declares its name where its own does not."""
+        crate = re.match(r'\.\./crates/(\w+)/.*\.antt$', link[2])
+        found = self.places(link[1], crate[1]) if crate and link[1] not in self.declared.get(link[2][3:], ()) else []
+        return '[%s](../%s)' % (link[1], found[0]) if len(found) == 1 else link[0]
+
+    def wrongs(self, path):
+        """What an edit wrongs: the first line of its file, to the first colon or semicolon after three words."""
+        line = re.sub(r'^# *', '', text_of(path).partition('\n')[0])
+        short = re.match(r'(\S+(?: \S+){2,}?)[:;] ', line)
+        return short[1] if short else line
+
+    def table_of_edits(self):
+        return [*EDITS, *('| %s | [%s](../%s) | %s |' % (crate, edit, path, self.wrongs(path))
+                          for (crate, edit), path in self.edits.items())]
 
 
-# ------------------------------------------------------------ the document
+# ------------------------------------------------------------ documents
 
 class Unknown(Exception):
     """Says what was not found."""
 
 
-def split_row(line):
-    """The cells of a table's row; a | between backquotes ends none."""
-    cells, inside = [''], False
-    for c in line.strip()[1:-1]:
-        inside ^= c == '`'
-        if c == '|' and not inside:
-            cells.append('')
-        else:
-            cells[-1] += c
-    return cells
+def target(document, link):
+    return os.path.normpath(os.path.join(os.path.dirname(document), link.partition('#')[0]))
 
 
-def quoted(text):
-    return re.findall(r'`([^`]*)`', text)
+def there(document, link):
+    """Whether a link's file is there, and the section that it names in it."""
+    path, section = target(document, link), link.partition('#')[2]
+    if not os.path.exists(os.path.join(ROOT, path)):
+        return False
+    return not section or section in {re.sub(r'[^\w -]', '', line.lstrip('# ')).lower().replace(' ', '-')
+                                      for line in text_of(path).split('\n') if line.startswith('#')}
 
 
 class Document:
-    """Goes through the document and notes what it names."""
+    """docs/PROMISES.md: goes through its lines and notes what they name."""
 
-    def __init__(self, all_crates):
-        self.crates, self.errors, self.found = all_crates, [], []
-        self.edits, self.functions = set(), set()
-        self.row, self.section, self.parameters = [], [], set()     # crates named in this row, in this section
-        self.begin_cell()
+    def __init__(self, tree, text):
+        self.tree, self.errors, self.found, self.functions, self.refusals = tree, [], [], [], []
+        self.lines = text.split('\n')
+        self.read()
 
-    def begin_cell(self):
-        self.crate = self.file = self.edits_of = None               # those named last in this cell
-        self.module = ()
+    def error(self, number, said):
+        self.errors.append('%s:%d: %s' % (DOCUMENT, number, said))
 
-    # -- where a name is looked for
+    # -- a link
 
-    def named_in(self, text):
-        """The crates that a text names, in its order."""
-        out = []
-        for token in quoted(text):
-            words = re.findall(r'^[a-z_]+$|[a-z_]+(?=/|::)', token)
-            words += [c for c, crate in self.crates.items() if token in crate.public and token.startswith('saugrinte_')]
-            out += [word for word in words if word in self.crates and word not in out]
-        return out
-
-    def below(self, names):
-        out = []
-        for name in names:
-            out += [n for n in (name, *self.crates[name].below) if n in self.crates and n not in out]
-        return out
-
-    def scopes(self):
-        """The crates in the order in which a name is looked for: of the cell, the row, below these, of the section,
-        below these."""
-        here, before = [self.crate] if self.crate else [], []
-        for names in (here, self.row, self.below(here + self.row), self.section, self.below(self.section)):
-            new = [name for name in names if name not in before]
-            before += new
-            yield [self.crates[name] for name in new]
-
-    def scope(self):
-        return [crate for crates_of in self.scopes() for crate in crates_of]
-
-    # -- one text between backquotes: each answers what was found
-
-    def path(self, token):
-        if not glob.glob(os.path.join(ROOT, token.replace('NAME', '*'))):
-            raise Unknown('no such file')
+    def name(self, text, path):
+        """Finds what a link's text names in its file, and says what that is."""
+        if not os.path.exists(os.path.join(ROOT, path)):
+            crate = re.match(r'crates/(\w+)/', path)
+            raise Unknown('no such file' + self.tree.elsewhere(text, crate[1] if crate else ''))
+        crate, _, inner = path.replace('crates/', '', 1).partition('/') if path.startswith('crates/') else ('', '', '')
+        if path in self.tree.declared:
+            if text not in self.tree.declared[path]:
+                raise Unknown('not declared there' + self.tree.elsewhere(text, crate))
+            return 'name'
+        if path in self.tree.sources and text != path:
+            module = os.path.basename(path)[:-len('.rt')]
+            first = crate + '::' + ('' if module in ('lib', 'main') else module + '::')
+            if not text.startswith(first) or text[len(first):] not in self.tree.sources[path].names:
+                raise Unknown('no such function, type or constant: %s.. is wanted' % first)
+            return 'function'
+        if (crate, os.path.basename(inner)[:-len('.edit')]) in self.tree.edits:
+            if text != crate + '/' + os.path.basename(inner)[:-len('.edit')]:
+                raise Unknown('crate/edit is wanted')
+            return 'edit'
+        if text != path:
+            raise Unknown('the name of a file is its path')
         return 'file'
 
-    def command(self, words):
-        self.path(words[0])
-        for option in words[1:]:
-            if option not in text_of(os.path.join(ROOT, words[0])):
-                raise Unknown('%s does not know %s' % (words[0], option))
-        return 'file'
+    def quoted(self, text):
+        """What stands between backquotes."""
+        command = re.fullmatch(r'python3 (\S+)((?: --\w+)*)', text)
+        if command and os.path.exists(os.path.join(ROOT, command[1])):
+            return all(option in text_of(command[1]) for option in command[2].split())
+        return text == 'requires' or text in self.tree.crates or (text.endswith('/') and any(
+            os.path.isdir(os.path.join(ROOT, 'crates', crate, text)) for crate in self.tree.crates))
 
-    def edit(self, crate, label):
-        if label not in self.crates[crate].edits:
-            raise Unknown('%s has no such edit' % crate)
-        self.edits.add((crate, label))
-        self.edits_of = crate
-        return 'edit of ' + crate
-
-    def function(self, token):
-        name, paren, given = token.partition('(')
-        parts, scope = tuple(name.split('::')), self.scope()
-        if parts[0] in self.crates and len(parts) > 1:
-            self.crate, parts = parts[0], parts[1:]
-            scope = [self.crates[self.crate]]
-        for crate in scope:
-            if len(parts) == 1 and parts[0] in crate.types and parts not in crate.functions:
-                return 'code of ' + crate.name
-            if parts not in crate.functions:
-                continue
-            parameters = crate.functions[parts]
-            if parameters is None:
-                self.crate, self.module = crate.name, parts
-                return 'module of ' + crate.name
-            if paren and re.findall(r'\w+', given) != parameters:
-                raise Unknown('its parameters are ' + ', '.join(parameters))
-            self.parameters |= set(parameters)
-            if len(parts) == 1 and parts[0] in crate.public:
-                self.functions.add((crate.name, parts[0]))
-            return 'function of ' + crate.name
-        raise Unknown('no such function')
-
-    def in_file(self, crate, key, name):
-        if name and name not in crate.files[key]:
-            raise Unknown('not declared in crates/%s/%s.antt' % (crate.name, key))
-        self.file = (crate, key)
-        return '%s/%s' % (crate.name, key)
-
-    def slashed(self, token):
-        first, _, rest = token.partition('/')
-        if first in ('specs', 'proofs'):
-            return self.dotted(token)
-        if first not in self.crates:
-            return self.path(token)
-        crate, name = self.crates[first], rest.partition('.')
-        if rest in crate.edits:
-            return self.edit(first, rest)
-        self.crate = first
-        if os.path.exists(os.path.join(crate.folder, rest)):
-            module = re.fullmatch(r'src/(\w+)\.rt', rest)
-            self.module = (module[1],) if module else ()
-            return 'file of ' + first
-        key = crate.file(name[0], 'proofs' if rest.startswith('proofs/') else 'specs')
-        if key is None:
-            raise Unknown('no such edit or file')
-        return self.in_file(crate, key, name[2])
-
-    def dotted(self, token):
-        """File.name, specs/File.name, proofs/File.name; a folder of proofs; Type.field."""
-        name, dot, inside = token.partition('.')
-        part, there = 'proofs' if name.startswith('proofs/') else 'specs', False
-        for crate in self.scope():
-            key = crate.file(name, part)
-            if key is not None and (not dot or inside in crate.files[key]):
-                return self.in_file(crate, key, inside)
-            if '/' in name and os.path.isdir(os.path.join(crate.folder, name)):
-                return 'folder of ' + crate.name
-            if dot and crate.defined_in(token):
-                return '%s/%s' % (crate.name, crate.defined_in(token)[0])
-            if dot and token in crate.types:
-                return 'code of ' + crate.name
-            there = there or key is not None
-        raise Unknown('not declared in that file' if there else 'no such file in the crates named here')
-
-    def bare(self, token):
-        """A name alone."""
-        if self.file and token in self.file[0].files[self.file[1]]:
-            return '%s/%s' % (self.file[0].name, self.file[1])
-        if self.module and (*self.module, token) in self.crates[self.crate].functions:
-            return 'function of %s' % '::'.join((self.crate, *self.module))
-        if self.crate and (token,) in self.crates[self.crate].functions:
-            return self.function(token)
-        if token.lstrip('*') in self.parameters:
-            return 'parameter'
-        if token in self.crates:
-            self.crate = token
-            return 'crate'
-        for crates_of in self.scopes():
-            places = [(crate, key) for crate in crates_of for key in crate.defined_in(token)]
-            for crate in crates_of:
-                if crate.file(token, 'specs'):
-                    return self.in_file(crate, crate.file(token, 'specs'), None)
-                if (token,) in crate.functions:
-                    return self.function(token)
-                if token in crate.types and not places:
-                    return 'code of ' + crate.name
-                if any(os.path.isfile(os.path.join(crate.folder, place, token)) for place in ('', 'data')):
-                    return 'file of ' + crate.name
-            named = [(crate, key) for crate, key in places if os.path.basename(key) in self.tokens]
-            if len(places) > 1 and not named:
-                raise Unknown('say which: ' + ', '.join('%s/%s' % (crate.name, key) for crate, key in places))
-            if places:
-                return '%s/%s' % ((named or places)[0][0].name, (named or places)[0][1])
-        if token in LANGUAGE or any(token in self.crates[name].imported for name in self.row):
-            return 'of the language or its library'
-        raise Unknown('not declared in the file or the crates named here')
-
-    def expression(self, token):
-        """Each word is declared, brought in from the library, or a variable: a plain word of the sources."""
-        for word in re.findall(WORD, token):
-            word = re.sub(r'^\.+(?=\w)', '', word)
-            if not re.search(r'\w', word) or word.isdigit():
-                continue
+    def cell(self, number, text, head):
+        """Finds the names of a cell, or of a line outside tables; answers each with its file."""
+        names = []
+        for said, link in LINK.findall(text):
+            path = target(DOCUMENT, link)
             try:
-                self.one(word)
-            except Unknown:
-                for part in word.split('.'):
-                    if not any(part in c.imported or c.defined_in(part) or (part.islower() and part in c.words)
-                               for c in self.scope()):
-                        raise Unknown('%s is not declared in the crates named here' % part) from None
-        return 'expression'
+                if not link.startswith('../'):
+                    raise Unknown('the link begins with ../')
+                kind = self.name(said, path)
+                if (kind == 'function') != (head == 'function') and head in ('definition', 'function', 'theorem'):
+                    raise Unknown('a %s in the column of %ss' % (kind, head))
+                if kind == 'edit' and 'refused' not in head:
+                    raise Unknown('an edit in the column "%s"' % head)
+                names.append((said, path))
+                self.found.append('%d: %s  (%s)' % (number, said, path))
+            except Unknown as e:
+                self.error(number, '[%s](%s): %s' % (said, link, e))
+        rest = LINK.sub('', text)
+        for said in re.findall(r'`([^`]*)`', rest):
+            self.found.append('%d: %s' % (number, said))
+            if not self.quoted(said):
+                self.error(number, '`%s`: no such crate, folder or command' % said)
+        if rest.count('`') % 2 or '](' in rest or re.search(r'\[[\w:/.-]+\]', rest):
+            self.error(number, 'a backquote is not closed, or a link is not understood')
+        return names
 
-    def one(self, token):
-        """A name without spaces."""
-        if '::' in token:
-            return self.function(token)
-        if '/' in token:
-            return self.slashed(token)
-        return self.dotted(token) if re.search(r'\w\.\w', token) else self.bare(token)
+    # -- rows of which more is asked
 
-    def edit_column(self, token):
-        first, slash, label = token.partition('/')
-        if not slash and self.edits_of and token in self.crates[self.edits_of].edits:
-            return self.edit(self.edits_of, token)
-        if not slash and token in self.crates and self.crates[token].edits:
-            return 'all edits of a crate'
-        if not slash or first not in self.crates:
-            raise Unknown('no edit: crate/edit is wanted')
-        return self.edit(first, label)
+    def function_row(self, number, cells):
+        """A public function: its definitions stand in its contract."""
+        for function, path in cells[0]:
+            crate, _, name = function.rpartition('::')
+            self.functions.append((crate, name))
+            contract = self.tree.sources[path].contracts.get(name, '')
+            for said, file in cells[1]:
+                if file in self.tree.declared and not re.search(r'(?<![\w-])%s(?![\w-])' % re.escape(said), contract):
+                    self.error(number, 'the contract of %s does not have %s' % (function, said))
 
-    def resolve(self, token, column):
-        """Finds what a text names, or each of what its list {a, b} names."""
-        listed = re.fullmatch(r'(.*(?:\.|::|/))\{([^{}]*)\}', token)
-        if listed:
-            for item in re.split(r',\s*', listed[2]):
-                self.resolve(listed[1] + item, column)
-            return
-        if column == 'edits':
-            what = self.edit_column(token)
-        elif re.match(r'(python3 )?(tests|tools|docs|include|examples|crates)/', token):
-            what = self.command(re.sub(r'^python3 ', '', token).split())
-        elif re.fullmatch(r'_\w+', token):
-            what = self.function('saugrinte' + token)
-        elif re.fullmatch(r'(pub )?[\w:]+\([\w, ]*\)', token):
-            what = self.function(re.sub(r'^pub ', '', token))
-        else:
-            what = self.expression(token) if re.search(r'\s', token) else self.one(token)
-        self.found.append('%d: %s  (%s)' % (self.line, token, what))
+    def refusal_row(self, number, cells):
+        self.refusals.append((cells[0].strip(), cells[1].strip()))
+        if not all(LINK.search(cell) for cell in cells[3:]):
+            self.error(number, 'a refusal without definition, function or theorem')
 
     # -- lines
 
-    def cell(self, number, text, column):
-        self.line, self.tokens = number, quoted(text)
-        self.begin_cell()
-        for token in quoted(text):
-            try:
-                self.resolve(token, column)
-            except Unknown as error:
-                self.errors.append('%d: `%s`: %s' % (number, token, error))
-        if text.count('`') % 2:
-            self.errors.append('%d: a backquote is not closed' % number)
+    def read(self):
+        section, heads, edits = '', [], []
+        for number, line in enumerate(self.lines, 1):
+            if line.startswith('#'):
+                section, heads = line.lstrip('# '), []
+            if not line.startswith('|'):
+                heads = []
+                self.cell(number, line, '')
+                continue
+            if section == 'Must-fail edits':
+                edits.append(line)
+                continue
+            cells = [cell.strip() for cell in line.strip()[1:-1].split('|')]
+            heads = heads or cells
+            if len(cells) != len(heads):
+                self.error(number, '%d cells under %d heads' % (len(cells), len(heads)))
+            names = [self.cell(number, cell, head) for cell, head in zip(cells, heads)]
+            if section == 'Public functions' and len(names) == 2:
+                self.function_row(number, names)
+            if section == 'Refusals' and cells[0].isdigit():
+                self.refusal_row(number, cells)
+        self.whole(edits)
 
-    def read(self, text):
-        lines = text.split('\n')
-        heads = [i for i, line in enumerate(lines) if line.startswith('#')] + [len(lines)]
-        for begin, end in zip([0] + heads, heads):
-            self.section, columns = self.named_in('\n'.join(lines[begin:end])), []
-            for number, line in enumerate(lines[begin:end], begin + 1):
-                self.row, self.parameters = self.named_in(line), set()
-                if not line.startswith('|'):
-                    columns = []
-                    self.cell(number, line, None)
-                    continue
-                cells = split_row(line)
-                if not columns:
-                    columns = ['edits' if 'must-fail' in cell else None for cell in cells]
-                    self.cell(number, ' '.join(cells), None)
-                    continue
-                if len(cells) != len(columns):
-                    self.errors.append('%d: %d cells under %d heads' % (number, len(cells), len(columns)))
-                for cell, column in zip(cells, columns):
-                    self.cell(number, cell, column)
+    def whole(self, edits):
+        """What the document must have as a whole."""
+        headings = [line[3:] for line in self.lines if line.startswith('## ')]
+        if headings != HEADINGS:
+            self.errors.append('%s: the sections are %s' % (DOCUMENT, ', '.join(HEADINGS)))
+        wanted = sorted(self.tree.public())
+        if sorted(self.functions) != wanted:
+            self.errors += ['%s: the public function %s::%s once, and no other' % (DOCUMENT, *f)
+                            for f in wanted if self.functions.count(f) != 1] or ['%s: no public function: %s' % (
+                                DOCUMENT, sorted(set(self.functions) - set(wanted)))]
+        register = text_of('crates/refusal/specs/Register.antt')
+        numbers = dict(re.findall(r'^([A-Z_]+) = (\d+)$', register, re.M))
+        given = [(numbers[name], word) for name, word in re.findall(r'^ +entry ([A-Z_]+) "([^"]*)"', register, re.M)]
+        if self.refusals != given:
+            self.errors.append('%s: the refusals are %s' % (DOCUMENT, given))
+        table = self.tree.table_of_edits()
+        self.found += table[2:]
+        self.errors += ['%s: the table of edits has not, or has besides: %s' % (DOCUMENT, row)
+                        for row in sorted(set(table) ^ set(edits))]
+        if edits != table and set(edits) == set(table):
+            self.errors.append('%s: the table of edits is in another order: --write' % DOCUMENT)
+
+
+def check_other(tree, document):
+    """README.md and the documents beside: their links, and what they name with its crate."""
+    errors, here = [], {}
+    for path, source in tree.sources.items():
+        crate, module = path.split('/')[1], os.path.basename(path)[:-len('.rt')]
+        first = crate + '::' + ('' if module in ('lib', 'main') else module + '::')
+        here.update((first + name, path) for name in source.names)
+        here[first[:-2]] = path
+    number = 1
+    for paragraph in text_of(document).split('\n\n'):
+        for said, link in LINK.findall(paragraph):
+            if '://' not in link and not there(document, link):
+                errors.append('%s:%d: [%s](%s): no such file or section' % (document, number, said, link))
+        for said in re.findall(r'`([^`]*)`', paragraph):
+            first = re.match(r'\w+(?=::|/)', said)
+            if not first or first[0] not in tree.crates or ' ' in said:
+                continue
+            names = ['%s%s' % (said.partition('{')[0], name) for name in
+                     re.split(r',\s*', said.partition('{')[2].rstrip('}'))] if '{' in said else [said]
+            for name in names:
+                file = re.fullmatch(r'(\w+/(?:specs|proofs)/[\w/]+)(?:\.antt)?(?:\.(\S+))?', name)
+                path = file and 'crates/%s.antt' % file[1]
+                if not (name in here or tuple(name.split('/')) in tree.edits
+                        or os.path.exists(os.path.join(ROOT, 'crates', name))
+                        or (path in tree.declared and (file[2] or os.path.basename(file[1])) in tree.declared[path])):
+                    where = tree.elsewhere(file[2] if file and file[2] else name.rpartition('/')[2], first[0])
+                    errors.append('%s:%d: `%s`: not found%s' % (document, number, name, where))
+        number += paragraph.count('\n') + 2
+    return errors
+
+
+def check_readme(tree):
+    """README.md's table of crates: those of crates.txt, stage by stage, in their order."""
+    table = text_of(README).partition('\n| stage | crate | what it has |\n')[2]
+    listed = []
+    for stage, crates in re.findall(r'^\|([^|`]*)\| (`[^|]*`) \|', table, re.M):
+        if stage.strip():
+            listed.append((LINK.sub(r'\1', stage).strip(), []))
+        listed[-1][1].extend(re.findall(r'`(\w+)`', crates))
+    return [] if listed == tree.stages else ["README.md's table of crates is not crates.txt's: %s" % there
+                                             for there in (listed, tree.stages)]
 
 
 def main():
-    all_crates = crates()
-    document = Document(all_crates)
-    document.read(text_of(DOCUMENT))
-    errors = ['docs/PROMISES.md:' + e for e in document.errors]
-    edits = {(c, e) for c, crate in all_crates.items() for e in crate.edits}
-    functions = {(c, f) for c, crate in all_crates.items() if crate.library() for f in crate.public}
-    errors += ['docs/PROMISES.md does not name the edit %s/%s' % e for e in sorted(edits - document.edits)]
-    errors += ['docs/PROMISES.md does not name the function %s::%s' % f for f in sorted(functions - document.functions)]
-    named = re.findall(r'^\| (`[^|]*`) \|', text_of(README).partition('\n| crate | what it has |\n')[2], re.M)
-    listed = {c for cell in named for c in re.findall(r'`(\w+)`', cell)}
-    errors += ["README.md's table of crates: %s is there or in the tree alone" % c for c in sorted(listed ^ set(all_crates))]
-    if not edits or not functions or not document.found:
+    tree, options = Tree(), sys.argv[1:]
+    text = text_of(DOCUMENT)
+    if options == ['--write']:
+        head, _, rest = text.partition('\n'.join(EDITS) + '\n')
+        after = rest[re.match(r'(\|[^\n]*\n)*', rest).end():]
+        text = LINK.sub(tree.moved, head) + '\n'.join(tree.table_of_edits()) + '\n' + after
+        with open(os.path.join(ROOT, DOCUMENT), 'w', encoding='utf-8') as f:
+            f.write(text)
+    document = Document(tree, text)
+    errors = document.errors + [e for other in OTHERS for e in check_other(tree, other)] + check_readme(tree)
+    if not tree.edits or not tree.public() or not document.found:
         errors.append('no edits, no functions or no names: the tree was not read')
-    if sys.argv[1:] == ['--show']:
+    if options == ['--show']:
         print('\n'.join(document.found))
     if errors:
         sys.exit('\n'.join(errors) + '\npromises: %d errors' % len(errors))
-    print('promises: %d names found; all %d edits and all %d public functions are named'
-          % (len(document.found), len(edits), len(functions)))
+    print('promises: %d names found; all %d edits, all %d public functions and all %d refusals are there'
+          % (len(document.found), len(tree.edits), len(tree.public()), len(document.refusals)))
 
 
 if __name__ == '__main__':
