@@ -166,8 +166,9 @@ def spec_lists(path, name):
     found = re.search(rf'^{name} =\s+((?:\([^()]*∷\s*\[\]\s*\)\s*∷\s*)+)\[\]$', text, re.M)
     if not found:
         fail(f'{path}: {name} is not a list of lists')
-    if 'neg ' in found[1] and not re.search(r'^neg n = negℤ \(pos n\)$', text, re.M):
-        fail(f'{path}: neg n is not defined as -n')
+    figures = spec_text('crates/integer/specs/Figures.antt')
+    if 'neg ' in found[1] and not re.search(r'^neg n = negℤ \(pos n\)$', figures, re.M):
+        fail('crates/integer/specs/Figures.antt: neg n is not defined as -n')
     return [[spec_figure(path, ' '.join(item.split())) for item in row.split('∷')[:-1]]
             for row in re.findall(r'\(([^()]*)\)', found[1])]
 
