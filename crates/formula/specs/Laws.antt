@@ -1,5 +1,5 @@
-pub mod Error
 pub mod Size
+pub mod Error
 pub mod Bound
 pub mod Agree
 pub mod Partial

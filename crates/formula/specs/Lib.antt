@@ -2,7 +2,7 @@ pub mod WorkingRule
 pub mod Coefficients
 pub mod Ranges
 pub mod Partial
-pub mod InRange
-pub mod Marked
-pub mod Accuracy
 pub mod Laws
+pub mod InRange
+pub mod NineteenUnits
+pub mod Marked

@@ -14,13 +14,12 @@ use Rattle.formula.specs.Coefficients.{isSystem}
 use Rattle.formula.specs.Ranges.{rangesOf, sharesInRange}
 use Rattle.formula.specs.InRange.{Shares, in-range-only, in-range-when}
 use Rattle.formula.specs.Partial.{partialNumber, exactNumber}
-use Rattle.formula.specs.Accuracy.{partial-within}
+use Rattle.formula.specs.NineteenUnits.{partial-within}
 use Rattle.ternary.specs.declared.Partial.{Partial}
 use Rattle.ternary.specs.declared.Partial.the-variants.{Number, Refused}
 use Rattle.ternary.specs.PartialCases.{numberOf, figuresOf}
 use Rattle.ternary.specs.Answer.{isMixture, partialOf}
-use Rattle.ternary.specs.Laws.Answer.{mixture-yes, mixture-of, mixture-not, mixture-zero, mixture-above}
-use Rattle.ternary.specs.Laws.Answer.{formula-is, partial-inside}
+use Rattle.ternary.specs.Laws.Answer.{mixture-yes, mixture-of, mixture-not, mixture-zero, mixture-above, formula-is, partial-inside}
 
 -- what is asked of the system and the amounts
 pub record Answerable (system n1 n2 n3 : ℕ) : Type 0 where

@@ -8,10 +8,9 @@ use native.Mathlib.Omega.{arith}
 use lib.IntN.{pos}
 use Rattle.integer.specs.Figures.{neg, MILLION}
 use Rattle.integer.specs.Fraction.{Within, Close}
-use Rattle.integer.specs.Laws.Distance.{close, looser, close-looser, close-whole, close-plus, close-times}
-use Rattle.integer.specs.Laws.Distance.{within-plus, within-over}
+use Rattle.integer.specs.Laws.Distance.{close, looser, close-looser, close-whole, close-plus, close-times, within-plus, within-over}
 use Rattle.formula.specs.Partial.{exactNumber}
-use Rattle.formula.specs.Accuracy.{partial-within}
+use Rattle.formula.specs.NineteenUnits.{partial-within}
 use Rattle.split.specs.Fold.{sumTo, sumToZ}
 use Rattle.split.specs.Split.{systemOf, amountOf, partsOf, rowNumber}
 use Rattle.split.specs.Rating.{weightedOf, meanOf, inertNumber, ratingOf, PURE_METHANE}
