@@ -62,8 +62,13 @@ module _ (mix ch : List ℕ) (k limit level allowance : ℕ) where
       unfolding searchFit
       find-empty u =
           find-none mix ch k level limit allowance
-          (rw (le-leb level FIRST_LEVEL h, few, known, ap (someEmpty ch k) (sym s) ∙ unfit-empty ch k a r q stock u,
-          searchFit))
+          (rw (
+            le-leb level FIRST_LEVEL h,
+            few,
+            known,
+            ap (someEmpty ch k) (sym s) ∙ unfit-empty ch k a r q stock u,
+            searchFit,
+          ))
 
       pub start-held : r .fit ≡ true → Held ch k a (r .numbers)
       start-held u = fit-held ch k a r q stock u
@@ -73,9 +78,9 @@ module _ (mix ch : List ℕ) (k limit level allowance : ℕ) where
       unfolding searchFit
       find-is u x z =
           let e : someEmpty ch k (startOf mix ch k) ≡ false = ap (someEmpty ch k) (sym s)
-              ∙ no-empty ch k a (start-held u .sound .some) in
+          ∙ no-empty ch k a (start-held u .sound .some) in
           z ∙ ap (searchOf ch k limit level allowance) s
-              ∙ find-search mix ch k level limit allowance (rw (le-leb level FIRST_LEVEL h, few, known, e, searchFit))
+          ∙ find-search mix ch k level limit allowance (rw (le-leb level FIRST_LEVEL h, few, known, e, searchFit))
 
   -- both tests at once
   module _ (b : Bool) (p : b ≡ (mixtureFit mix && chosenFit ch k)) where

@@ -74,8 +74,8 @@ module _ (ch : List ℕ) (k limit allowance : ℕ) (a : List ℕ) (level rounds 
 abbrev pub AtTurn : List ℕ → ℕ → ℕ → ℕ → Found → ℕ → List ℕ → List ℤ → List ℤ → ℕ → Type 0
 AtTurn ch k limit allowance S level a v t rounds =
     Held ch k a v × (level ≤ 16) × (rounds ≤ allowance)
-        × (S ≡ runOf ch k limit allowance (suc (allowance - rounds + level)) a level rounds)
-        × Tried ch k a (2 ^ level) t
+    × (S ≡ runOf ch k limit allowance (suc (allowance - rounds + level)) a level rounds)
+    × Tried ch k a (2 ^ level) t
 
 -- a turn x
 module _ (ch : List ℕ) (k limit allowance : ℕ) (S : Found) (level : ℕ) (a : List ℕ) (v t : List ℤ) (rounds : ℕ)

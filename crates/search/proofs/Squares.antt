@@ -118,8 +118,13 @@ module _ (u : ℕ → ℕ) (P : ℕ → ℕ → ℕ) where
   unfolding sumTo
   inner i zero h = omega (arith, N.mul-zero (u i), N.zero-mul (u i * u i))
   inner i (suc n) h =
-      omega (arith, inner i n (λ j l. h j (omega arith)), h n (omega arith), N.mul-add (u i) (sumTo u n) (u n),
-      N.suc-mul n (u i * u i))
+      omega (
+        arith,
+        inner i n (λ j l. h j (omega arith)),
+        h n (omega arith),
+        N.mul-add (u i) (sumTo u n) (u n),
+        N.suc-mul n (u i * u i),
+      )
 
   pub pairs : (k : ℕ) → ((i j : ℕ) → i < k → j < i → P i j + 2 * (u i * u j) ≡ u i * u i + u j * u j)
       → sumTo (λ i. sumTo (P i) i) k + sumTo u k * sumTo u k ≡ k * sumTo (λ j. u j * u j) k
@@ -154,8 +159,12 @@ module _ (v : ℕ → ℤ) (k sum squares : ℕ) (most : k ≤ 8) (small : (i : 
 
   pub squares-few : squares ≤ 1280000000000000000
   squares-few =
-      omega (arith, t .squared, sum-most (λ s. u s * u s) 160000000000000000 k
-      (λ i l. N.mul-le-mul (mark-le (v i) (small i l)) (mark-le (v i) (small i l))))
+      omega (
+        arith,
+        t .squared,
+        sum-most (λ s. u s * u s) 160000000000000000 k
+            (λ i l. N.mul-le-mul (mark-le (v i) (small i l)) (mark-le (v i) (small i l))),
+      )
 
   together : imbalanceOf v k + sum * sum ≡ k * squares
   unfolding imbalanceOf
@@ -179,6 +188,11 @@ module _ (v : ℕ → ℤ) (k sum squares : ℕ) (most : k ≤ 8) (small : (i : 
     added =
         omega (arith, has-mark j l .0, t .added, sum-but u (λ s. markOf (w s)) k j l (λ i m n. ap markOf (h i m n)));
     squared =
-        omega (arith, has-mark j l .1, t .squared, sum-but (λ s. u s * u s) (λ s. markOf (w s) * markOf (w s)) k j l
-        (λ i m n. ap (λ z. markOf z * markOf z) (h i m n)));
+        omega (
+          arith,
+          has-mark j l .1,
+          t .squared,
+          sum-but (λ s. u s * u s) (λ s. markOf (w s) * markOf (w s)) k j l
+              (λ i m n. ap (λ z. markOf z * markOf z) (h i m n)),
+        );
   }

@@ -86,11 +86,16 @@ module _ (v : List ℤ) (k f t : ℕ) (x y : ℤ) (long : length v ≡ SYSTEMS) 
           rw (w, getD-set-same (set v f x) t y (pos 0) (rw length-set (omega (arith, long)))) py
       go false true e g =
           let w : s ≡ f = eqb-true s f g in
-          rw (getD-set-other (set v f x) t s y (pos 0) (eqb-false s t e), w,
-              getD-set-same v f x (pos 0) (omega (arith, long))) px
+          rw (
+            getD-set-other (set v f x) t s y (pos 0) (eqb-false s t e),
+            w,
+            getD-set-same v f x (pos 0) (omega (arith, long)),
+          ) px
       go false false e g =
-          rw (getD-set-other (set v f x) t s y (pos 0) (eqb-false s t e),
-              getD-set-other v f s x (pos 0) (eqb-false s f g)) (rest s h (eqb-false s f g) (eqb-false s t e))
+          rw (
+            getD-set-other (set v f x) t s y (pos 0) (eqb-false s t e),
+            getD-set-other v f s x (pos 0) (eqb-false s f g),
+          ) (rest s h (eqb-false s f g) (eqb-false s t e))
 
 module _ (ch : List ℕ) (k : ℕ) (a : List ℕ) (d m : ℕ) (so : Sound ch k a) (fit : MayMove ch k a d m) where
   -- a row that a move changes can be worked out

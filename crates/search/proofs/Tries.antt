@@ -177,8 +177,11 @@ module _ (ch : List ℕ) (k : ℕ) (a : List ℕ) (d m : ℕ) (so : Sound ch k a
     unfolding numberWith
     with-other c n =
         let w = three (systemOf ch s) (so .stock .chosen .known s l) in
-        rw (other (memberOf (systemOf ch s) 0) (w .low0), other (memberOf (systemOf ch s) 1) (w .low1),
-            other (memberOf (systemOf ch s) 2) (w .low2))
+        rw (
+          other (memberOf (systemOf ch s) 0) (w .low0),
+          other (memberOf (systemOf ch s) 1) (w .low1),
+          other (memberOf (systemOf ch s) 2) (w .low2),
+        )
 
   module _ (i : ℕ) (h : i < TRIES) (l : triedRow i < k) (p : triedRow i ≡ giverOf m → ⊥) (q : triedRow i ≡ takerOf m
       → ⊥) where
@@ -293,9 +296,13 @@ module _ (t : List ℤ) (s : ℕ) (low : s < SYSTEMS) where
         getD-set-other (set u first UNKNOWN) second i UNKNOWN (pos 0) q ∙ getD-set-other u first i UNKNOWN (pos 0) p
 
     pub going-on : Going t s next (c + 1)
-    going-on =
-        (simp length-set (g .0), omega arith, gone, λ i l r. at-other i (λ e. r (omega (arith, low, h, e)))
-        (λ e. r (omega (arith, low, h, e))) ∙ g .3 i l r)
+    going-on = (
+      simp length-set (g .0),
+      omega arith,
+      gone,
+      λ i l r. at-other i (λ e. r (omega (arith, low, h, e)))
+          (λ e. r (omega (arith, low, h, e))) ∙ g .3 i l r,
+    )
       where
         gone : (i : ℕ) → i < TRIES → triedRow i ≡ s → columnIn i < c + 1 → listed next i ≡ UNKNOWN
         gone i l r x = go (eqb i second) (eqb i first) refl refl

@@ -58,43 +58,44 @@ returns-2 c =
     (c .before .before .before .evaluate .ensures) (not-true _ (c .before .if2 .taken))
 
 search-requires : tie.Need-search-requires
-search-requires c κs =
-    (start-held (c .before .before .before .before .before .before .before .before .before .before .args .mix)
-    (c .before .before .before .before .before .before .before .before .before .before .args .choice .systems)
-    (c .before .before .before .before .before .before .before .before .before .before .args .choice .count)
-    (c .before .before .before .before .before .before .before .before .before .before .args .limit)
-    (c .before .before .before .before .before .before .before .before .before .before .args .level)
-    (c .before .before .before .before .before .before .before .before .before .before .args .allowance)
-    (not-turned (c .before .before .before .before .before .before .before .before .before .before .args .mix)
-    (c .before .before .before .before .before .before .before .before .before .before .args .choice .systems)
-    (c .before .before .before .before .before .before .before .before .before .before .args .choice .count)
-    (c .before .before .before .before .before .before .before .before .before .before .args .limit)
-    (c .before .before .before .before .before .before .before .before .before .before .args .level)
-    (c .before .before .before .before .before .before .before .before .before .before .args .allowance) _
-    (c .before .before .before .before .before .before .before .before .before .fit .ensures)
-    (c .before .before .before .before .before .before .before .before .if1 .left) .0) _
-    (c .before .before .before .before .before .before .before .before .before .fit .ensures)
-    (not-turned (c .before .before .before .before .before .before .before .before .before .before .args .mix)
-    (c .before .before .before .before .before .before .before .before .before .before .args .choice .systems)
-    (c .before .before .before .before .before .before .before .before .before .before .args .choice .count)
-    (c .before .before .before .before .before .before .before .before .before .before .args .limit)
-    (c .before .before .before .before .before .before .before .before .before .before .args .level)
-    (c .before .before .before .before .before .before .before .before .before .before .args .allowance) _
-    (c .before .before .before .before .before .before .before .before .before .fit .ensures)
-    (c .before .before .before .before .before .before .before .before .if1 .left) .1)
-    (c .before .before .before .before .before .before .before .start .result)
-    (c .before .before .before .before .before .before .before .start .ensures)
-    (c .before .before .before .before .before .evaluate .result)
-    (c .before .before .before .before .before .evaluate .ensures)
-    (not-false _ (c .before .before .before .if2 .left)),
-    not-turned (c .before .before .before .before .before .before .before .before .before .before .args .mix)
-    (c .before .before .before .before .before .before .before .before .before .before .args .choice .systems)
-    (c .before .before .before .before .before .before .before .before .before .before .args .choice .count)
-    (c .before .before .before .before .before .before .before .before .before .before .args .limit)
-    (c .before .before .before .before .before .before .before .before .before .before .args .level)
-    (c .before .before .before .before .before .before .before .before .before .before .args .allowance) _
-    (c .before .before .before .before .before .before .before .before .before .fit .ensures)
-    (c .before .before .before .before .before .before .before .before .if1 .left) .0)
+search-requires c κs = (
+  start-held (c .before .before .before .before .before .before .before .before .before .before .args .mix)
+      (c .before .before .before .before .before .before .before .before .before .before .args .choice .systems)
+      (c .before .before .before .before .before .before .before .before .before .before .args .choice .count)
+      (c .before .before .before .before .before .before .before .before .before .before .args .limit)
+      (c .before .before .before .before .before .before .before .before .before .before .args .level)
+      (c .before .before .before .before .before .before .before .before .before .before .args .allowance)
+      (not-turned (c .before .before .before .before .before .before .before .before .before .before .args .mix)
+      (c .before .before .before .before .before .before .before .before .before .before .args .choice .systems)
+      (c .before .before .before .before .before .before .before .before .before .before .args .choice .count)
+      (c .before .before .before .before .before .before .before .before .before .before .args .limit)
+      (c .before .before .before .before .before .before .before .before .before .before .args .level)
+      (c .before .before .before .before .before .before .before .before .before .before .args .allowance) _
+      (c .before .before .before .before .before .before .before .before .before .fit .ensures)
+      (c .before .before .before .before .before .before .before .before .if1 .left) .0) _
+      (c .before .before .before .before .before .before .before .before .before .fit .ensures)
+      (not-turned (c .before .before .before .before .before .before .before .before .before .before .args .mix)
+      (c .before .before .before .before .before .before .before .before .before .before .args .choice .systems)
+      (c .before .before .before .before .before .before .before .before .before .before .args .choice .count)
+      (c .before .before .before .before .before .before .before .before .before .before .args .limit)
+      (c .before .before .before .before .before .before .before .before .before .before .args .level)
+      (c .before .before .before .before .before .before .before .before .before .before .args .allowance) _
+      (c .before .before .before .before .before .before .before .before .before .fit .ensures)
+      (c .before .before .before .before .before .before .before .before .if1 .left) .1)
+      (c .before .before .before .before .before .before .before .start .result)
+      (c .before .before .before .before .before .before .before .start .ensures)
+      (c .before .before .before .before .before .evaluate .result)
+      (c .before .before .before .before .before .evaluate .ensures)
+      (not-false _ (c .before .before .before .if2 .left)),
+  not-turned (c .before .before .before .before .before .before .before .before .before .before .args .mix)
+      (c .before .before .before .before .before .before .before .before .before .before .args .choice .systems)
+      (c .before .before .before .before .before .before .before .before .before .before .args .choice .count)
+      (c .before .before .before .before .before .before .before .before .before .before .args .limit)
+      (c .before .before .before .before .before .before .before .before .before .before .args .level)
+      (c .before .before .before .before .before .before .before .before .before .before .args .allowance) _
+      (c .before .before .before .before .before .before .before .before .before .fit .ensures)
+      (c .before .before .before .before .before .before .before .before .if1 .left) .0,
+)
 
 returns-3 : tie.Need-returns-3
 returns-3 c =

@@ -21,7 +21,7 @@ mark-requires-2 c κs = search needs
 
 sub-t11 : tie.Need-sub-t11
 sub-t11 c =
-    old-in (listed (c .before .before .before .before .args .v .now) (c .before .before .before .before .args .s)) _ _
+    old-in (listed (c .before .before .before .before .args .numbers .now) (c .before .before .before .before .args .s)) _ _
     _ (c .before .before .before .before .pre .1) (c .before .before .mark .ensures .0)
     (c .before .before .before .before .pre .3) (c .before .before .before .before .pre .4) .0
 
@@ -33,7 +33,7 @@ mul-t13 c = omega (arith, N.mul-le-mul (c .before .before .mark .ensures .1) (c 
 
 sub-t14 : tie.Need-sub-t14
 sub-t14 c =
-    old-in (listed (c .before .before .before .before .before .args .v .now)
+    old-in (listed (c .before .before .before .before .before .args .numbers .now)
     (c .before .before .before .before .before .args .s)) _ _ _ (c .before .before .before .before .before .pre .1)
     (c .before .before .before .mark .ensures .0) (c .before .before .before .before .before .pre .3)
     (c .before .before .before .before .before .pre .4) .1
@@ -43,13 +43,16 @@ mul-t15 c = omega (arith, N.mul-le-mul (c .before .before .mark2 .ensures .1) (c
 
 add-t16 : tie.Need-add-t16
 add-t16 c =
-    omega (arith, N.mul-le-mul (c .before .before .mark2 .ensures .1) (c .before .before .mark2 .ensures .1),
-    c .before .before .before .before .before .pre .6)
+    omega (
+      arith,
+      N.mul-le-mul (c .before .before .mark2 .ensures .1) (c .before .before .mark2 .ensures .1),
+      c .before .before .before .before .before .pre .6,
+    )
 
 returns : tie.Need-returns
 returns c =
     marks-as _ _ _ _ _ _ (mark-back
-    (listed (c .before .before .before .before .before .args .v .now)
+    (listed (c .before .before .before .before .before .args .numbers .now)
     (c .before .before .before .before .before .args .s)) _ (c .before .before .before .before .before .pre .1)
     (c .before .before .before .mark .ensures .0))
     (mark-back (c .before .before .before .before .before .args .x) _

@@ -35,17 +35,26 @@ mark-requires c κs = at-small _ _ _ (c .before .before .before .pre) (c .before
 
 add-sum : tie.Need-add-sum Inv-loop μ-loop
 add-sum c =
-    omega (arith, c .mark .ensures .1, c .before .before .before .before .pre .most,
-    c .before .before .before .loop .inv .0, c .before .before .before .loop .inv .3)
+    omega (
+      arith,
+      c .mark .ensures .1,
+      c .before .before .before .before .pre .most,
+      c .before .before .before .loop .inv .0,
+      c .before .before .before .loop .inv .3,
+    )
 
 mul-squares : tie.Need-mul-squares Inv-loop μ-loop
 mul-squares c = omega (arith, (N.mul-le-mul (c .mark .ensures .1) (c .mark .ensures .1)))
 
 add-squares : tie.Need-add-squares Inv-loop μ-loop
 add-squares c =
-    omega (arith, (N.mul-le-mul (c .mark .ensures .1) (c .mark .ensures .1)),
-    c .before .before .before .before .pre .most, c .before .before .before .loop .inv .0,
-    c .before .before .before .loop .inv .4)
+    omega (
+      arith,
+      (N.mul-le-mul (c .mark .ensures .1) (c .mark .ensures .1)),
+      c .before .before .before .before .pre .most,
+      c .before .before .before .loop .inv .0,
+      c .before .before .before .loop .inv .4,
+    )
 
 add-i : tie.Need-add-i Inv-loop μ-loop
 add-i c = search needs
@@ -56,16 +65,21 @@ loop-less c = search needs
 loop-again : tie.Need-loop-again Inv-loop μ-loop
 loop-again c =
     let e = (c .mark .ensures .0 ∙ ap markOf
-    (at-back _ _ _ (c .before .before .before .before .pre) (c .before .before .loop-test .taken))) in
-    (omega (arith, c .before .before .loop-test .taken), sum-more _ _ _ _ (c .before .before .before .loop .inv .1) e,
-    sum-more _ _ _ _ (c .before .before .before .loop .inv .2) (ap (λ x. x * x) e),
-    omega (arith, c .mark .ensures .1, c .before .before .before .loop .inv .3),
-    omega (arith, (N.mul-le-mul (c .mark .ensures .1) (c .mark .ensures .1)),
-    c .before .before .before .loop .inv .4))
+    (at-back _ _ _ (c .before .before .before .before .pre) (c .before .before .loop-test .taken))) in (
+      omega (arith, c .before .before .loop-test .taken),
+      sum-more _ _ _ _ (c .before .before .before .loop .inv .1) e,
+      sum-more _ _ _ _ (c .before .before .before .loop .inv .2) (ap (λ x. x * x) e),
+      omega (arith, c .mark .ensures .1, c .before .before .before .loop .inv .3),
+      omega (
+        arith,
+        (N.mul-le-mul (c .mark .ensures .1) (c .mark .ensures .1)),
+        c .before .before .before .loop .inv .4,
+      ),
+    )
 
 returns : tie.Need-returns Inv-loop μ-loop
 returns c =
-    let q : c .before .loop .i ≡ c .before .before .args .k =
+    let q : c .before .loop .i ≡ c .before .before .args .count =
     omega (arith, c .before .loop .inv .0, c .loop-test .left) in
     record { added = rw q at (c .before .loop .inv .1); squared = rw q at (c .before .loop .inv .2) }
 

@@ -1,10 +1,8 @@
 -- `search::moves::first_from` meets its contract. Assumes nothing.
-use mathlib.Core.Path.{refl, sym, _∙_}
-use native.Mathlib.Omega.{arith}
-use borrow.Author.Tests.{not-true, not-false}
-use Rattle.search.proofs.Givers.{past-giver}
-use Rattle.search.proofs.Given.{give-triable, given-may, given-is}
+use mathlib.Core.Path.{refl}
 use borrow.Author.Needs.{needs}
+use Rattle.search.proofs.Givers.{told, denied, past-giver}
+use Rattle.search.proofs.Given.{less-triable, less-may, less-total}
 use Rattle.search.proofs.moves.first_from.Statement.{statement}
 use Rattle.search.proofs.moves.first_from.Tie as tie
 
@@ -16,39 +14,49 @@ add-result c = search needs
 
 returns : tie.Need-returns
 returns c =
-    (past-giver _ _ _ _ _ (c .before .before .pre .2) (c .before .before .pre .4) (sym (c .before .gives .ensures)
-    ∙ not-true _ (c .if1 .taken)), c .before .before .pre .5)
+    let g = c .before in
+    let pre = g .before .pre in
+    (past-giver _ _ _ _ _ (pre .2) (pre .4) (denied (g .gives .ensures) (c .if1 .taken)), pre .5)
+
+component-requires : tie.Need-component-requires
+component-requires c κs = search needs
+
+giver-requires : tie.Need-giver-requires
+giver-requires c κs = search needs
 
 number-less-requires : tie.Need-number-less-requires
 number-less-requires c κs =
-    (omega arith, omega (arith, c .before .before .before .pre .1),
-    give-triable _ _ _ _ (c .before .before .before .pre .0) _ (c .before .before .before .args .n)
-    (c .before .before .before .pre .1) (sym (c .before .before .gives .ensures)
-    ∙ not-false _ (c .before .if1 .left)), c .before .before .before .pre .5)
+    let f = c .before in
+    let i = f .before .before in
+    let g = i .before in
+    let pre = g .before .pre in
+    let gives = told (g .gives .ensures) (i .if1 .left) in
+    let w = less-triable (pre .0) _ _ (pre .1) gives (f .giver .ensures) (f .before .component .ensures) in
+    (w .0, w .1, w .2, pre .5)
 
 exchanged-requires : tie.Need-exchanged-requires
 exchanged-requires c κs =
-    let x = c .number-less .ensures in given-may _ _ _ _ (c .before .before .before .before .pre .0) _
-    (c .before .before .before .before .args .n) (c .before .before .before .before .pre .1)
-    (sym (c .before .before .before .gives .ensures) ∙ not-false _ (c .before .before .if1 .left)) _ _
-    (c .before .before .before .before .pre .6) _ (x .0, x .1)
+    let f = c .before .before in
+    let i = f .before .before in
+    let g = i .before in
+    let pre = g .before .pre in
+    let gives = told (g .gives .ensures) (i .if1 .left) in
+    less-may (pre .0) _ _ (pre .1) gives (f .giver .ensures) (f .before .component .ensures) (pre .6)
+    (c .number-less .ensures)
 
 first-taker-requires : tie.Need-first-taker-requires
 first-taker-requires c κs =
-    let x = c .before .before .number-less .ensures in
-    (c .before .before .before .before .before .before .pre .0,
-    c .before .before .before .before .before .before .pre .1,
-    c .before .before .before .before .before .before .pre .2,
-    sym (c .before .before .before .before .before .gives .ensures)
-    ∙ not-false _ (c .before .before .before .before .if1 .left),
-    c .before .before .before .before .before .before .pre .4, x .2,
-    given-is _ _ _ _ (c .before .before .before .before .before .before .pre .0) _
-    (c .before .before .before .before .before .before .args .n)
-    (c .before .before .before .before .before .before .pre .1)
-    (sym (c .before .before .before .before .before .gives .ensures)
-    ∙ not-false _ (c .before .before .before .before .if1 .left)) _ _
-    (c .before .before .before .before .before .before .pre .6) _ (x .0, x .1) _ _ (c .before .exchanged .ensures .0)
-    (c .before .exchanged .ensures .1), c .before .before .before .before .before .before .pre .7, refl, refl)
+    let l = c .before .before in
+    let f = l .before .before in
+    let i = f .before .before in
+    let g = i .before in
+    let pre = g .before .pre in
+    let row = f .giver .ensures in
+    let component = f .before .component .ensures in
+    let gives = told (g .gives .ensures) (i .if1 .left) in
+    let less = l .number-less .ensures in
+    let total = less-total (pre .0) _ _ (pre .1) gives row component (pre .6) less (c .before .exchanged .ensures) in
+    (pre .0, pre .1, pre .2, gives, pre .4, less .2, total, pre .7, component, row)
 
 returns-2 : tie.Need-returns-2
 returns-2 c = search needs
@@ -60,6 +68,8 @@ first-from-spec =
     gives-requires
     add-result
     returns
+    component-requires
+    giver-requires
     number-less-requires
     exchanged-requires
     first-taker-requires

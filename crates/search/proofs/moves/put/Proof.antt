@@ -1,6 +1,6 @@
 -- `search::moves::put` meets its contract. Assumes nothing.
-use Rattle.search.proofs.Renumbered.{put-is}
 use borrow.Author.Needs.{needs}
+use Rattle.search.proofs.Renumbered.{put-is}
 use Rattle.search.proofs.moves.put.Statement.{statement}
 use Rattle.search.proofs.moves.put.Tie as tie
 
@@ -27,9 +27,9 @@ element-set-from-x c = search needs
 
 returns : tie.Need-returns
 returns c =
-    let s = c .before .before .before in put-is (s .args .v .now) (s .args .tried .now) (c .before .forget .last .0)
-    (s .args .s) (s .args .i) (s .args .x) (s .pre .0) (s .pre .1) (s .pre .3) (s .pre .4)
-    (c .before .forget .ensures)
+    let s = c .before .before .before in
+    put-is (s .args .numbers .now) (s .args .tried .now) (c .before .forget .last .0) (s .args .s) (s .args .i)
+    (s .args .x) (s .pre) (c .before .forget .ensures)
 
 pub put-spec : {M : Type 1} → statement M
 put-spec =

@@ -21,13 +21,15 @@ enum-told-2 c = search needs
 enum-told-3 : tie.Need-enum-told-3
 enum-told-3 c = search needs
 
-stride-requires : tie.Need-stride-requires
-stride-requires c κs = search needs
+stride-of-requires : tie.Need-stride-of-requires
+stride-of-requires c κs = search needs
 
 first-move-requires : tie.Need-first-move-requires
-first-move-requires c κs =
-    (c .before .before .before .before .before .before .pre .0, tried-as _ _ _ _ _ _ (c .before .stride .ensures)
-    (c .before .before .before .before .before .before .pre .2))
+first-move-requires c κs = (
+  c .before .before .before .before .before .before .pre .0,
+  tried-as _ _ _ _ _ _ (c .before .stride-of .ensures)
+      (c .before .before .before .before .before .before .pre .2),
+)
 
 go-on-requires : tie.Need-go-on-requires
 go-on-requires c κs = search needs
@@ -35,16 +37,20 @@ go-on-requires c κs = search needs
 returns : tie.Need-returns
 returns c =
     let b = c .before .before in
-    let s = b .before in
-    (code-rate _ _ _ _ _ _ _ _ _ (s .spread .ensures) (s .before .pre .0) _ (b .before-round .ensures)
-    (c .enum-told .given .1), s .before .pre .2)
+    let s = b .before in (
+      code-rate _ _ _ _ _ _ _ _ _ (s .spread .ensures) (s .before .pre .0) _ (b .before-round .ensures)
+          (c .enum-told .given .1),
+      s .before .pre .2,
+    )
 
 returns-2 : tie.Need-returns-2
 returns-2 c =
     let b = c .before .before in
-    let s = b .before in
-    (code-refuse _ _ _ _ _ _ _ _ _ (s .spread .ensures) (s .before .pre .0) _ (b .before-round .ensures)
-    (c .enum-told2 .given .1), s .before .pre .2)
+    let s = b .before in (
+      code-refuse _ _ _ _ _ _ _ _ _ (s .spread .ensures) (s .before .pre .0) _ (b .before-round .ensures)
+          (c .enum-told2 .given .1),
+      s .before .pre .2,
+    )
 
 returns-3 : tie.Need-returns-3
 returns-3 c =
@@ -52,9 +58,9 @@ returns-3 c =
     let b = d .before .before .before in
     let s = b .before in (
       code-on _ _ _ _ _ _ _ _ _ (s .spread .ensures) (s .before .pre .0) _ (b .before-round .ensures)
-          (d .before .enum-told3 .given .1) _ _ _ (d .stride .ensures) (c .before .first-move .ensures .0)
+          (d .before .enum-told3 .given .1) _ _ _ (d .stride-of .ensures) (c .before .first-move .ensures .0)
           (c .go-on .ensures),
-      tried-as _ _ _ _ _ _ (sym (d .stride .ensures)) (c .before .first-move .ensures .1),
+      tried-as _ _ _ _ _ _ (sym (d .stride-of .ensures)) (c .before .first-move .ensures .1),
     )
 
 pub next-turn-spec : {M : Type 1} → statement M
@@ -66,7 +72,7 @@ next-turn-spec =
     enum-told
     enum-told-2
     enum-told-3
-    stride-requires
+    stride-of-requires
     first-move-requires
     go-on-requires
     returns

@@ -9,7 +9,7 @@ member-requires c κs = search needs
 
 returns : tie.Need-returns
 returns c =
-    instead-here (c .before .before .args .a .now) (c .before .before .args .system) (c .before .before .args .s)
+    instead-here (c .before .before .args .cells .now) (c .before .before .args .system) (c .before .before .args .s)
     (c .before .before .args .c) (c .before .before .args .n) (c .before .before .args .j) _
     (c .before .member .ensures) (c .if1 .taken)
 
@@ -18,7 +18,7 @@ amount-requires c κs = search needs
 
 returns-2 : tie.Need-returns-2
 returns-2 c =
-    instead-there (c .before .before .before .args .a .now) (c .before .before .before .args .system)
+    instead-there (c .before .before .before .args .cells .now) (c .before .before .before .args .system)
     (c .before .before .before .args .s) (c .before .before .before .args .c) (c .before .before .before .args .n)
     (c .before .before .before .args .j) _ (c .before .before .member .ensures) (c .before .if1 .left) _
     (c .amount .ensures)

@@ -28,7 +28,7 @@ element-copy-out-number-with c = search needs
 
 sub-number-with : tie.Need-sub-number-with
 sub-number-with c =
-    less-had (c .before .before .before .args .ch .now) _ _ _ _ _ (c .before .before .before .pre .0)
+    less-had (c .before .before .before .args .systems .now) _ _ _ _ _ (c .before .before .before .pre .0)
     (c .before .before .before .pre .1) (c .before .before .before .pre .2)
 
 number-with-requires : tie.Need-number-with-requires
@@ -44,10 +44,11 @@ element-set-from-y c = search needs
 
 returns-2 : tie.Need-returns-2
 returns-2 c =
-    put-is _ _ _ _ _ (c .before .before .before .before .pre .3) _ (c .before .before .before .before .pre .2) _
-    (c .number-with .ensures .0 ∙ less-wanted _ (c .before .before .before .before .args .k) _ _ _ _
-    (c .before .before .before .before .pre .0) (c .before .before .before .before .pre .1),
-    c .number-with .ensures .1)
+    put-is _ _ _ _ _ (c .before .before .before .before .pre .3) _ (c .before .before .before .before .pre .2) _ (
+      c .number-with .ensures .0 ∙ less-wanted _ (c .before .before .before .before .args .count) _ _ _ _
+          (c .before .before .before .before .pre .0) (c .before .before .before .before .pre .1),
+      c .number-with .ensures .1,
+    )
 
 pub number-less-spec : {M : Type 1} → statement M
 number-less-spec =

@@ -35,8 +35,11 @@ element-copy-out-number-with c = search needs
 
 add-number-with : tie.Need-add-number-with
 add-number-with c =
-    omega (arith, more-room (c .before .before .before .args .ch .now) _ _ _ _ _ (c .before .before .before .pre .0)
-    (c .before .before .before .pre .1) (c .before .before .before .pre .2))
+    omega (
+      arith,
+      more-room (c .before .before .before .args .systems .now) _ _ _ _ _ (c .before .before .before .pre .0)
+          (c .before .before .before .pre .1) (c .before .before .before .pre .2),
+    )
 
 number-with-requires : tie.Need-number-with-requires
 number-with-requires c κs =
@@ -51,10 +54,11 @@ element-set-from-y c = search needs
 
 returns-2 : tie.Need-returns-2
 returns-2 c =
-    put-is _ _ _ _ _ (c .before .before .before .before .pre .3) _ (c .before .before .before .before .pre .2) _
-    (c .number-with .ensures .0 ∙ more-wanted _ (c .before .before .before .before .args .k) _ _ _ _
-    (c .before .before .before .before .pre .0) (c .before .before .before .before .pre .1),
-    c .number-with .ensures .1)
+    put-is _ _ _ _ _ (c .before .before .before .before .pre .3) _ (c .before .before .before .before .pre .2) _ (
+      c .number-with .ensures .0 ∙ more-wanted _ (c .before .before .before .before .args .count) _ _ _ _
+          (c .before .before .before .before .pre .0) (c .before .before .before .before .pre .1),
+      c .number-with .ensures .1,
+    )
 
 pub number-more-spec : {M : Type 1} → statement M
 number-more-spec =
