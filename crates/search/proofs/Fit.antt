@@ -92,13 +92,13 @@ module _ (mix ch : List ℕ) (k level : ℕ) {b : Bool} (p : b ≡ (mixtureFit m
     find-empty e =
         let w = unfit-empty ch k a r q stock (not-true (r .fit) e) in
         find-none mix ch k level limit allowance
-            (rw (le-leb level FIRST_LEVEL low, few, known, ap (someEmpty ch k) (sym s) ∙ w, searchFit))
+        (rw (le-leb level FIRST_LEVEL low, few, known, ap (someEmpty ch k) (sym s) ∙ w, searchFit))
 
     pub find-is : not (r .fit) ≡ false → {x : Found} → x ≡ searchOf ch k limit level allowance a
         → x ≡ findOf mix ch k limit level allowance
     unfolding searchFit
     find-is e z =
         let w : someEmpty ch k (startOf mix ch k) ≡ false = ap (someEmpty ch k) (sym s)
-            ∙ no-empty ch k a (may-search e .0 .sound .some) in
+        ∙ no-empty ch k a (may-search e .0 .sound .some) in
         z ∙ ap (searchOf ch k limit level allowance) s
-            ∙ find-search mix ch k level limit allowance (rw (le-leb level FIRST_LEVEL low, few, known, w, searchFit))
+        ∙ find-search mix ch k level limit allowance (rw (le-leb level FIRST_LEVEL low, few, known, w, searchFit))

@@ -1,14 +1,14 @@
 -- The totals of a split's numbers, where a move's giver has given, and where its taker has taken too.
 use Prim.Native.Nat.{ℕ, zero, suc, _+_, _*_, _-_, _%_, _≤_, _<_}
 use mathlib.Core.Path.{_≡_, refl, sym, ap, ap₂, _∙_}
-use mathlib.Core.Bool.{Bool, true, false}
+use mathlib.Core.Bool.{Bool, true, false, not}
 use mathlib.Core.List.{List}
 use native.Mathlib.Omega.{arith}
 use lib.Dec.{eqb, ltb}
 use lib.IntN.{ℤ, natAbs}
 use mir.Syntax.{w64}
 use mir.Val.{toZ, ofZ}
-use borrow.Author.Tests.{eq-eqb, ne-eqb, eqb-true, eqb-false, lt-ltb, le-ltb}
+use borrow.Author.Tests.{eq-eqb, ne-eqb, eqb-true, eqb-false, lt-ltb, le-ltb, not-true, not-false}
 use Rattle.formula.specs.WorkingRule.{LARGEST}
 use Rattle.formula.specs.Laws.Partial.{partial-small}
 use Rattle.systems.specs.Systems.{COMPONENTS, memberOf, hasOf}
@@ -22,31 +22,16 @@ use Rattle.split.specs.Laws.Tests.{MayMove, Affords, affords-true}
 use Rattle.split.specs.Laws.Steps.{insteadOf, numberWith, bt, rest-same, giver-changed, taker-changed}
 use Rattle.split_rows.specs.Rows.{listed}
 use Rattle.split_rows.specs.Inner.Carried.{Held, Workable, partsWith}
-use Rattle.split_rows.specs.Laws.Machine.{at-back}
 use Rattle.integer.specs.Laws.Bits.{back}
 use Rattle.search.specs.Inner.Tried.{triedRow, columnIn, wantedOf, Tried, Triable}
 use Rattle.search.specs.Inner.Balance.{markOf, Totalled}
 use Rattle.search.specs.Inner.Scan.{afterGiving, givesOf, takesOf, Past, Scanned}
-use Rattle.search.proofs.Squares.{mark-le, sum-few, squares-few, under, imbalance-is, has-mark, put-total}
+use Rattle.search.proofs.Squares.{MayExchange, Exchanged, MayBalance, sum-few, squares-few, under}
+use Rattle.search.proofs.Squares.{imbalance-is, has-mark, put-total}
 use Rattle.search.proofs.Givers.{Gives, gives-true, take-same, take-is, scan-taker, scan-component}
-use Rattle.search.proofs.Givers.{scan-total, scan-lacks, scan-fit, scan-can, scan-found}
+use Rattle.search.proofs.Givers.{past-giver, scan-total, scan-lacks, scan-fit, scan-can, scan-found}
 use Rattle.search.proofs.Trials.{with-is}
 use Rattle.search.proofs.Tries.{less-is, taker-triable, taker-wanted}
-
--- what is asked of an exchange in the totals, what it gives, and what is asked of totals
-abbrev pub MayExchange : ℕ → ℤ → ℤ → ℕ → ℕ → Type 0
-MayExchange s old new sum squares =
-    (s < SYSTEMS) × (natAbs old ≤ LARGEST) × (natAbs new ≤ LARGEST) × (markOf old ≤ sum)
-    × (markOf old * markOf old ≤ squares) × (sum ≤ 3200000000) × (squares ≤ 1280000000000000000)
-
-abbrev pub Exchanged : ℤ → ℤ → ℕ → ℕ → ℕ → ℕ → Type 0
-Exchanged old new sum squares x y =
-    (x ≡ sum - markOf old + markOf new)
-    × (y ≡ squares - markOf old * markOf old + markOf new * markOf new)
-
-abbrev pub MayBalance : ℕ → ℕ → ℕ → Type 0
-MayBalance k sum squares =
-    (k ≤ 8) × (sum ≤ 3200000000) × (squares ≤ 1280000000000000000) × (sum * sum ≤ k * squares)
 
 -- the number that try i leads to, worked out, and what is known of tries then
 abbrev pub Worked : List ℕ → ℕ → List ℕ → ℕ → ℕ → ℤ → List ℤ → Type 0
@@ -166,9 +151,6 @@ column-at f c l = omega arith
 module _ (ch : List ℕ) (k : ℕ) (a : List ℕ) (v : List ℤ) (held : Held ch k a v) where
   most : k ≤ 8
   most = held .sound .stock .chosen .most
-
-  pub row-is : (s : ℕ) → s < k → toZ w64 (ofZ w64 (listed v s)) ≡ rowNumber ch a s
-  row-is s l = at-back v k s (held .small) l ∙ held .carried .are s l
 
   pub first-total : (sum squares : ℕ) → Totalled (listed v) k sum squares → Totalled (rowNumber ch a) k sum squares
   first-total sum squares t = total-same (listed v) (rowNumber ch a) k sum squares (held .carried .are) t
@@ -347,30 +329,44 @@ module _ {ch : List ℕ} {k : ℕ} {a : List ℕ} {v : List ℤ} (held : Held ch
   pub all-imbalance : {r : ℕ} → r ≡ k * squares - sum * sum → r ≡ imbalanceOf (rowNumber ch a) k
   all-imbalance {r} e = first-imbalance ch k a v held sum squares all-total r e
 
--- the giver of move m, row f, as it gives component c
-module _ {ch : List ℕ} {k : ℕ} {a : List ℕ} {v : List ℤ} (held : Held ch k a v) (d m : ℕ) (h : m < MOVES)
-    (g : givesOf ch k a d m ≡ true) {f c : ℕ} (ef : f ≡ giverOf m) (ec : c ≡ componentOf m) where
-  pub less-triable : (f < SYSTEMS) × (c < COMPONENTS) × Triable ch k a d (f * COMPONENTS + c)
-  less-triable = rw (ef, ec) (omega arith, omega (arith, h), give-triable ch k a v held d m h g)
+-- what a scan over the moves of n's giver starts from; and one over its takers, where it is row f and gives component c
+abbrev pub Starting : List ℕ → ℕ → List ℕ → List ℤ → List ℤ → ℕ → ℕ → ℕ → ℕ → ℕ → Type 0
+Starting ch k a v u d n sum squares was =
+    Held ch k a v × (n < MOVES) × (n % SYSTEMS ≡ 0) × (giverOf n < k) × Past ch k a d n × Tried ch k a d u
+    × Totalled (rowNumber ch a) k sum squares × (was ≡ imbalanceOf (rowNumber ch a) k)
 
-  module _ {sum squares : ℕ} (t : Totalled (rowNumber ch a) k sum squares) {x : ℤ} {u : List ℤ}
-      (w : Worked ch k a d (f * COMPONENTS + c) x u) where
-    worked : (x ≡ wantedOf ch a d (giverOf m * COMPONENTS + componentOf m)) × (natAbs x ≤ LARGEST)
-    worked = (rw (ef, ec) at (w .0), w .1)
-
-    pub less-may : MayExchange f (listed v f) (toZ w64 (ofZ w64 x)) sum squares
-    less-may = rw ef (given-may ch k a v held d m h g sum squares t x worked)
-
-    pub less-total : {i j : ℕ} → Exchanged (listed v f) (toZ w64 (ofZ w64 x)) sum squares i j
-        → Totalled (afterGiving ch a d (giverOf m) (componentOf m)) k i j
-    less-total {i} {j} o = given-is ch k a v held d m h g sum squares t x worked i j (rw ef at o)
-
--- what a scan over the takers of n's giver, row f, starts from
 abbrev pub Scanning : List ℕ → ℕ → List ℕ → List ℤ → List ℤ → ℕ → ℕ → ℕ → ℕ → ℕ → ℕ → ℕ → Type 0
 Scanning ch k a v u d n c f sum squares was =
     Held ch k a v × (n < MOVES) × (n % SYSTEMS ≡ 0) × (givesOf ch k a d n ≡ true) × Past ch k a d n × Tried ch k a d u
     × Totalled (afterGiving ch a d (giverOf n) (componentOf n)) k sum squares
     × (was ≡ imbalanceOf (rowNumber ch a) k) × (c ≡ componentOf n) × (f ≡ giverOf n)
+
+-- from the one to the other, by the test b whether the giver gives
+module _ {ch : List ℕ} {k : ℕ} {a : List ℕ} {v tried : List ℤ} {d n sum squares was : ℕ}
+    (pre : Starting ch k a v tried d n sum squares was) {b : Bool} (e : b ≡ givesOf ch k a d n) where
+  pub gives-none : not b ≡ true → Scanned ch k a d n (n + SYSTEMS) × Tried ch k a d tried
+  gives-none l = (past-giver ch k a d n (pre .2) (pre .4) (sym e ∙ not-true b l), pre .5)
+
+  module _ (l : not b ≡ false) {f c : ℕ} (ef : f ≡ giverOf n) (ec : c ≡ componentOf n) where
+    gives : givesOf ch k a d n ≡ true
+    gives = sym e ∙ not-false b l
+
+    pub less-triable : (f < SYSTEMS) × (c < COMPONENTS) × Triable ch k a d (f * COMPONENTS + c) × Tried ch k a d tried
+    less-triable =
+        rw (ef, ec) (omega arith, omega (arith, pre .1), give-triable ch k a v (pre .0) d n (pre .1) gives, pre .5)
+
+    module _ {x : ℤ} {u : List ℤ} (w : Worked ch k a d (f * COMPONENTS + c) x u) where
+      worked : (x ≡ wantedOf ch a d (giverOf n * COMPONENTS + componentOf n)) × (natAbs x ≤ LARGEST)
+      worked = (rw (ef, ec) at (w .0), w .1)
+
+      pub less-may : MayExchange f (listed v f) (toZ w64 (ofZ w64 x)) sum squares
+      less-may = rw ef (given-may ch k a v (pre .0) d n (pre .1) gives sum squares (pre .6) x worked)
+
+      pub less-scanning : {i j : ℕ} → Exchanged (listed v f) (toZ w64 (ofZ w64 x)) sum squares i j
+          → Scanning ch k a v u d n c f i j was
+      less-scanning {i} {j} o =
+          let t = given-is ch k a v (pre .0) d n (pre .1) gives sum squares (pre .6) x worked i j (rw ef at o) in
+          (pre .0, pre .1, pre .2, gives, pre .4, w .2, t, pre .7, ec, ef)
 
 -- the trial of row t
 module _ {ch : List ℕ} {k : ℕ} {a : List ℕ} {v tried : List ℤ} {d n c f sum squares was : ℕ}

@@ -29,13 +29,6 @@ by-test : (P : Bool → Type 0) (b : Bool) → (b ≡ true → P true) → (b �
 by-test P true p q = p refl
 by-test P false p q = q refl
 
--- a test that is the code's
-pub told : {b r : Bool} → b ≡ r → not b ≡ false → r ≡ true
-told {b} e l = sym e ∙ not-false b l
-
-pub denied : {b r : Bool} → b ≡ r → not b ≡ true → r ≡ false
-denied {b} e l = sym e ∙ not-true b l
-
 -- what the giver's tests come to: it is row f, and the component c
 module _ {ch : List ℕ} {k : ℕ} {a : List ℕ} (d m : ℕ) {f c : ℕ} {b : Bool}
     (pre : Sound ch k a × (m < MOVES) × (giverOf m < k)) (ef : f ≡ giverOf m) (ec : c ≡ componentOf m)
@@ -45,11 +38,11 @@ module _ {ch : List ℕ} {k : ℕ} {a : List ℕ} (d m : ℕ) {f c : ℕ} {b : B
 
   pub give-lacks : not b ≡ true → false ≡ givesOf ch k a d m
   unfolding givesOf
-  give-lacks u = rw (lt-ltb (giverOf m) k (pre .2), denied at-giver u, givesOf)
+  give-lacks u = rw (lt-ltb (giverOf m) k (pre .2), sym at-giver ∙ not-true b u, givesOf)
 
   give-is : not b ≡ false → (r : Bool) → r ≡ affordsOf ch a d m → r ≡ givesOf ch k a d m
   unfolding givesOf
-  give-is u r p = rw (lt-ltb (giverOf m) k (pre .2), told at-giver u, givesOf) p
+  give-is u r p = rw (lt-ltb (giverOf m) k (pre .2), sym at-giver ∙ not-false b u, givesOf) p
 
   pub give-short : not b ≡ false → cellOf a f c < d → false ≡ givesOf ch k a d m
   give-short u l = give-is u false (not-had ch k m a d (rw (ef, ec) at l))

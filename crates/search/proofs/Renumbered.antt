@@ -14,7 +14,7 @@ use mir.Val.{toZ, ofZ}
 use borrow.Author.Tests.{eqb-true, eqb-false}
 use Rattle.formula.specs.WorkingRule.{LARGEST}
 use Rattle.systems.specs.Systems.{COMPONENTS}
-use Rattle.split.specs.Split.{SYSTEMS, CELLS, rowNumber, Sound}
+use Rattle.split.specs.Split.{SYSTEMS, CELLS, Sound}
 use Rattle.split.specs.Move.{componentOf, giverOf, takerOf, movedOf}
 use Rattle.split.specs.Laws.Tests.{MayMove, Between}
 use Rattle.split.specs.Laws.Steps.{bt, component-low, sound-moved}
@@ -27,7 +27,7 @@ use Rattle.search.specs.Inner.Rounds.{Back}
 use Rattle.search.proofs.Trials.{renumber-ok}
 use Rattle.search.proofs.Tries.{taker-triable, taker-wanted, same-wanted, giver-back, taker-back}
 use Rattle.search.proofs.Givers.{fit-gives}
-use Rattle.search.proofs.Given.{Worked, give-worked, less-triable}
+use Rattle.search.proofs.Given.{Worked, give-worked, give-triable}
 
 passed : (x : ℤ) → natAbs x ≤ LARGEST → toZ w64 (ofZ w64 x) ≡ x
 passed x h = back x (N.le-trans h (lit≤ tt))
@@ -177,7 +177,12 @@ module _ (ch : List ℕ) (k : ℕ) (a : List ℕ) (d m : ℕ) (n : List ℤ) (he
 module _ {ch : List ℕ} {k : ℕ} {a : List ℕ} {v : List ℤ} (held : Held ch k a v) {d m : ℕ} (fit : MayMove ch k a d m)
     {f t c : ℕ} (ef : f ≡ giverOf m) (et : t ≡ takerOf m) (ec : c ≡ componentOf m) where
   pub gives-triable : (f < SYSTEMS) × (c < COMPONENTS) × Triable ch k a d (f * COMPONENTS + c)
-  gives-triable = less-triable held d m (fit .below) (fit-gives ch k a d m fit) ef ec
+  gives-triable =
+      rw (ef, ec) (
+        omega arith,
+        low ch k a d m v held fit,
+        give-triable ch k a v held d m (fit .below) (fit-gives ch k a d m fit),
+      )
 
   pub takes-triable : (t < SYSTEMS) × (c < COMPONENTS) × Triable ch k a d (CELLS + t * COMPONENTS + c)
   takes-triable =

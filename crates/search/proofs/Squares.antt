@@ -15,6 +15,7 @@ use Rattle.integer.specs.Laws.Order.{sub-ge}
 use Rattle.integer.specs.Laws.Normal.{X, K, _⊕_, _⊗_, ⊖, solve, env}
 use Rattle.formula.specs.WorkingRule.{LARGEST}
 use Rattle.split.specs.Fold.{sumTo}
+use Rattle.split.specs.Split.{SYSTEMS}
 use Rattle.split.specs.Laws.Folds.{sum-but, sum-has}
 use Rattle.split.specs.Move.{squareOf, imbalanceOf}
 use Rattle.search.specs.Inner.Balance.{markOf, Totalled}
@@ -73,18 +74,37 @@ module _ (x : ℤ) (h : natAbs x ≤ LARGEST) where
       ≤ 400000000)
   mark-result = rw sum-back (refl, mark-le)
 
+-- what is asked of an exchange in the totals, what it gives, and what is asked of totals
+abbrev pub MayExchange : ℕ → ℤ → ℤ → ℕ → ℕ → Type 0
+MayExchange s old new sum squares =
+    (s < SYSTEMS) × (natAbs old ≤ LARGEST) × (natAbs new ≤ LARGEST) × (markOf old ≤ sum)
+    × (markOf old * markOf old ≤ squares) × (sum ≤ 3200000000) × (squares ≤ 1280000000000000000)
+
+abbrev pub Exchanged : ℤ → ℤ → ℕ → ℕ → ℕ → ℕ → Type 0
+Exchanged old new sum squares x y =
+    (x ≡ sum - markOf old + markOf new)
+    × (y ≡ squares - markOf old * markOf old + markOf new * markOf new)
+
+abbrev pub MayBalance : ℕ → ℕ → ℕ → Type 0
+MayBalance k sum squares =
+    (k ≤ 8) × (sum ≤ 3200000000) × (squares ≤ 1280000000000000000) × (sum * sum ≤ k * squares)
+
 -- a mark from the number's bits
-pub mark-back : (o : ℤ) (p : ℕ) → natAbs o ≤ LARGEST → p ≡ markOf (toZ w64 (ofZ w64 o)) → p ≡ markOf o
+mark-back : (o : ℤ) (p : ℕ) → natAbs o ≤ LARGEST → p ≡ markOf (toZ w64 (ofZ w64 o)) → p ≡ markOf o
 mark-back o p h e = e ∙ ap markOf (back o (omega arith))
 
--- in the totals
-pub old-in : (o : ℤ) (p sum squares : ℕ) → natAbs o ≤ LARGEST → p ≡ markOf (toZ w64 (ofZ w64 o)) → markOf o ≤ sum
-    → markOf o * markOf o ≤ squares → (p ≤ sum) × (p * p ≤ squares)
-old-in o p sum squares h e l m = rw (mark-back o p h e) (l, m)
+-- the exchange of two numbers by their marks p and q
+module _ (old new : ℤ) {s sum squares : ℕ} (pre : MayExchange s old new sum squares) {p : ℕ}
+    (e : p ≡ markOf (toZ w64 (ofZ w64 old))) where
+  mark-old : p ≡ markOf old
+  mark-old = mark-back old p (pre .1) e
 
-pub marks-as : (sum squares p q m n : ℕ) → p ≡ m → q ≡ n → (sum - p + q ≡ sum - m + n)
-    × (squares - p * p + q * q ≡ squares - m * m + n * n)
-marks-as sum squares p q m n e f = rw (e, f) (refl, refl)
+  pub old-in : (p ≤ sum) × (p * p ≤ squares)
+  old-in = rw mark-old (pre .3, pre .4)
+
+  pub exchange-is : {q : ℕ} → q ≡ markOf (toZ w64 (ofZ w64 new))
+      → Exchanged old new sum squares (sum - p + q) (squares - p * p + q * q)
+  exchange-is {q} f = rw (mark-old, mark-back new q (pre .2) f) (refl, refl)
 
 square-of : (z : ℤ) → pos (natAbs z * natAbs z) ≡ z *ℤ z
 square-of (pos n) = refl

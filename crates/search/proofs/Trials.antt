@@ -48,9 +48,9 @@ module _ (a : List ℕ) (system s c n j e : ℕ) (p : e ≡ memberOf system j) w
   instead-there q r u = rw (ne-eqb (memberOf system j) c (λ z. q (p ∙ z))) u
 
 -- and the number of three such amounts
-module _ (ch a : List ℕ) (s c n x y z : ℕ) (p : x ≡ insteadOf a s c n (memberOf (systemOf ch s) 0))
-    (q : y ≡ insteadOf a s c n (memberOf (systemOf ch s) 1))
-    (r : z ≡ insteadOf a s c n (memberOf (systemOf ch s) 2)) (w : Workable ch a s c n) (u : Partial)
+module _ {ch a : List ℕ} {s c n x y z : ℕ} (w : Workable ch a s c n)
+    (p : x ≡ insteadOf a s c n (memberOf (systemOf ch s) 0)) (q : y ≡ insteadOf a s c n (memberOf (systemOf ch s) 1))
+    (r : z ≡ insteadOf a s c n (memberOf (systemOf ch s) 2)) {u : Partial}
     (e : u ≡ formulaOf (systemOf ch s) x y z) where
   picked : partialNumber (systemOf ch s) x y z ≡ numberWith ch a s c n
   unfolding numberWith
@@ -62,14 +62,14 @@ module _ (ch a : List ℕ) (s c n x y z : ℕ) (p : x ≡ insteadOf a s c n (mem
   few : x + y + z ≤ MILLION
   few = omega (arith, w .few, p, q, r)
 
-  pub with-ok : (v : ℤ) → u ≡ Number v → (toZ w64 (ofZ w64 v) ≡ numberWith ch a s c n)
+  pub with-ok : {v : ℤ} → u ≡ Number v → (toZ w64 (ofZ w64 v) ≡ numberWith ch a s c n)
       × (natAbs (toZ w64 (ofZ w64 v)) ≤ LARGEST)
-  with-ok v h =
+  with-ok {v} h =
       let o = number-ok (systemOf ch s) (systemOf ch s) x y z u refl e (w .known) some few v h in
       (o .0 ∙ picked, o .1)
 
-  pub with-never : (m : ℕ) → u ≡ Refused m → (pos 0 ≡ numberWith ch a s c n) × (0 ≤ LARGEST)
-  with-never m h =
+  pub with-never : {m : ℕ} → u ≡ Refused m → (pos 0 ≡ numberWith ch a s c n) × (0 ≤ LARGEST)
+  with-never {m} h =
       let o = number-never (systemOf ch s) (systemOf ch s) x y z u refl e (w .known) some few m h in
       (o .0 ∙ picked, o .1)
 

@@ -1,8 +1,6 @@
 -- `search::moves::first_from` meets its contract. Assumes nothing.
-use mathlib.Core.Path.{refl}
 use borrow.Author.Needs.{needs}
-use Rattle.search.proofs.Givers.{told, denied, past-giver}
-use Rattle.search.proofs.Given.{less-triable, less-may, less-total}
+use Rattle.search.proofs.Given.{gives-none, less-triable, less-may, less-scanning}
 use Rattle.search.proofs.moves.first_from.Statement.{statement}
 use Rattle.search.proofs.moves.first_from.Tie as tie
 
@@ -13,10 +11,7 @@ add-result : tie.Need-add-result
 add-result c = search needs
 
 returns : tie.Need-returns
-returns c =
-    let g = c .before in
-    let pre = g .before .pre in
-    (past-giver _ _ _ _ _ (pre .2) (pre .4) (denied (g .gives .ensures) (c .if1 .taken)), pre .5)
+returns c = gives-none (c .before .before .pre) (c .before .gives .ensures) (c .if1 .taken)
 
 component-requires : tie.Need-component-requires
 component-requires c κs = search needs
@@ -29,19 +24,14 @@ number-less-requires c κs =
     let f = c .before in
     let i = f .before .before in
     let g = i .before in
-    let pre = g .before .pre in
-    let gives = told (g .gives .ensures) (i .if1 .left) in
-    let w = less-triable (pre .0) _ _ (pre .1) gives (f .giver .ensures) (f .before .component .ensures) in
-    (w .0, w .1, w .2, pre .5)
+    less-triable (g .before .pre) (g .gives .ensures) (i .if1 .left) (f .giver .ensures) (f .before .component .ensures)
 
 exchanged-requires : tie.Need-exchanged-requires
 exchanged-requires c κs =
     let f = c .before .before in
     let i = f .before .before in
     let g = i .before in
-    let pre = g .before .pre in
-    let gives = told (g .gives .ensures) (i .if1 .left) in
-    less-may (pre .0) _ _ (pre .1) gives (f .giver .ensures) (f .before .component .ensures) (pre .6)
+    less-may (g .before .pre) (g .gives .ensures) (i .if1 .left) (f .giver .ensures) (f .before .component .ensures)
     (c .number-less .ensures)
 
 first-taker-requires : tie.Need-first-taker-requires
@@ -50,13 +40,8 @@ first-taker-requires c κs =
     let f = l .before .before in
     let i = f .before .before in
     let g = i .before in
-    let pre = g .before .pre in
-    let row = f .giver .ensures in
-    let component = f .before .component .ensures in
-    let gives = told (g .gives .ensures) (i .if1 .left) in
-    let less = l .number-less .ensures in
-    let total = less-total (pre .0) _ _ (pre .1) gives row component (pre .6) less (c .before .exchanged .ensures) in
-    (pre .0, pre .1, pre .2, gives, pre .4, less .2, total, pre .7, component, row)
+    less-scanning (g .before .pre) (g .gives .ensures) (i .if1 .left) (f .giver .ensures) (f .before .component .ensures)
+    (l .number-less .ensures) (c .before .exchanged .ensures)
 
 returns-2 : tie.Need-returns-2
 returns-2 c = search needs

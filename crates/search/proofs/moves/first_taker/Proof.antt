@@ -6,7 +6,8 @@ use borrow.Author.Needs.{needs}
 use Rattle.search.specs.Inner.Scan.{Past}
 use Rattle.search.specs.Inner.Tried.{Tried}
 use Rattle.search.proofs.Givers.{past-here, past-on, scan-ends}
-use Rattle.search.proofs.Given.{trial-triable, trial-may, trial-after, trial-found, trial-cannot, trial-lacks, trial-same}
+use Rattle.search.proofs.Given.{trial-triable, trial-may, trial-after, trial-found}
+use Rattle.search.proofs.Given.{trial-cannot, trial-lacks, trial-same}
 use Rattle.search.proofs.moves.first_taker.Statement.{statement}
 use Rattle.search.proofs.moves.first_taker.Tie as tie
 
@@ -89,7 +90,8 @@ loop-again c =
       past-on _ _ _ _ _ _ (inv .1)
           (⊎-elim (λ w. trial-cannot pre h (w .0 .taken) (w .2 .ensures) (w .3 .taken) (w .5 .ensures) (w .6 .ensures)
           (w .7 .ensures) (w .8 .left))
-          (⊎-elim (λ w. trial-lacks pre h (w .0 .taken) (w .2 .ensures) (w .3 .left)) (λ w. trial-same pre h (w .0 .left)))
+          (⊎-elim (λ w. trial-lacks pre h (w .0 .taken) (w .2 .ensures) (w .3 .left))
+          (λ w. trial-same pre h (w .0 .left)))
           (c .if1 .came)),
       ⊎-elim (λ w. rw (w .9) (w .5 .ensures .2))
           (⊎-elim (λ w. rw (w .4) (inv .2)) (λ w. rw (w .1) (inv .2))) (c .if1 .came),

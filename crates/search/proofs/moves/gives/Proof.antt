@@ -60,7 +60,8 @@ add-parts : tie.Need-add-parts
 add-parts c =
     let g = c .before .before .before .before .before .before .before .before in
     let pre = g .before .pre in
-    omega (arith, two-fit (pre .0 .stock) (pre .2) (g .giver .ensures) (c .before .amount .ensures) (c .amount2 .ensures))
+    let w = two-fit (pre .0 .stock) (pre .2) (g .giver .ensures) (c .before .amount .ensures) (c .amount2 .ensures) in
+    omega (arith, w)
 
 amount-requires-3 : tie.Need-amount-requires-3
 amount-requires-3 c κs =
