@@ -6,10 +6,10 @@ use Rattle.search.proofs.find.Statement.{statement}
 use Rattle.search.proofs.find.Tie as tie
 
 fit-requires : tie.Need-fit-requires
-fit-requires c κs = search needs
+fit-requires c κs = tt
 
 nothing-requires : tie.Need-nothing-requires
-nothing-requires c κs = search needs
+nothing-requires c κs = tt
 
 returns : tie.Need-returns
 returns c =
@@ -17,13 +17,13 @@ returns c =
     c .nothing .ensures ∙ find-turned _ _ _ _ _ _ (f .fit .ensures) (c .before .if1 .taken)
 
 start-requires : tie.Need-start-requires
-start-requires c κs = search needs
+start-requires c κs = tt
 
 evaluate-requires : tie.Need-evaluate-requires
-evaluate-requires c κs = search needs
+evaluate-requires c κs = tt
 
 nothing-requires-2 : tie.Need-nothing-requires-2
-nothing-requires-2 c κs = search needs
+nothing-requires-2 c κs = tt
 
 returns-2 : tie.Need-returns-2
 returns-2 c =

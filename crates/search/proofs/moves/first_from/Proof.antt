@@ -5,7 +5,7 @@ use Rattle.search.proofs.moves.first_from.Statement.{statement}
 use Rattle.search.proofs.moves.first_from.Tie as tie
 
 gives-requires : tie.Need-gives-requires
-gives-requires c κs = search needs
+gives-requires c κs = (c .pre .0 .sound, c .pre .1, c .pre .3)
 
 add-result : tie.Need-add-result
 add-result c = search needs
@@ -14,10 +14,10 @@ returns : tie.Need-returns
 returns c = gives-none (c .before .before .pre) (c .before .gives .ensures) (c .if1 .taken)
 
 component-requires : tie.Need-component-requires
-component-requires c κs = search needs
+component-requires c κs = tt
 
 giver-requires : tie.Need-giver-requires
-giver-requires c κs = search needs
+giver-requires c κs = tt
 
 number-less-requires : tie.Need-number-less-requires
 number-less-requires c κs =
@@ -40,11 +40,11 @@ first-taker-requires c κs =
     let f = l .before .before in
     let i = f .before .before in
     let g = i .before in
-    less-scanning (g .before .pre) (g .gives .ensures) (i .if1 .left) (f .giver .ensures) (f .before .component .ensures)
-    (l .number-less .ensures) (c .before .exchanged .ensures)
+    less-scanning (g .before .pre) (g .gives .ensures) (i .if1 .left) (f .giver .ensures)
+    (f .before .component .ensures) (l .number-less .ensures) (c .before .exchanged .ensures)
 
 returns-2 : tie.Need-returns-2
-returns-2 c = search needs
+returns-2 c = c .first-taker .ensures
 
 pub first-from-spec : {M : Type 1} → statement M
 first-from-spec =

@@ -54,7 +54,7 @@ returns c =
     first-found (l .before .loop .inv) (l .loop-test .taken) (c .before .first-from .ensures) (c .if1 .taken)
 
 giver-requires : tie.Need-giver-requires Inv-loop μ-loop
-giver-requires c κs = search needs
+giver-requires c κs = tt
 
 sub-n : tie.Need-sub-n Inv-loop μ-loop
 sub-n c = search needs

@@ -27,7 +27,7 @@ element-copy-out-has c =
     omega (arith, c .before .loop-test .taken, c .before .before .before .pre .0 .sound .stock .chosen .most)
 
 has-requires : tie.Need-has-requires Inv-loop μ-loop
-has-requires c κs = search needs
+has-requires c κs = tt
 
 number-more-requires : tie.Need-number-more-requires Inv-loop μ-loop
 number-more-requires c κs =

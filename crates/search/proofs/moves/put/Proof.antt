@@ -1,11 +1,12 @@
 -- `search::moves::put` meets its contract. Assumes nothing.
+use native.Mathlib.Omega.{arith}
 use borrow.Author.Needs.{needs}
 use Rattle.search.proofs.Renumbered.{put-is}
 use Rattle.search.proofs.moves.put.Statement.{statement}
 use Rattle.search.proofs.moves.put.Tie as tie
 
 forget-requires : tie.Need-forget-requires
-forget-requires c κs = search needs
+forget-requires c κs = (omega (arith, c .before .pre .1), c .before .pre .2)
 
 mul-tried : tie.Need-mul-tried
 mul-tried c = search needs

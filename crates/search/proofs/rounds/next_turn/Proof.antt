@@ -10,7 +10,7 @@ spread-requires : tie.Need-spread-requires
 spread-requires c κs = (c .pre .0 .small, c .pre .0 .sound .stock .chosen .some)
 
 before-round-requires : tie.Need-before-round-requires
-before-round-requires c κs = search needs
+before-round-requires c κs = tt
 
 enum-told : tie.Need-enum-told
 enum-told c = search needs
@@ -22,7 +22,7 @@ enum-told-3 : tie.Need-enum-told-3
 enum-told-3 c = search needs
 
 stride-of-requires : tie.Need-stride-of-requires
-stride-of-requires c κs = search needs
+stride-of-requires c κs = c .before .before .before .before .pre .1
 
 first-move-requires : tie.Need-first-move-requires
 first-move-requires c κs =
@@ -30,7 +30,7 @@ first-move-requires c κs =
     (pre .0, tried-as (c .before .stride-of .ensures) (pre .2))
 
 go-on-requires : tie.Need-go-on-requires
-go-on-requires c κs = search needs
+go-on-requires c κs = tt
 
 returns : tie.Need-returns
 returns c =

@@ -9,7 +9,7 @@ use Rattle.search.proofs.state.amount.Statement.{statement}
 use Rattle.search.proofs.state.amount.Tie as tie
 
 member-requires : tie.Need-member-requires
-member-requires c κs = search needs
+member-requires c κs = tt
 
 mul-i : tie.Need-mul-i
 mul-i c = search needs

@@ -21,7 +21,7 @@ instead-requires-3 : tie.Need-instead-requires-3
 instead-requires-3 c κs = search needs
 
 formula-number-requires : tie.Need-formula-number-requires
-formula-number-requires c κs = search needs
+formula-number-requires c κs = tt
 
 enum-known-p : tie.Need-enum-known-p
 enum-known-p c = search needs
