@@ -1,14 +1,14 @@
 -- The totals of a split's numbers, where a move's giver has given, and where its taker has taken too.
 use Prim.Native.Nat.{ℕ, zero, suc, _+_, _*_, _-_, _%_, _≤_, _<_}
 use mathlib.Core.Path.{_≡_, refl, sym, ap, ap₂, _∙_}
-use mathlib.Core.Bool.{Bool, true, false}
+use mathlib.Core.Bool.{Bool, true, false, not}
 use mathlib.Core.List.{List}
 use native.Mathlib.Omega.{arith}
 use lib.Dec.{eqb, ltb}
 use lib.IntN.{ℤ, natAbs}
 use mir.Syntax.{w64}
 use mir.Val.{toZ, ofZ}
-use borrow.Author.Tests.{eq-eqb, ne-eqb, eqb-true, eqb-false, lt-ltb, le-ltb}
+use borrow.Author.Tests.{eq-eqb, ne-eqb, eqb-true, eqb-false, lt-ltb, le-ltb, not-true, not-false}
 use Rattle.formula.specs.WorkingRule.{LARGEST}
 use Rattle.formula.specs.Laws.Partial.{partial-small}
 use Rattle.systems.specs.Systems.{COMPONENTS, memberOf, hasOf}
@@ -22,15 +22,20 @@ use Rattle.split.specs.Laws.Tests.{MayMove, Affords, affords-true}
 use Rattle.split.specs.Laws.Steps.{insteadOf, numberWith, bt, rest-same, giver-changed, taker-changed}
 use Rattle.split_rows.specs.Rows.{listed}
 use Rattle.split_rows.specs.Inner.Carried.{Held, Workable, partsWith}
-use Rattle.split_rows.specs.Laws.Machine.{at-back}
 use Rattle.integer.specs.Laws.Bits.{back}
-use Rattle.search.specs.Inner.Tried.{triedRow, columnIn, wantedOf, Triable}
+use Rattle.search.specs.Inner.Tried.{triedRow, columnIn, wantedOf, Tried, Triable}
 use Rattle.search.specs.Inner.Balance.{markOf, Totalled}
-use Rattle.search.specs.Inner.Scan.{afterGiving, givesOf, takesOf}
-use Rattle.search.proofs.Squares.{mark-le, sum-few, squares-few, under, imbalance-is, has-mark, put-total}
-use Rattle.search.proofs.Givers.{Gives, gives-true, scan-taker, scan-component, scan-total, scan-fit, scan-can}
+use Rattle.search.specs.Inner.Scan.{afterGiving, givesOf, takesOf, Past, Scanned}
+use Rattle.search.proofs.Squares.{MayExchange, Exchanged, MayBalance, sum-few, squares-few, under}
+use Rattle.search.proofs.Squares.{imbalance-is, has-mark, put-total}
+use Rattle.search.proofs.Givers.{Gives, gives-true, take-same, take-is, scan-taker, scan-component}
+use Rattle.search.proofs.Givers.{past-giver, scan-total, scan-lacks, scan-fit, scan-can, scan-found}
 use Rattle.search.proofs.Trials.{with-is}
 use Rattle.search.proofs.Tries.{less-is, taker-triable, taker-wanted}
+
+-- the number that try i leads to, worked out, and what is known of tries then
+abbrev pub Worked : List ℕ → ℕ → List ℕ → ℕ → ℕ → ℤ → List ℤ → Type 0
+Worked ch k a d i x t = (x ≡ wantedOf ch a d i) × (natAbs x ≤ LARGEST) × Tried ch k a d t
 
 -- totals of the same numbers, and with one number replaced
 pub total-same : (v w : ℕ → ℤ) (k sum squares : ℕ) → ((s : ℕ) → s < k → v s ≡ w s) → Totalled v k sum squares
@@ -44,18 +49,22 @@ total-same v w k sum squares h t = record {
 
 module _ (v : ℕ → ℤ) (k sum squares : ℕ) (most : k ≤ 8) (small : (s : ℕ) → natAbs (v s) ≤ LARGEST)
     (t : Totalled v k sum squares) (j : ℕ) (l : j < k) (p q : ℤ) (e : p ≡ v j) where
-  pub may-exchange : natAbs q ≤ LARGEST
-      → (j < SYSTEMS) × (natAbs p ≤ LARGEST) × (natAbs q ≤ LARGEST) × (markOf p ≤ sum)
-      × (markOf p * markOf p ≤ squares) × (sum ≤ 3200000000) × (squares ≤ 1280000000000000000)
+  pub may-exchange : natAbs q ≤ LARGEST → MayExchange j p q sum squares
   may-exchange h =
       let w = has-mark v k sum squares most (λ s _. small s) t j l in
-      rw e (omega arith, small j, h, w .0, w .1, sum-few v k sum squares most (λ s _. small s) t,
-          squares-few v k sum squares most (λ s _. small s) t)
+      rw e (
+        omega arith,
+        small j,
+        h,
+        w .0,
+        w .1,
+        sum-few v k sum squares most (λ s _. small s) t,
+        squares-few v k sum squares most (λ s _. small s) t,
+      )
 
   pub exchanged-is : (w : ℕ → ℤ) → ((s : ℕ) → s < k → (s ≡ j → ⊥) → v s ≡ w s) → q ≡ w j
-      → (x y : ℕ) → x ≡ sum - markOf p + markOf q → y ≡ squares - markOf p * markOf p + markOf q * markOf q
-      → Totalled w k x y
-  exchanged-is w h f x y a b = rw (a, b, e, f) (put-total v k sum squares most (λ s _. small s) t w j l h)
+      → (x y : ℕ) → Exchanged p q sum squares x y → Totalled w k x y
+  exchanged-is w h f x y o = rw (o .0, o .1, e, f) (put-total v k sum squares most (λ s _. small s) t w j l h)
 
 -- the numbers are small
 pub number-small : (ch a : List ℕ) (s : ℕ) → natAbs (rowNumber ch a s) ≤ LARGEST
@@ -102,17 +111,26 @@ module _ (ch : List ℕ) (k : ℕ) (a : List ℕ) (s c d : ℕ) (so : Sound ch k
 
       at : (j : ℕ) → j < 3 → c ≡ memberOf (systemOf ch s) j → partsWith ch a s c (cellOf a s c - d) + d ≡ partsOf ch a s
       at zero h e =
-          omega (arith, here (memberOf (systemOf ch s) 0) e,
-          there (memberOf (systemOf ch s) 1) (λ z. w .ne10 (z ∙ e)),
-          there (memberOf (systemOf ch s) 2) (λ z. w .ne20 (z ∙ e)))
+          omega (
+            arith,
+            here (memberOf (systemOf ch s) 0) e,
+            there (memberOf (systemOf ch s) 1) (λ z. w .ne10 (z ∙ e)),
+            there (memberOf (systemOf ch s) 2) (λ z. w .ne20 (z ∙ e)),
+          )
       at (suc zero) h e =
-          omega (arith, here (memberOf (systemOf ch s) 1) e,
-          there (memberOf (systemOf ch s) 0) (λ z. w .ne10 (sym (z ∙ e))),
-          there (memberOf (systemOf ch s) 2) (λ z. w .ne21 (z ∙ e)))
+          omega (
+            arith,
+            here (memberOf (systemOf ch s) 1) e,
+            there (memberOf (systemOf ch s) 0) (λ z. w .ne10 (sym (z ∙ e))),
+            there (memberOf (systemOf ch s) 2) (λ z. w .ne21 (z ∙ e)),
+          )
       at (suc (suc zero)) h e =
-          omega (arith, here (memberOf (systemOf ch s) 2) e,
-          there (memberOf (systemOf ch s) 0) (λ z. w .ne20 (sym (z ∙ e))),
-          there (memberOf (systemOf ch s) 1) (λ z. w .ne21 (sym (z ∙ e))))
+          omega (
+            arith,
+            here (memberOf (systemOf ch s) 2) e,
+            there (memberOf (systemOf ch s) 0) (λ z. w .ne20 (sym (z ∙ e))),
+            there (memberOf (systemOf ch s) 1) (λ z. w .ne21 (sym (z ∙ e))),
+          )
       at (suc (suc (suc j))) h e = absurd (omega arith)
 
   less-workable : d < partsOf ch a s → Workable ch a s c (cellOf a s c - d)
@@ -134,14 +152,11 @@ module _ (ch : List ℕ) (k : ℕ) (a : List ℕ) (v : List ℤ) (held : Held ch
   most : k ≤ 8
   most = held .sound .stock .chosen .most
 
-  pub row-is : (s : ℕ) → s < k → toZ w64 (ofZ w64 (listed v s)) ≡ rowNumber ch a s
-  row-is s l = at-back v k s (held .small) l ∙ held .carried .are s l
-
   pub first-total : (sum squares : ℕ) → Totalled (listed v) k sum squares → Totalled (rowNumber ch a) k sum squares
   first-total sum squares t = total-same (listed v) (rowNumber ch a) k sum squares (held .carried .are) t
 
   module _ (sum squares : ℕ) (t : Totalled (rowNumber ch a) k sum squares) where
-    pub first-may : (k ≤ 8) × (sum ≤ 3200000000) × (squares ≤ 1280000000000000000) × (sum * sum ≤ k * squares)
+    pub first-may : MayBalance k sum squares
     first-may = (
       most,
       sum-few (rowNumber ch a) k sum squares most (λ s _. number-small ch a s) t,
@@ -205,18 +220,16 @@ module _ (ch : List ℕ) (k : ℕ) (a : List ℕ) (v : List ℤ) (held : Held ch
         new-is : new ≡ z
         new-is = back z (omega (arith, w .1))
 
-        pub given-may : (giverOf m < SYSTEMS) × (natAbs old ≤ LARGEST) × (natAbs new ≤ LARGEST) × (markOf old ≤ sum)
-            × (markOf old * markOf old ≤ squares) × (sum ≤ 3200000000) × (squares ≤ 1280000000000000000)
+        given-may : MayExchange (giverOf m) old new sum squares
         given-may =
             may-exchange (rowNumber ch a) k sum squares most (number-small ch a) t (giverOf m) (gv .from) old new
             (held .carried .are (giverOf m) (gv .from)) (rw new-is (w .1))
 
-        pub given-is : (x y : ℕ) → x ≡ sum - markOf old + markOf new
-            → y ≡ squares - markOf old * markOf old + markOf new * markOf new
+        given-is : (x y : ℕ) → Exchanged old new sum squares x y
             → Totalled (afterGiving ch a d (giverOf m) (componentOf m)) k x y
         given-is =
             exchanged-is (rowNumber ch a) k sum squares most (number-small ch a) t (giverOf m) (gv .from) old new
-                (held .carried .are (giverOf m) (gv .from)) (afterGiving ch a d (giverOf m) (componentOf m))
+            (held .carried .are (giverOf m) (gv .from)) (afterGiving ch a d (giverOf m) (componentOf m))
             (λ s l n. sym (given-there ch a d (giverOf m) (componentOf m) s n))
             (new-is ∙ w .0 ∙ give-wanted ∙ sym (given-here ch a d (giverOf m) (componentOf m)))
 
@@ -237,8 +250,8 @@ module _ (ch : List ℕ) (k : ℕ) (a : List ℕ) (v : List ℤ) (held : Held ch
           go true e =
               let q : s ≡ giverOf m = eqb-true s (giverOf m) e in
               rw q (given-here ch a d (giverOf m) (componentOf m)
-                  ∙ with-is ch k a d m so fit (giverOf m) (cellOf a (giverOf m) (componentOf m) - d)
-                  (bt ch k a d m so fit .from) (giver-changed ch k a d m so fit))
+              ∙ with-is ch k a d m so fit (giverOf m) (cellOf a (giverOf m) (componentOf m) - d)
+              (bt ch k a d m so fit .from) (giver-changed ch k a d m so fit))
           go false e =
               given-there ch a d (giverOf m) (componentOf m) s (eqb-false s (giverOf m) e)
               ∙ sym (rest-same ch k a d m so fit s l (eqb-false s (giverOf m) e) n)
@@ -262,8 +275,7 @@ module _ (ch : List ℕ) (k : ℕ) (a : List ℕ) (v : List ℤ) (held : Held ch
             held .carried .are t below ∙ sym
             (given-there ch a d (giverOf m) (componentOf m) t (λ z. bt ch k a d m so fit .apart (sym z ∙ et)))
 
-        pub taken-may : (t < SYSTEMS) × (natAbs held-by ≤ LARGEST) × (natAbs taken ≤ LARGEST) × (markOf held-by ≤ sum)
-            × (markOf held-by * markOf held-by ≤ squares) × (sum ≤ 3200000000) × (squares ≤ 1280000000000000000)
+        pub taken-may : MayExchange t held-by taken sum squares
         taken-may =
             may-exchange (afterGiving ch a d (giverOf m) (componentOf m)) k sum squares most
             (given-small ch a d (giverOf m) (componentOf m)) tot t below held-by taken was-there
@@ -278,21 +290,19 @@ module _ (ch : List ℕ) (k : ℕ) (a : List ℕ) (v : List ℤ) (held : Held ch
             (bt ch k a d m so fit .to) (taker-changed ch k a d m so fit)
             ∙ ap (rowNumber ch (movedOf a m d)) (sym et)
 
-        module _ (x y : ℕ) (i : x ≡ sum - markOf held-by + markOf taken)
-            (j : y ≡ squares - markOf held-by * markOf held-by + markOf taken * markOf taken) where
+        module _ (x y : ℕ) (o : Exchanged held-by taken sum squares x y) where
           taken-is : Totalled (rowNumber ch (movedOf a m d)) k x y
           taken-is =
               exchanged-is (afterGiving ch a d (giverOf m) (componentOf m)) k sum squares most
-                  (given-small ch a d (giverOf m) (componentOf m)) tot t below held-by taken was-there
-                  (rowNumber ch (movedOf a m d))
+              (given-small ch a d (giverOf m) (componentOf m)) tot t below held-by taken was-there
+              (rowNumber ch (movedOf a m d))
               (λ s l n. both-done s l (λ e. n (e ∙ sym et)))
               now-there
               x
               y
-              i
-              j
+              o
 
-          pub after-may : (k ≤ 8) × (x ≤ 3200000000) × (y ≤ 1280000000000000000) × (x * x ≤ k * y)
+          pub after-may : MayBalance k x y
           after-may = (
             most,
             sum-few (rowNumber ch (movedOf a m d)) k x y most (λ s _. number-small ch (movedOf a m d) s) taken-is,
@@ -303,57 +313,126 @@ module _ (ch : List ℕ) (k : ℕ) (a : List ℕ) (v : List ℤ) (held : Held ch
           pub lowers-is : (r was : ℕ) → r ≡ k * y - x * x → was ≡ imbalanceOf (rowNumber ch a) k
               → ltb r was ≡ lowersOf ch k a d m
           unfolding lowersOf
-          lowers-is r was u o =
+          lowers-is r was u p =
               ap₂ ltb (u ∙ imbalance-is (rowNumber ch (movedOf a m d)) k x y most
-              (λ s _. number-small ch (movedOf a m d) s) taken-is) o
+              (λ s _. number-small ch (movedOf a m d) s) taken-is) p
 
--- the trial of the move from n's giver to row t, which takes
-module _ (ch : List ℕ) (k : ℕ) (a : List ℕ) (v : List ℤ) (held : Held ch k a v) (d n : ℕ) (z : n % SYSTEMS ≡ 0)
-    (below : n < MOVES) (g : givesOf ch k a d n ≡ true) (c f t : ℕ) (h : t < k)
-    (ec : c ≡ componentOf n) (ef : f ≡ giverOf n) (b : Bool) (e : b ≡ takesOf ch c f t) (p : b ≡ true) where
+-- the totals of the numbers that are carried
+module _ {ch : List ℕ} {k : ℕ} {a : List ℕ} {v : List ℤ} (held : Held ch k a v) {sum squares : ℕ}
+    (t : Totalled (listed v) k sum squares) where
+  pub all-total : Totalled (rowNumber ch a) k sum squares
+  all-total = first-total ch k a v held sum squares t
+
+  pub all-may : MayBalance k sum squares
+  all-may = first-may ch k a v held sum squares all-total
+
+  pub all-imbalance : {r : ℕ} → r ≡ k * squares - sum * sum → r ≡ imbalanceOf (rowNumber ch a) k
+  all-imbalance {r} e = first-imbalance ch k a v held sum squares all-total r e
+
+-- what a scan over the moves of n's giver starts from; and one over its takers, where it is row f and gives component c
+abbrev pub Starting : List ℕ → ℕ → List ℕ → List ℤ → List ℤ → ℕ → ℕ → ℕ → ℕ → ℕ → Type 0
+Starting ch k a v u d n sum squares was =
+    Held ch k a v × (n < MOVES) × (n % SYSTEMS ≡ 0) × (giverOf n < k) × Past ch k a d n × Tried ch k a d u
+    × Totalled (rowNumber ch a) k sum squares × (was ≡ imbalanceOf (rowNumber ch a) k)
+
+abbrev pub Scanning : List ℕ → ℕ → List ℕ → List ℤ → List ℤ → ℕ → ℕ → ℕ → ℕ → ℕ → ℕ → ℕ → Type 0
+Scanning ch k a v u d n c f sum squares was =
+    Held ch k a v × (n < MOVES) × (n % SYSTEMS ≡ 0) × (givesOf ch k a d n ≡ true) × Past ch k a d n × Tried ch k a d u
+    × Totalled (afterGiving ch a d (giverOf n) (componentOf n)) k sum squares
+    × (was ≡ imbalanceOf (rowNumber ch a) k) × (c ≡ componentOf n) × (f ≡ giverOf n)
+
+-- from the one to the other, by the test b whether the giver gives
+module _ {ch : List ℕ} {k : ℕ} {a : List ℕ} {v tried : List ℤ} {d n sum squares was : ℕ}
+    (pre : Starting ch k a v tried d n sum squares was) {b : Bool} (e : b ≡ givesOf ch k a d n) where
+  pub gives-none : not b ≡ true → Scanned ch k a d n (n + SYSTEMS) × Tried ch k a d tried
+  gives-none l = (past-giver ch k a d n (pre .2) (pre .4) (sym e ∙ not-true b l), pre .5)
+
+  module _ (l : not b ≡ false) {f c : ℕ} (ef : f ≡ giverOf n) (ec : c ≡ componentOf n) where
+    gives : givesOf ch k a d n ≡ true
+    gives = sym e ∙ not-false b l
+
+    pub less-triable : (f < SYSTEMS) × (c < COMPONENTS) × Triable ch k a d (f * COMPONENTS + c) × Tried ch k a d tried
+    less-triable =
+        rw (ef, ec) (omega arith, omega (arith, pre .1), give-triable ch k a v (pre .0) d n (pre .1) gives, pre .5)
+
+    module _ {x : ℤ} {u : List ℤ} (w : Worked ch k a d (f * COMPONENTS + c) x u) where
+      worked : (x ≡ wantedOf ch a d (giverOf n * COMPONENTS + componentOf n)) × (natAbs x ≤ LARGEST)
+      worked = (rw (ef, ec) at (w .0), w .1)
+
+      pub less-may : MayExchange f (listed v f) (toZ w64 (ofZ w64 x)) sum squares
+      less-may = rw ef (given-may ch k a v (pre .0) d n (pre .1) gives sum squares (pre .6) x worked)
+
+      pub less-scanning : {i j : ℕ} → Exchanged (listed v f) (toZ w64 (ofZ w64 x)) sum squares i j
+          → Scanning ch k a v u d n c f i j was
+      less-scanning {i} {j} o =
+          let t = given-is ch k a v (pre .0) d n (pre .1) gives sum squares (pre .6) x worked i j (rw ef at o) in
+          (pre .0, pre .1, pre .2, gives, pre .4, w .2, t, pre .7, ec, ef)
+
+-- the trial of row t
+module _ {ch : List ℕ} {k : ℕ} {a : List ℕ} {v tried : List ℤ} {d n c f sum squares was : ℕ}
+    (pre : Scanning ch k a v tried d n c f sum squares was) {t : ℕ} (h : t < k) where
   few : k ≤ SYSTEMS
-  few = held .sound .stock .chosen .most
+  few = pre .0 .sound .stock .chosen .most
 
-  fit : MayMove ch k a d (n + t)
-  fit = scan-fit ch k a d n z t h few below g c f ec ef b e p
+  lacks : {b : Bool} → b ≡ takesOf ch c f t → b ≡ false → canOf ch k a d (n + t) ≡ false
+  lacks {b} e p = scan-lacks ch k a d n (pre .2) t h few (pre .1) (pre .3) c f (pre .8) (pre .9) b e p
 
-  same-component : c ≡ componentOf (n + t)
-  same-component = ec ∙ sym (scan-component k n t z h few below)
+  pub trial-same : f ≡ t → canOf ch k a d (n + t) ≡ false
+  trial-same p = lacks (take-same ch c f t p) refl
 
-  same-taker : t ≡ takerOf (n + t)
-  same-taker = sym (scan-taker k n t z h few below)
+  module _ {b : Bool} (apart : f ≡ t → ⊥) (e : b ≡ hasOf (systemOf ch t) c) where
+    takes : b ≡ takesOf ch c f t
+    takes = take-is ch c f t apart b e
 
-  pub trial-triable : (t < SYSTEMS) × (c < COMPONENTS) × Triable ch k a d (CELLS + t * COMPONENTS + c)
-  trial-triable =
-      (omega (arith, few), omega (arith, ec, below),
-      take-triable ch k a v held d (n + t) fit c t same-component same-taker)
+    pub trial-lacks : b ≡ false → canOf ch k a d (n + t) ≡ false
+    trial-lacks p = lacks takes p
 
-  module _ (sum squares : ℕ) (tot : Totalled (afterGiving ch a d (giverOf n) (componentOf n)) k sum squares) (x : ℤ)
-      (w : (x ≡ wantedOf ch a d (CELLS + t * COMPONENTS + c)) × (natAbs x ≤ LARGEST)) where
-    same-total : Totalled (afterGiving ch a d (giverOf (n + t)) (componentOf (n + t))) k sum squares
-    same-total = scan-total ch k a d n z t h few below sum squares tot
+    module _ (p : b ≡ true) where
+      fit : MayMove ch k a d (n + t)
+      fit = scan-fit ch k a d n (pre .2) t h few (pre .1) (pre .3) c f (pre .8) (pre .9) b takes p
 
-    pub trial-may : (t < SYSTEMS) × (natAbs (listed v t) ≤ LARGEST) × (natAbs (toZ w64 (ofZ w64 x)) ≤ LARGEST)
-        × (markOf (listed v t) ≤ sum) × (markOf (listed v t) * markOf (listed v t) ≤ squares) × (sum ≤ 3200000000)
-        × (squares ≤ 1280000000000000000)
-    trial-may = taken-may ch k a v held d (n + t) fit c t same-component same-taker sum squares same-total x w
+      same-component : c ≡ componentOf (n + t)
+      same-component = pre .8 ∙ sym (scan-component k n t (pre .2) h few (pre .1))
 
-    module _ (i j : ℕ) (p1 : i ≡ sum - markOf (listed v t) + markOf (toZ w64 (ofZ w64 x)))
-        (p2 : j ≡ squares - markOf (listed v t) * markOf (listed v t) + markOf (toZ w64 (ofZ w64 x)) * markOf
-        (toZ w64 (ofZ w64 x))) where
-      pub trial-after : (k ≤ 8) × (i ≤ 3200000000) × (j ≤ 1280000000000000000) × (i * i ≤ k * j)
-      trial-after =
-          after-may ch k a v held d (n + t) fit c t same-component same-taker sum squares same-total x w i j p1 p2
+      same-taker : t ≡ takerOf (n + t)
+      same-taker = sym (scan-taker k n t (pre .2) h few (pre .1))
 
-      module _ (r was : ℕ) (q : r ≡ k * j - i * i) (o : was ≡ imbalanceOf (rowNumber ch a) k) where
-        is-can : (u : Bool) → ltb r was ≡ u → canOf ch k a d (n + t) ≡ u
-        is-can =
-            scan-can ch k a d n z t h few below g c f ec ef b e p (ltb r was)
-            (lowers-is ch k a v held d (n + t) fit c t same-component same-taker sum squares same-total x w i j p1 p2
-            r was q o)
+      pub trial-triable : (t < SYSTEMS) × (c < COMPONENTS) × Triable ch k a d (CELLS + t * COMPONENTS + c)
+      trial-triable = (
+        omega (arith, few),
+        omega (arith, pre .8, pre .1),
+        take-triable ch k a v (pre .0) d (n + t) fit c t same-component same-taker,
+      )
 
-        pub trial-can : r < was → canOf ch k a d (n + t) ≡ true
-        trial-can l = is-can true (lt-ltb r was l)
+      module _ {x : ℤ} {u : List ℤ} (w : Worked ch k a d (CELLS + t * COMPONENTS + c) x u) where
+        same-total : Totalled (afterGiving ch a d (giverOf (n + t)) (componentOf (n + t))) k sum squares
+        same-total = scan-total ch k a d n (pre .2) t h few (pre .1) sum squares (pre .6)
 
-        pub trial-cannot : was ≤ r → canOf ch k a d (n + t) ≡ false
-        trial-cannot l = is-can false (le-ltb r was l)
+        pub trial-may : MayExchange t (listed v t) (toZ w64 (ofZ w64 x)) sum squares
+        trial-may =
+            taken-may ch k a v (pre .0) d (n + t) fit c t same-component same-taker sum squares same-total x
+            (w .0, w .1)
+
+        module _ {i j : ℕ} (o : Exchanged (listed v t) (toZ w64 (ofZ w64 x)) sum squares i j) where
+          pub trial-after : MayBalance k i j
+          trial-after =
+              after-may ch k a v (pre .0) d (n + t) fit c t same-component same-taker sum squares same-total x
+              (w .0, w .1) i j o
+
+          module _ {r : ℕ} (q : r ≡ k * j - i * i) where
+            lowers : ltb r was ≡ lowersOf ch k a d (n + t)
+            lowers =
+                lowers-is ch k a v (pre .0) d (n + t) fit c t same-component same-taker sum squares same-total x
+                (w .0, w .1) i j o r was q (pre .7)
+
+            is-can : (y : Bool) → ltb r was ≡ y → canOf ch k a d (n + t) ≡ y
+            is-can =
+                scan-can ch k a d n (pre .2) t h few (pre .1) (pre .3) c f (pre .8) (pre .9) b takes p (ltb r was)
+                lowers
+
+            pub trial-found : Past ch k a d (n + t) → r < was → Scanned ch k a d n (n + t)
+            trial-found past l =
+                scan-found ch k a d n (pre .2) t h few (pre .1) past (is-can true (lt-ltb r was l))
+
+            pub trial-cannot : was ≤ r → canOf ch k a d (n + t) ≡ false
+            trial-cannot l = is-can false (le-ltb r was l)

@@ -5,16 +5,18 @@ use mathlib.Core.Bool.{Bool, true, false, not, cond}
 use mathlib.Core.List.{List}
 use native.Mathlib.Omega.{arith}
 use lib.Dec.{eqb, ltb}
-use borrow.Author.Tests.{lt-ltb, eq-eqb, ne-eqb, ltb-true, ltb-false}
+use lib.IntN.{ℤ}
+use borrow.Author.Tests.{lt-ltb, eq-eqb, ne-eqb, ltb-true, ltb-false, not-true, not-false}
 use Rattle.systems.specs.Systems.{hasOf}
-use Rattle.split.specs.Split.{SYSTEMS, systemOf}
+use Rattle.split.specs.Split.{SYSTEMS, cellOf, systemOf, partsOf, Sound}
 use Rattle.split.specs.Laws.Members.{both-left, both-right}
 use Rattle.split.specs.Move.{MOVES, componentOf, giverOf, takerOf, betweenOf, affordsOf, lowersOf, canOf, firstOf}
 use Rattle.split.specs.Laws.Folds.{first-here, first-none}
 use Rattle.split.specs.Laws.Scan.{first-skip}
-use Rattle.split.specs.Laws.Tests.{MayMove, Can, can-true, can-is, between-true}
+use Rattle.split.specs.Laws.Tests.{MayMove, Can, can-true, can-is, between-true, not-had, affords-is}
 use Rattle.search.specs.Inner.Balance.{Totalled}
 use Rattle.search.specs.Inner.Scan.{afterGiving, givesOf, takesOf, Past, Scanned}
+use Rattle.search.specs.Inner.Tried.{Tried}
 
 -- the pairs of a giver and a taker
 abbrev PAIRS : ℕ
@@ -27,17 +29,28 @@ by-test : (P : Bool → Type 0) (b : Bool) → (b ≡ true → P true) → (b �
 by-test P true p q = p refl
 by-test P false p q = q refl
 
--- what the giver's tests come to
+-- what the giver's tests come to: it is row f, and the component c
+module _ {ch : List ℕ} {k : ℕ} {a : List ℕ} (d m : ℕ) {f c : ℕ} {b : Bool}
+    (pre : Sound ch k a × (m < MOVES) × (giverOf m < k)) (ef : f ≡ giverOf m) (ec : c ≡ componentOf m)
+    (e : b ≡ hasOf (systemOf ch f) c) where
+  at-giver : b ≡ hasOf (systemOf ch (giverOf m)) (componentOf m)
+  at-giver = rw (ef, ec) at e
+
+  pub give-lacks : not b ≡ true → false ≡ givesOf ch k a d m
+  unfolding givesOf
+  give-lacks u = rw (lt-ltb (giverOf m) k (pre .2), sym at-giver ∙ not-true b u, givesOf)
+
+  give-is : not b ≡ false → (r : Bool) → r ≡ affordsOf ch a d m → r ≡ givesOf ch k a d m
+  unfolding givesOf
+  give-is u r p = rw (lt-ltb (giverOf m) k (pre .2), sym at-giver ∙ not-false b u, givesOf) p
+
+  pub give-short : not b ≡ false → cellOf a f c < d → false ≡ givesOf ch k a d m
+  give-short u l = give-is u false (not-had ch k m a d (rw (ef, ec) at l))
+
+  pub give-all : not b ≡ false → d ≤ cellOf a f c → {r : ℕ} → r ≡ partsOf ch a f → ltb d r ≡ givesOf ch k a d m
+  give-all u l {r} p = give-is u (ltb d r) (affords-is ch k m a d r (rw (ef, ec) at l) (rw ef at p))
+
 module _ (ch : List ℕ) (k : ℕ) (a : List ℕ) (d m : ℕ) where
-  module _ (h : giverOf m < k) (b : Bool) (f : b ≡ hasOf (systemOf ch (giverOf m)) (componentOf m)) where
-    pub give-lacks : b ≡ false → false ≡ givesOf ch k a d m
-    unfolding givesOf
-    give-lacks u = rw (lt-ltb (giverOf m) k h, sym f ∙ u, givesOf)
-
-    pub give-is : b ≡ true → (r : Bool) → r ≡ affordsOf ch a d m → r ≡ givesOf ch k a d m
-    unfolding givesOf
-    give-is u r e = rw (lt-ltb (giverOf m) k h, sym f ∙ u, givesOf) e
-
   pub record Gives : Type 0 where
     pub from : giverOf m < k
     pub gives : hasOf (systemOf ch (giverOf m)) (componentOf m) ≡ true
@@ -116,8 +129,18 @@ module _ (ch : List ℕ) (k : ℕ) (a : List ℕ) (d m : ℕ) where
       let w = gives-true ch k a d m g in
       let p = both-left (not (eqb (giverOf m) (takerOf m))) _ t in
       let q = both-right (not (eqb (giverOf m) (takerOf m))) _ t in
-      record { below = h; between = rw (lt-ltb (giverOf m) k (w .from), lt-ltb (takerOf m) k l, p, w .gives, q,
-          betweenOf); affords = w .affords }
+      record {
+        below = h;
+        between = rw (
+          lt-ltb (giverOf m) k (w .from),
+          lt-ltb (takerOf m) k l,
+          p,
+          w .gives,
+          q,
+          betweenOf,
+        );
+        affords = w .affords;
+      }
 
 takes-at : (ch : List ℕ) (m c f t : ℕ) (b r : Bool) → c ≡ componentOf m → f ≡ giverOf m → t ≡ takerOf m
     → r ≡ takesOf ch c f t → r ≡ b → takesOf ch (componentOf m) (giverOf m) (takerOf m) ≡ b
@@ -158,8 +181,10 @@ module _ (ch : List ℕ) (k : ℕ) (a : List ℕ) (d : ℕ) where
 
   pub past-to : (m r : ℕ) → Past ch k a d m → ((s : ℕ) → m ≤ s → s < r → canOf ch k a d s ≡ false) → Past ch k a d r
   past-to m r p h =
-      record { none = λ s l. by-test (λ b. ltb s m ≡ b → canOf ch k a d s ≡ false) (ltb s m)
-      (λ e f. p .none s (ltb-true s m e)) (λ e f. h s (ltb-false s m e) l) refl }
+      record {
+        none = λ s l. by-test (λ b. ltb s m ≡ b → canOf ch k a d s ≡ false) (ltb s m)
+            (λ e f. p .none s (ltb-true s m e)) (λ e f. h s (ltb-false s m e) l) refl;
+      }
 
   pub past-here : (n : ℕ) → Past ch k a d n → Past ch k a d (n + 0)
   past-here n p = record { none = λ s l. p .none s (omega arith) }
@@ -242,3 +267,30 @@ module _ (ch : List ℕ) (k : ℕ) (a : List ℕ) (d : ℕ) where
 
   pub past-block : (n r : ℕ) → Scanned ch k a d n r → n + SYSTEMS ≤ r → Past ch k a d (n + SYSTEMS)
   past-block n r s l = record { none = λ x h. s .past .none x (omega arith) }
+
+-- how far the scan has come: to giver n, with what is known of tries
+abbrev pub Come : List ℕ → ℕ → List ℕ → ℕ → ℕ → List ℤ → Type 0
+Come ch k a d n u =
+    (n ≤ MOVES) × (n % SYSTEMS ≡ 0) × (giverOf n < k) × Past ch k a d n × Tried ch k a d u
+
+-- past giver n
+module _ {ch : List ℕ} {k : ℕ} {a : List ℕ} {d n r : ℕ} {t u : List ℤ} (come : Come ch k a d n t) (below : n < MOVES)
+    (s : Scanned ch k a d n r × Tried ch k a d u) where
+  pub first-found : r < n + SYSTEMS → (r ≡ firstOf ch k a d) × Tried ch k a d u
+  first-found l =
+      (found-first ch k a d r (omega (arith, come .1, below, l)) (s .0 .past) (s .0 .found l), s .1)
+
+  module _ (l : n + SYSTEMS ≤ r) {f : ℕ} (e : f ≡ giverOf (n + SYSTEMS)) where
+    past : Past ch k a d (n + SYSTEMS)
+    past = past-block ch k a d n r (s .0) l
+
+    pub come-on : f < k → Come ch k a d (n + SYSTEMS) u
+    come-on h =
+        let w = next-giver k n (come .1) below (come .2) in
+        (w .0, w .1, rw e at h, past, s .1)
+
+    pub come-round : k ≤ f → Come ch k a d (n + SYSTEMS + (PAIRS - (n + SYSTEMS) % PAIRS)) u
+    come-round h =
+        let p : k ≤ giverOf (n + SYSTEMS) = rw e at h in
+        let w = skip-rest k n (come .1) below (come .2) p in
+        (w .0, w .1, w .2, past-rows ch k a d (n + SYSTEMS) p past, s .1)

@@ -45,13 +45,13 @@ pub stride-is : (level : ℕ) → level ≤ 16 → 1 * 2 ^ level % 4294967296 �
 stride-is level h = eqb→eq (1 * 2 ^ level % 4294967296) (2 ^ level) (eachTo right 17 tt level (omega arith))
 
 -- s is the spread of the numbers v, d the stride, m the first move, r what is answered then
-module _ (ch : List ℕ) (k limit allowance : ℕ) (a : List ℕ) (level rounds s : ℕ) (v : List ℤ)
-    (e : s ≡ spreadOf (listed v) k) (held : Held ch k a v) where
+module _ {ch : List ℕ} {k : ℕ} {a : List ℕ} {v : List ℤ} (held : Held ch k a v) (limit allowance level rounds : ℕ)
+    {s : ℕ} (e : s ≡ spreadOf (listed v) k) where
   is-spread : s ≡ spreadOf (rowNumber ch a) k
   is-spread = e ∙ spread-same (listed v) (rowNumber ch a) k (held .sound .stock .chosen .some) (held .carried .are)
 
   -- and of what is done before the round
-  module _ (b : Before) (f : b ≡ beforeOf s limit rounds allowance) where
+  module _ {b : Before} (f : b ≡ beforeOf s limit rounds allowance) where
     done : doneBy (spreadOf (rowNumber ch a) k) (goOn level (firstOf ch k a (2 ^ level))) b ≡ turnOf ch k limit
         allowance a level rounds
     done =
@@ -64,9 +64,9 @@ module _ (ch : List ℕ) (k limit allowance : ℕ) (a : List ℕ) (level rounds 
     pub code-refuse : b ≡ Spent → Refuse ≡ turnOf ch k limit allowance a level rounds
     code-refuse h = sym (ap (doneBy _ _) h) ∙ done
 
-    pub code-on : b ≡ Open → (d m : ℕ) (r : Turn) → d ≡ 2 ^ level → m ≡ firstOf ch k a d → r ≡ goOn level m
+    pub code-on : b ≡ Open → {d m : ℕ} {r : Turn} → d ≡ 2 ^ level → m ≡ firstOf ch k a d → r ≡ goOn level m
         → r ≡ turnOf ch k limit allowance a level rounds
-    code-on h d m r p q z =
+    code-on h {d} {m} {r} p q z =
         let w : r ≡ goOn level (firstOf ch k a (2 ^ level)) = cc in
         w ∙ sym (ap (doneBy _ _) h) ∙ done
 
@@ -74,15 +74,15 @@ module _ (ch : List ℕ) (k limit allowance : ℕ) (a : List ℕ) (level rounds 
 abbrev pub AtTurn : List ℕ → ℕ → ℕ → ℕ → Found → ℕ → List ℕ → List ℤ → List ℤ → ℕ → Type 0
 AtTurn ch k limit allowance S level a v t rounds =
     Held ch k a v × (level ≤ 16) × (rounds ≤ allowance)
-        × (S ≡ runOf ch k limit allowance (suc (allowance - rounds + level)) a level rounds)
-        × Tried ch k a (2 ^ level) t
+    × (S ≡ runOf ch k limit allowance (suc (allowance - rounds + level)) a level rounds)
+    × Tried ch k a (2 ^ level) t
 
 -- a turn x
-module _ (ch : List ℕ) (k limit allowance : ℕ) (S : Found) (level : ℕ) (a : List ℕ) (v t : List ℤ) (rounds : ℕ)
-    (g : AtTurn ch k limit allowance S level a v t rounds) (x : Turn)
+module _ (limit : ℕ) {ch : List ℕ} {k allowance : ℕ} {S : Found} {level : ℕ} {a : List ℕ} {v t : List ℤ} {rounds : ℕ}
+    (g : AtTurn ch k limit allowance S level a v t rounds) {x : Turn}
     (u : x ≡ turnOf ch k limit allowance a level rounds) where
   -- that moves, with the stride d
-  module _ (m : ℕ) (w : x ≡ Move m) where
+  module _ {m : ℕ} (w : x ≡ Move m) where
     turn-is : turnOf ch k limit allowance a level rounds ≡ Move m
     turn-is = sym u ∙ w
 
@@ -95,21 +95,21 @@ module _ (ch : List ℕ) (k limit allowance : ℕ) (S : Found) (level : ℕ) (a 
     pub round-less : allowance - (rounds + 1) + level < allowance - rounds + level
     round-less = omega (arith, rounds-left)
 
-    module _ (d : ℕ) (p : d ≡ 2 ^ level) where
+    module _ {d : ℕ} (p : d ≡ 2 ^ level) where
       fit-is : MayMove ch k a d m
       fit-is = rw p (moves ch k limit allowance a level rounds m turn-is .fit)
 
-      pub may-renumber : (y : List ℤ) → Tried ch k a (2 ^ level) y → Held ch k a v × MayMove ch k a d m
+      pub may-renumber : {y : List ℤ} → Tried ch k a (2 ^ level) y → Held ch k a v × MayMove ch k a d m
           × Tried ch k a d y
-      may-renumber y h = (g .0, fit-is, rw p h)
+      may-renumber h = (g .0, fit-is, rw p h)
 
       pub may-go : (m < MOVES) × (d ≤ cellOf a (giverOf m) (componentOf m))
           × (cellOf a (takerOf m) (componentOf m) + d ≤ MILLION)
       may-go = may-move ch k a d m (g .0 .sound) fit-is
 
-      pub move-on : (b : List ℕ) (z y : List ℤ) → b ≡ movedOf a m d → Held ch k (movedOf a m d) z
+      pub move-on : {b : List ℕ} {z y : List ℤ} → b ≡ movedOf a m d → Held ch k (movedOf a m d) z
           × Tried ch k (movedOf a m d) d y → AtTurn ch k limit allowance S level b z y (rounds + 1)
-      move-on b z y e h =
+      move-on {b} e h =
           let n = again-move ch k limit allowance a level rounds S m b (e ∙ ap (movedOf a m) p) (g .2) (g .3) turn-is in
           (rw e (h .0), g .1, n .0, n .1, rw (e, ← p) (h .1))
 
@@ -122,8 +122,8 @@ module _ (ch : List ℕ) (k limit allowance : ℕ) (S : Found) (level : ℕ) (a 
     pub halve-may : 1 ≤ level
     halve-may = halved .0
 
-    pub halve-on : (y : List ℤ) → y ≡ replicate TRIES UNKNOWN → AtTurn ch k limit allowance S (level - 1) a v y rounds
-    halve-on y e = (g .0, omega (arith, g .1), g .2, halved .1, none-is ch k a (2 ^ (level - 1)) y e)
+    pub halve-on : {y : List ℤ} → y ≡ replicate TRIES UNKNOWN → AtTurn ch k limit allowance S (level - 1) a v y rounds
+    halve-on {y} e = (g .0, omega (arith, g .1), g .2, halved .1, none-is ch k a (2 ^ (level - 1)) y e)
 
 -- the arm that ends the search
 no-end : OneOf (0 ∷ 1 ∷ []) 2 → ⊥

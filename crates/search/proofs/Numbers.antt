@@ -22,8 +22,13 @@ use Rattle.integer.specs.Laws.Bits.{back}
 
 pub system-fits : (system : ℕ) → Candidate system → Fits w32 system
 system-fits system h =
-    record { fits = omega (arith, ltb-true system 256
-    (to-true (ltb system 256) (each-candidate (λ s. ltb s 256) tt system h))) }
+    record {
+      fits = omega (
+        arith,
+        ltb-true system 256
+            (to-true (ltb system 256) (each-candidate (λ s. ltb s 256) tt system h)),
+      );
+    }
 
 module _ (system w n1 n2 n3 : ℕ) (p : Partial) (e : w ≡ system) (q : p ≡ formulaOf w n1 n2 n3) (h : Candidate system)
     (some : 1 ≤ n1 + n2 + n3) (few : n1 + n2 + n3 ≤ MILLION) where

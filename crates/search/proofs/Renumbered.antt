@@ -14,7 +14,7 @@ use mir.Val.{toZ, ofZ}
 use borrow.Author.Tests.{eqb-true, eqb-false}
 use Rattle.formula.specs.WorkingRule.{LARGEST}
 use Rattle.systems.specs.Systems.{COMPONENTS}
-use Rattle.split.specs.Split.{CELLS, rowNumber, Sound}
+use Rattle.split.specs.Split.{SYSTEMS, CELLS, Sound}
 use Rattle.split.specs.Move.{componentOf, giverOf, takerOf, movedOf}
 use Rattle.split.specs.Laws.Tests.{MayMove, Between}
 use Rattle.split.specs.Laws.Steps.{bt, component-low, sound-moved}
@@ -22,28 +22,31 @@ use Rattle.split_rows.specs.Rows.{listed}
 use Rattle.split_rows.specs.Inner.Small.{Small}
 use Rattle.split_rows.specs.Inner.Carried.{Carried, Held}
 use Rattle.integer.specs.Laws.Bits.{back}
-use Rattle.search.specs.Inner.Tried.{TRIES, UNKNOWN, triedRow, wantedOf, Tried, Forgot}
+use Rattle.search.specs.Inner.Tried.{TRIES, UNKNOWN, triedRow, wantedOf, Tried, Triable, Forgot}
 use Rattle.search.specs.Inner.Rounds.{Back}
 use Rattle.search.proofs.Trials.{renumber-ok}
-use Rattle.search.proofs.Tries.{taker-wanted, same-wanted, giver-back, taker-back}
+use Rattle.search.proofs.Tries.{taker-triable, taker-wanted, same-wanted, giver-back, taker-back}
 use Rattle.search.proofs.Givers.{fit-gives}
-use Rattle.search.proofs.Given.{give-worked}
+use Rattle.search.proofs.Given.{Worked, give-worked, give-triable}
 
 passed : (x : ℤ) → natAbs x ≤ LARGEST → toZ w64 (ofZ w64 x) ≡ x
 passed x h = back x (N.le-trans h (lit≤ tt))
 
--- one row's number put
-pub put-is : (v t u : List ℤ) (s i : ℕ) (x : ℤ) → i < TRIES → s ≡ triedRow i → natAbs x ≤ LARGEST
-    → natAbs (listed v s) ≤ LARGEST → Forgot t s u
+-- what is asked where one row's number is put
+abbrev pub MayPut : List ℤ → List ℤ → ℕ → ℕ → ℤ → Type 0
+MayPut v t s i x =
+    (i < TRIES) × (s ≡ triedRow i) × (length t ≡ TRIES) × (natAbs x ≤ LARGEST) × (natAbs (listed v s) ≤ LARGEST)
+
+pub put-is : (v t u : List ℤ) (s i : ℕ) (x : ℤ) → MayPut v t s i x → Forgot t s u
     → (set v s (toZ w64 (ofZ w64 x)) ≡ set v s x) × Back t s i (listed v s) (set u i (toZ w64 (ofZ w64 (listed v s))))
-put-is v t u s i x h r p q f = (
-  ap (set v s) (passed x p),
-  rw (passed (listed v s) q) (
+put-is v t u s i x p f = (
+  ap (set v s) (passed x (p .3)),
+  rw (passed (listed v s) (p .4)) (
       record {
         long = simp length-set (f .long);
-        here = getD-set-same u i (listed v s) (pos 0) (omega (arith, f .long));
+        here = getD-set-same u i (listed v s) (pos 0) (omega (arith, p .0, f .long));
         gone = λ j l e n. getD-set-other u i j (listed v s) (pos 0) n ∙ f .gone j l e;
-        kept = λ j l n. getD-set-other u i j (listed v s) (pos 0) (λ e. n (ap triedRow e ∙ sym r)) ∙ f .kept j l n;
+        kept = λ j l n. getD-set-other u i j (listed v s) (pos 0) (λ e. n (ap triedRow e ∙ sym (p .1))) ∙ f .kept j l n;
       }
       ),
 )
@@ -63,10 +66,8 @@ module _ (ch : List ℕ) (k : ℕ) (a : List ℕ) (d m : ℕ) (n : List ℤ) (he
   small x h = rw (passed x h) h
 
   -- the giver's number may be put, then the taker's
-  pub giver-may : (t : List ℤ) (x : ℤ) → length t ≡ TRIES → natAbs x ≤ LARGEST
-      → (CELLS + giverOf m * COMPONENTS + componentOf m < TRIES)
-      × (giverOf m ≡ triedRow (CELLS + giverOf m * COMPONENTS + componentOf m)) × (length t ≡ TRIES)
-      × (natAbs (toZ w64 (ofZ w64 x)) ≤ LARGEST) × (natAbs (listed n (giverOf m)) ≤ LARGEST)
+  giver-may : (t : List ℤ) (x : ℤ) → length t ≡ TRIES → natAbs x ≤ LARGEST
+      → MayPut n t (giverOf m) (CELLS + giverOf m * COMPONENTS + componentOf m) (toZ w64 (ofZ w64 x))
   giver-may t x l h =
       (omega (arith, low), omega (arith, low), l, small x h, held .small .each (giverOf m) (between .from))
 
@@ -74,13 +75,15 @@ module _ (ch : List ℕ) (k : ℕ) (a : List ℕ) (d m : ℕ) (n : List ℤ) (he
     taker-still : listed v (takerOf m) ≡ listed n (takerOf m)
     taker-still = rw e (getD-set-other n (giverOf m) (takerOf m) x (pos 0) (λ z. between .apart (sym z)))
 
-    pub taker-may : (t : List ℤ) (y : ℤ) → length t ≡ TRIES → natAbs y ≤ LARGEST
-        → (takerOf m * COMPONENTS + componentOf m < TRIES)
-        × (takerOf m ≡ triedRow (takerOf m * COMPONENTS + componentOf m)) × (length t ≡ TRIES)
-        × (natAbs (toZ w64 (ofZ w64 y)) ≤ LARGEST) × (natAbs (listed v (takerOf m)) ≤ LARGEST)
-    taker-may t y l h =
-        (omega (arith, low), omega (arith, low), l, small y h,
-        rw taker-still (held .small .each (takerOf m) (between .to)))
+    taker-may : (t : List ℤ) (y : ℤ) → length t ≡ TRIES → natAbs y ≤ LARGEST
+        → MayPut v t (takerOf m) (takerOf m * COMPONENTS + componentOf m) (toZ w64 (ofZ w64 y))
+    taker-may t y l h = (
+      omega (arith, low),
+      omega (arith, low),
+      l,
+      small y h,
+      rw taker-still (held .small .each (takerOf m) (between .to)),
+    )
 
   -- the tries after the move: those of the other rows, and the two that would take it back
   module _ (t u w : List ℤ) (x y : ℤ) (kt : Tried ch k a d t)
@@ -92,9 +95,11 @@ module _ (ch : List ℕ) (k : ℕ) (a : List ℕ) (d m : ℕ) (n : List ℤ) (he
 
     taker-right : Right (takerOf m * COMPONENTS + componentOf m)
     taker-right =
-        let o = bw .here ∙ ey in
-        (taker-back ch k a d m so fit (listed w (takerOf m * COMPONENTS + componentOf m))
-        (o ∙ held .carried .are (takerOf m) (between .to)), rw o (held .small .each (takerOf m) (between .to)))
+        let o = bw .here ∙ ey in (
+          taker-back ch k a d m so fit (listed w (takerOf m * COMPONENTS + componentOf m))
+              (o ∙ held .carried .are (takerOf m) (between .to)),
+          rw o (held .small .each (takerOf m) (between .to)),
+        )
 
     giver-row : giverOf m ≡ triedRow (CELLS + giverOf m * COMPONENTS + componentOf m)
     giver-row = omega (arith, low)
@@ -105,9 +110,11 @@ module _ (ch : List ℕ) (k : ℕ) (a : List ℕ) (d m : ℕ) (n : List ℤ) (he
     giver-right : Right (CELLS + giverOf m * COMPONENTS + componentOf m)
     giver-right =
         let o = bw .kept (CELLS + giverOf m * COMPONENTS + componentOf m) (omega (arith, low)) other-row ∙ bu .here
-            ∙ ex in
-        (giver-back ch k a d m so fit (listed w (CELLS + giverOf m * COMPONENTS + componentOf m))
-        (o ∙ held .carried .are (giverOf m) (between .from)), rw o (held .small .each (giverOf m) (between .from)))
+        ∙ ex in (
+          giver-back ch k a d m so fit (listed w (CELLS + giverOf m * COMPONENTS + componentOf m))
+              (o ∙ held .carried .are (giverOf m) (between .from)),
+          rw o (held .small .each (giverOf m) (between .from)),
+        )
 
     module _ (i : ℕ) (h : i < TRIES) (l : triedRow i < k) (z : listed w i ≡ UNKNOWN → ⊥) where
       right-giver : (i ≡ CELLS + giverOf m * COMPONENTS + componentOf m → ⊥) → (triedRow i ≡ takerOf m → ⊥) → Right i
@@ -150,7 +157,7 @@ module _ (ch : List ℕ) (k : ℕ) (a : List ℕ) (d m : ℕ) (n : List ℤ) (he
       → Held ch k (movedOf a m d) v
   numbers-moved x y v e r = rw e (record { sound = sound-moved ch k a d m so fit; carried = r .0; small = r .1 })
 
-  pub renumbered : (x y : ℤ) (v v' t u w : List ℤ) → (x ≡ wantedOf ch a d (giverOf m * COMPONENTS + componentOf m))
+  renumbered : (x y : ℤ) (v v' t u w : List ℤ) → (x ≡ wantedOf ch a d (giverOf m * COMPONENTS + componentOf m))
       × (natAbs x ≤ LARGEST)
       → (y ≡ wantedOf ch a d (CELLS + takerOf m * COMPONENTS + componentOf m)) × (natAbs y ≤ LARGEST)
       → v ≡ set n (giverOf m) (toZ w64 (ofZ w64 x)) → v' ≡ set v (takerOf m) (toZ w64 (ofZ w64 y)) → Tried ch k a d t
@@ -165,3 +172,38 @@ module _ (ch : List ℕ) (k : ℕ) (a : List ℕ) (d m : ℕ) (n : List ℤ) (he
     tried-moved t u w (listed n (giverOf m)) (listed v (takerOf m)) kt bu bw refl
         (taker-still (toZ w64 (ofZ w64 x)) v e),
   )
+
+-- the same where the giver is row f, the taker row t, and the component c
+module _ {ch : List ℕ} {k : ℕ} {a : List ℕ} {v : List ℤ} (held : Held ch k a v) {d m : ℕ} (fit : MayMove ch k a d m)
+    {f t c : ℕ} (ef : f ≡ giverOf m) (et : t ≡ takerOf m) (ec : c ≡ componentOf m) where
+  pub gives-triable : (f < SYSTEMS) × (c < COMPONENTS) × Triable ch k a d (f * COMPONENTS + c)
+  gives-triable =
+      rw (ef, ec) (
+        omega arith,
+        low ch k a d m v held fit,
+        give-triable ch k a v held d m (fit .below) (fit-gives ch k a d m fit),
+      )
+
+  pub takes-triable : (t < SYSTEMS) × (c < COMPONENTS) × Triable ch k a d (CELLS + t * COMPONENTS + c)
+  takes-triable =
+      rw (et, ec) (omega arith, low ch k a d m v held fit, taker-triable ch k a d m (held .sound) fit)
+
+  module _ {x : ℤ} {t0 : List ℤ} (w : Worked ch k a d (f * COMPONENTS + c) x t0) where
+    pub giver-puts : {u : List ℤ} → Tried ch k a d u → MayPut v u f (CELLS + f * COMPONENTS + c) (toZ w64 (ofZ w64 x))
+    giver-puts {u} l = rw (ef, ec) (giver-may ch k a d m v held fit u x (l .long) (w .1))
+
+    module _ {y : ℤ} {t1 v' t2 : List ℤ} (z : Worked ch k a d (CELLS + t * COMPONENTS + c) y t1)
+        (p : (v' ≡ set v f (toZ w64 (ofZ w64 x))) × Back t1 f (CELLS + f * COMPONENTS + c) (listed v f) t2) where
+      given : v' ≡ set v (giverOf m) (toZ w64 (ofZ w64 x))
+      given = rw ef at (p .0)
+
+      pub taker-puts : MayPut v' t2 t (t * COMPONENTS + c) (toZ w64 (ofZ w64 y))
+      taker-puts =
+          rw (et, ec) (taker-may ch k a d m v held fit (toZ w64 (ofZ w64 x)) v' given t2 y (p .1 .long) (z .1))
+
+      pub both-put : {v'' t3 : List ℤ}
+          → (v'' ≡ set v' t (toZ w64 (ofZ w64 y))) × Back t2 t (t * COMPONENTS + c) (listed v' t) t3
+          → Held ch k (movedOf a m d) v'' × Tried ch k (movedOf a m d) d t3
+      both-put {v''} {t3} q =
+          renumbered ch k a d m v held fit x y v' v'' t1 t2 t3 (rw (ef, ec) at (w .0), w .1)
+          (rw (et, ec) at (z .0), z .1) given (rw et at (q .0)) (z .2) (rw (ef, ec) at (p .1)) (rw (et, ec) at (q .1))

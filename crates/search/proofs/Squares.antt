@@ -15,6 +15,7 @@ use Rattle.integer.specs.Laws.Order.{sub-ge}
 use Rattle.integer.specs.Laws.Normal.{X, K, _⊕_, _⊗_, ⊖, solve, env}
 use Rattle.formula.specs.WorkingRule.{LARGEST}
 use Rattle.split.specs.Fold.{sumTo}
+use Rattle.split.specs.Split.{SYSTEMS}
 use Rattle.split.specs.Laws.Folds.{sum-but, sum-has}
 use Rattle.split.specs.Move.{squareOf, imbalanceOf}
 use Rattle.search.specs.Inner.Balance.{markOf, Totalled}
@@ -73,18 +74,37 @@ module _ (x : ℤ) (h : natAbs x ≤ LARGEST) where
       ≤ 400000000)
   mark-result = rw sum-back (refl, mark-le)
 
+-- what is asked of an exchange in the totals, what it gives, and what is asked of totals
+abbrev pub MayExchange : ℕ → ℤ → ℤ → ℕ → ℕ → Type 0
+MayExchange s old new sum squares =
+    (s < SYSTEMS) × (natAbs old ≤ LARGEST) × (natAbs new ≤ LARGEST) × (markOf old ≤ sum)
+    × (markOf old * markOf old ≤ squares) × (sum ≤ 3200000000) × (squares ≤ 1280000000000000000)
+
+abbrev pub Exchanged : ℤ → ℤ → ℕ → ℕ → ℕ → ℕ → Type 0
+Exchanged old new sum squares x y =
+    (x ≡ sum - markOf old + markOf new)
+    × (y ≡ squares - markOf old * markOf old + markOf new * markOf new)
+
+abbrev pub MayBalance : ℕ → ℕ → ℕ → Type 0
+MayBalance k sum squares =
+    (k ≤ 8) × (sum ≤ 3200000000) × (squares ≤ 1280000000000000000) × (sum * sum ≤ k * squares)
+
 -- a mark from the number's bits
-pub mark-back : (o : ℤ) (p : ℕ) → natAbs o ≤ LARGEST → p ≡ markOf (toZ w64 (ofZ w64 o)) → p ≡ markOf o
+mark-back : (o : ℤ) (p : ℕ) → natAbs o ≤ LARGEST → p ≡ markOf (toZ w64 (ofZ w64 o)) → p ≡ markOf o
 mark-back o p h e = e ∙ ap markOf (back o (omega arith))
 
--- in the totals
-pub old-in : (o : ℤ) (p sum squares : ℕ) → natAbs o ≤ LARGEST → p ≡ markOf (toZ w64 (ofZ w64 o)) → markOf o ≤ sum
-    → markOf o * markOf o ≤ squares → (p ≤ sum) × (p * p ≤ squares)
-old-in o p sum squares h e l m = rw (mark-back o p h e) (l, m)
+-- the exchange of two numbers by their marks p and q
+module _ (old new : ℤ) {s sum squares : ℕ} (pre : MayExchange s old new sum squares) {p : ℕ}
+    (e : p ≡ markOf (toZ w64 (ofZ w64 old))) where
+  mark-old : p ≡ markOf old
+  mark-old = mark-back old p (pre .1) e
 
-pub marks-as : (sum squares p q m n : ℕ) → p ≡ m → q ≡ n → (sum - p + q ≡ sum - m + n)
-    × (squares - p * p + q * q ≡ squares - m * m + n * n)
-marks-as sum squares p q m n e f = rw (e, f) (refl, refl)
+  pub old-in : (p ≤ sum) × (p * p ≤ squares)
+  old-in = rw mark-old (pre .3, pre .4)
+
+  pub exchange-is : {q : ℕ} → q ≡ markOf (toZ w64 (ofZ w64 new))
+      → Exchanged old new sum squares (sum - p + q) (squares - p * p + q * q)
+  exchange-is {q} f = rw (mark-old, mark-back new q (pre .2) f) (refl, refl)
 
 square-of : (z : ℤ) → pos (natAbs z * natAbs z) ≡ z *ℤ z
 square-of (pos n) = refl
@@ -118,8 +138,13 @@ module _ (u : ℕ → ℕ) (P : ℕ → ℕ → ℕ) where
   unfolding sumTo
   inner i zero h = omega (arith, N.mul-zero (u i), N.zero-mul (u i * u i))
   inner i (suc n) h =
-      omega (arith, inner i n (λ j l. h j (omega arith)), h n (omega arith), N.mul-add (u i) (sumTo u n) (u n),
-      N.suc-mul n (u i * u i))
+      omega (
+        arith,
+        inner i n (λ j l. h j (omega arith)),
+        h n (omega arith),
+        N.mul-add (u i) (sumTo u n) (u n),
+        N.suc-mul n (u i * u i),
+      )
 
   pub pairs : (k : ℕ) → ((i j : ℕ) → i < k → j < i → P i j + 2 * (u i * u j) ≡ u i * u i + u j * u j)
       → sumTo (λ i. sumTo (P i) i) k + sumTo u k * sumTo u k ≡ k * sumTo (λ j. u j * u j) k
@@ -154,8 +179,12 @@ module _ (v : ℕ → ℤ) (k sum squares : ℕ) (most : k ≤ 8) (small : (i : 
 
   pub squares-few : squares ≤ 1280000000000000000
   squares-few =
-      omega (arith, t .squared, sum-most (λ s. u s * u s) 160000000000000000 k
-      (λ i l. N.mul-le-mul (mark-le (v i) (small i l)) (mark-le (v i) (small i l))))
+      omega (
+        arith,
+        t .squared,
+        sum-most (λ s. u s * u s) 160000000000000000 k
+            (λ i l. N.mul-le-mul (mark-le (v i) (small i l)) (mark-le (v i) (small i l))),
+      )
 
   together : imbalanceOf v k + sum * sum ≡ k * squares
   unfolding imbalanceOf
@@ -179,6 +208,11 @@ module _ (v : ℕ → ℤ) (k sum squares : ℕ) (most : k ≤ 8) (small : (i : 
     added =
         omega (arith, has-mark j l .0, t .added, sum-but u (λ s. markOf (w s)) k j l (λ i m n. ap markOf (h i m n)));
     squared =
-        omega (arith, has-mark j l .1, t .squared, sum-but (λ s. u s * u s) (λ s. markOf (w s) * markOf (w s)) k j l
-        (λ i m n. ap (λ z. markOf z * markOf z) (h i m n)));
+        omega (
+          arith,
+          has-mark j l .1,
+          t .squared,
+          sum-but (λ s. u s * u s) (λ s. markOf (w s) * markOf (w s)) k j l
+              (λ i m n. ap (λ z. markOf z * markOf z) (h i m n)),
+        );
   }

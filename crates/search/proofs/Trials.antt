@@ -48,9 +48,9 @@ module _ (a : List ℕ) (system s c n j e : ℕ) (p : e ≡ memberOf system j) w
   instead-there q r u = rw (ne-eqb (memberOf system j) c (λ z. q (p ∙ z))) u
 
 -- and the number of three such amounts
-module _ (ch a : List ℕ) (s c n x y z : ℕ) (p : x ≡ insteadOf a s c n (memberOf (systemOf ch s) 0))
-    (q : y ≡ insteadOf a s c n (memberOf (systemOf ch s) 1))
-    (r : z ≡ insteadOf a s c n (memberOf (systemOf ch s) 2)) (w : Workable ch a s c n) (u : Partial)
+module _ {ch a : List ℕ} {s c n x y z : ℕ} (w : Workable ch a s c n)
+    (p : x ≡ insteadOf a s c n (memberOf (systemOf ch s) 0)) (q : y ≡ insteadOf a s c n (memberOf (systemOf ch s) 1))
+    (r : z ≡ insteadOf a s c n (memberOf (systemOf ch s) 2)) {u : Partial}
     (e : u ≡ formulaOf (systemOf ch s) x y z) where
   picked : partialNumber (systemOf ch s) x y z ≡ numberWith ch a s c n
   unfolding numberWith
@@ -62,14 +62,14 @@ module _ (ch a : List ℕ) (s c n x y z : ℕ) (p : x ≡ insteadOf a s c n (mem
   few : x + y + z ≤ MILLION
   few = omega (arith, w .few, p, q, r)
 
-  pub with-ok : (v : ℤ) → u ≡ Number v → (toZ w64 (ofZ w64 v) ≡ numberWith ch a s c n)
+  pub with-ok : {v : ℤ} → u ≡ Number v → (toZ w64 (ofZ w64 v) ≡ numberWith ch a s c n)
       × (natAbs (toZ w64 (ofZ w64 v)) ≤ LARGEST)
-  with-ok v h =
+  with-ok {v} h =
       let o = number-ok (systemOf ch s) (systemOf ch s) x y z u refl e (w .known) some few v h in
       (o .0 ∙ picked, o .1)
 
-  pub with-never : (m : ℕ) → u ≡ Refused m → (pos 0 ≡ numberWith ch a s c n) × (0 ≤ LARGEST)
-  with-never m h =
+  pub with-never : {m : ℕ} → u ≡ Refused m → (pos 0 ≡ numberWith ch a s c n) × (0 ≤ LARGEST)
+  with-never {m} h =
       let o = number-never (systemOf ch s) (systemOf ch s) x y z u refl e (w .known) some few m h in
       (o .0 ∙ picked, o .1)
 
@@ -86,11 +86,16 @@ module _ (v : List ℤ) (k f t : ℕ) (x y : ℤ) (long : length v ≡ SYSTEMS) 
           rw (w, getD-set-same (set v f x) t y (pos 0) (rw length-set (omega (arith, long)))) py
       go false true e g =
           let w : s ≡ f = eqb-true s f g in
-          rw (getD-set-other (set v f x) t s y (pos 0) (eqb-false s t e), w,
-              getD-set-same v f x (pos 0) (omega (arith, long))) px
+          rw (
+            getD-set-other (set v f x) t s y (pos 0) (eqb-false s t e),
+            w,
+            getD-set-same v f x (pos 0) (omega (arith, long)),
+          ) px
       go false false e g =
-          rw (getD-set-other (set v f x) t s y (pos 0) (eqb-false s t e),
-              getD-set-other v f s x (pos 0) (eqb-false s f g)) (rest s h (eqb-false s f g) (eqb-false s t e))
+          rw (
+            getD-set-other (set v f x) t s y (pos 0) (eqb-false s t e),
+            getD-set-other v f s x (pos 0) (eqb-false s f g),
+          ) (rest s h (eqb-false s f g) (eqb-false s t e))
 
 module _ (ch : List ℕ) (k : ℕ) (a : List ℕ) (d m : ℕ) (so : Sound ch k a) (fit : MayMove ch k a d m) where
   -- a row that a move changes can be worked out

@@ -9,10 +9,9 @@ use lib.Dec.{eqb, ltb, lit≤}
 use lib.IntN.{ℤ, pos, natAbs}
 use lib.ListN.{length, getD, set, length-set, replicate, length-replicate, getD-replicate}
 use lib.Seq.{getD-set-same, getD-set-other}
-use mir.Syntax.{w64}
-use mir.Val.{toZ, ofZ}
+use mir.Syntax.{w32, w64}
+use mir.Val.{Fits, toZ, ofZ}
 use borrow.Author.Tests.{eqb-true, eqb-false, lt-ltb, le-ltb, ltb-true, ltb-false}
-use Rattle.integer.specs.Figures.{MILLION}
 use Rattle.formula.specs.WorkingRule.{LARGEST}
 use Rattle.systems.specs.Systems.{COMPONENTS, memberOf}
 use Rattle.split.specs.Split.{SYSTEMS, CELLS, cellOf, systemOf, rowNumber, Sound}
@@ -39,49 +38,6 @@ pub more-is : (a : List ℕ) (d i : ℕ) → CELLS ≤ i → getD a (i - CELLS) 
 unfolding triedOf
 more-is a d i h = rw (le-ltb i CELLS h)
 
--- the two tries of row s's component c
-module _ (ch : List ℕ) (k : ℕ) (a : List ℕ) (d s c : ℕ) (h : s < SYSTEMS) (l : c < COMPONENTS) where
-  less-row : triedRow (s * COMPONENTS + c) ≡ s
-  less-row = omega arith
-
-  less-column : columnIn (s * COMPONENTS + c) ≡ c
-  less-column = omega arith
-
-  less-low : s * COMPONENTS + c < CELLS
-  less-low = omega arith
-
-  pub less-had : Triable ch k a d (s * COMPONENTS + c) → d ≤ getD a (s * COMPONENTS + c) 0
-  less-had t = t .had less-low
-
-  pub less-work : Triable ch k a d (s * COMPONENTS + c) → Workable ch a s c (getD a (s * COMPONENTS + c) 0 - d)
-  less-work t = rw (less-row, less-column, sym (less-is a d (s * COMPONENTS + c) less-low)) at (t .workable)
-
-  pub less-wanted : numberWith ch a s c (getD a (s * COMPONENTS + c) 0 - d) ≡ wantedOf ch a d (s * COMPONENTS + c)
-  unfolding wantedOf
-  less-wanted = rw (less-row, less-column, sym (less-is a d (s * COMPONENTS + c) less-low))
-
-  more-row : triedRow (CELLS + s * COMPONENTS + c) ≡ s
-  more-row = omega arith
-
-  more-column : columnIn (CELLS + s * COMPONENTS + c) ≡ c
-  more-column = omega arith
-
-  more-high : CELLS ≤ CELLS + s * COMPONENTS + c
-  more-high = omega arith
-
-  pub more-room : Triable ch k a d (CELLS + s * COMPONENTS + c)
-      → getD a (CELLS + s * COMPONENTS + c - CELLS) 0 + d ≤ MILLION
-  more-room t = t .room more-high
-
-  pub more-work : Triable ch k a d (CELLS + s * COMPONENTS + c)
-      → Workable ch a s c (getD a (CELLS + s * COMPONENTS + c - CELLS) 0 + d)
-  more-work t = rw (more-row, more-column, sym (more-is a d (CELLS + s * COMPONENTS + c) more-high)) at (t .workable)
-
-  pub more-wanted : numberWith ch a s c (getD a (CELLS + s * COMPONENTS + c - CELLS) 0 + d) ≡ wantedOf ch a d
-      (CELLS + s * COMPONENTS + c)
-  unfolding wantedOf
-  more-wanted = rw (more-row, more-column, sym (more-is a d (CELLS + s * COMPONENTS + c) more-high))
-
 -- a number that is put
 module _ (ch : List ℕ) (k : ℕ) (a : List ℕ) (d : ℕ) (t : List ℤ) (kt : Tried ch k a d t) (i : ℕ) (h : i < TRIES)
     (y : ℤ) (p : (y ≡ wantedOf ch a d i) × (natAbs y ≤ LARGEST)) where
@@ -100,8 +56,8 @@ module _ (ch : List ℕ) (k : ℕ) (a : List ℕ) (d : ℕ) (t : List ℤ) (kt :
   put-tried = record { long = simp length-set (kt .long); known = put-known }
 
 -- a number that is known, and one that is worked out
-module _ (ch : List ℕ) (k : ℕ) (a : List ℕ) (d : ℕ) (t : List ℤ) (kt : Tried ch k a d t) (i : ℕ)
-    (h : Triable ch k a d i) where
+module _ {ch : List ℕ} {k : ℕ} {a : List ℕ} {d i : ℕ} {t : List ℤ} (h : Triable ch k a d i)
+    (kt : Tried ch k a d t) where
   pub known-is : (ofZ w64 (listed t i) ≡ 4000000000000 → ⊥)
       → (toZ w64 (ofZ w64 (listed t i)) ≡ wantedOf ch a d i) × (natAbs (toZ w64 (ofZ w64 (listed t i))) ≤ LARGEST)
       × Tried ch k a d t
@@ -110,15 +66,72 @@ module _ (ch : List ℕ) (k : ℕ) (a : List ℕ) (d : ℕ) (t : List ℤ) (kt :
       let q = pass (listed t i) (wantedOf ch a d i) (p .0) (p .1) in
       (q .0, q .1, kt)
 
-  pub put-is : (y : ℤ) → (y ≡ wantedOf ch a d i) × (natAbs y ≤ LARGEST) → (toZ w64 (ofZ w64 y) ≡ wantedOf ch a d i)
+  put-is : (y : ℤ) → y ≡ wantedOf ch a d i → natAbs y ≤ LARGEST → (toZ w64 (ofZ w64 y) ≡ wantedOf ch a d i)
       × (natAbs (toZ w64 (ofZ w64 y)) ≤ LARGEST) × Tried ch k a d (set t i (toZ w64 (ofZ w64 y)))
-  put-is y p =
-      let b : toZ w64 (ofZ w64 y) ≡ y = back y (N.le-trans (p .1) (lit≤ tt)) in
-      rw b (p .0, p .1, put-tried ch k a d t kt i (h .below) y p)
+  put-is y p q =
+      let b : toZ w64 (ofZ w64 y) ≡ y = back y (N.le-trans q (lit≤ tt)) in
+      rw b (p, q, put-tried ch k a d t kt i (h .below) y (p, q))
+
+-- the try of row s's component c less, and what is asked of it
+module _ {ch : List ℕ} {k : ℕ} {a : List ℕ} {d s c : ℕ} {t : List ℤ} (pre : (s < SYSTEMS) × (c < COMPONENTS)
+    × Triable ch k a d (s * COMPONENTS + c) × Tried ch k a d t) where
+  less-row : triedRow (s * COMPONENTS + c) ≡ s
+  less-row = omega (arith, pre .0, pre .1)
+
+  less-column : columnIn (s * COMPONENTS + c) ≡ c
+  less-column = omega (arith, pre .1)
+
+  less-low : s * COMPONENTS + c < CELLS
+  less-low = omega (arith, pre .0, pre .1)
+
+  pub less-had : d ≤ getD a (s * COMPONENTS + c) 0
+  less-had = pre .2 .had less-low
+
+  pub less-work : Workable ch a s c (getD a (s * COMPONENTS + c) 0 - d)
+  less-work = rw (less-row, less-column, sym (less-is a d (s * COMPONENTS + c) less-low)) at (pre .2 .workable)
+
+  less-wanted : numberWith ch a s c (getD a (s * COMPONENTS + c) 0 - d) ≡ wantedOf ch a d (s * COMPONENTS + c)
+  unfolding wantedOf
+  less-wanted = rw (less-row, less-column, sym (less-is a d (s * COMPONENTS + c) less-low))
+
+  pub less-put : {y : ℤ} → (y ≡ numberWith ch a s c (getD a (s * COMPONENTS + c) 0 - d)) × (natAbs y ≤ LARGEST)
+      → (toZ w64 (ofZ w64 y) ≡ wantedOf ch a d (s * COMPONENTS + c)) × (natAbs (toZ w64 (ofZ w64 y)) ≤ LARGEST)
+      × Tried ch k a d (set t (s * COMPONENTS + c) (toZ w64 (ofZ w64 y)))
+  less-put {y} p = put-is (pre .2) (pre .3) y (p .0 ∙ less-wanted) (p .1)
+
+-- and more
+module _ {ch : List ℕ} {k : ℕ} {a : List ℕ} {d s c : ℕ} {t : List ℤ} (pre : (s < SYSTEMS) × (c < COMPONENTS)
+    × Triable ch k a d (CELLS + s * COMPONENTS + c) × Tried ch k a d t) where
+  abbrev here : ℕ
+  here = CELLS + s * COMPONENTS + c
+
+  more-row : triedRow here ≡ s
+  more-row = omega (arith, pre .0, pre .1)
+
+  more-column : columnIn here ≡ c
+  more-column = omega (arith, pre .1)
+
+  more-high : CELLS ≤ here
+  more-high = omega arith
+
+  pub more-room : Fits w32 (getD a (here - CELLS) 0 + d)
+  more-room = omega (arith, pre .2 .room more-high)
+
+  pub more-work : Workable ch a s c (getD a (here - CELLS) 0 + d)
+  more-work = rw (more-row, more-column, sym (more-is a d here more-high)) at (pre .2 .workable)
+
+  more-wanted : numberWith ch a s c (getD a (here - CELLS) 0 + d) ≡ wantedOf ch a d here
+  unfolding wantedOf
+  more-wanted = rw (more-row, more-column, sym (more-is a d here more-high))
+
+  pub more-put : {y : ℤ} → (y ≡ numberWith ch a s c (getD a (here - CELLS) 0 + d)) × (natAbs y ≤ LARGEST)
+      → (toZ w64 (ofZ w64 y) ≡ wantedOf ch a d here) × (natAbs (toZ w64 (ofZ w64 y)) ≤ LARGEST)
+      × Tried ch k a d (set t here (toZ w64 (ofZ w64 y)))
+  more-put {y} p = put-is (pre .2) (pre .3) y (p .0 ∙ more-wanted) (p .1)
 
 -- the stride under another name
-pub tried-as : (ch : List ℕ) (k : ℕ) (a : List ℕ) (d e : ℕ) (t : List ℤ) → d ≡ e → Tried ch k a e t → Tried ch k a d t
-tried-as ch k a d e t p h = rw p h
+pub tried-as : {ch : List ℕ} {k : ℕ} {a : List ℕ} {d e : ℕ} {t : List ℤ} → d ≡ e → Tried ch k a e t → Tried ch k a d t
+tried-as p h = rw p h
 
 -- nothing is known yet
 pub none-tried : (ch : List ℕ) (k : ℕ) (a : List ℕ) (d : ℕ) → Tried ch k a d (replicate TRIES UNKNOWN)
@@ -177,8 +190,11 @@ module _ (ch : List ℕ) (k : ℕ) (a : List ℕ) (d m : ℕ) (so : Sound ch k a
     unfolding numberWith
     with-other c n =
         let w = three (systemOf ch s) (so .stock .chosen .known s l) in
-        rw (other (memberOf (systemOf ch s) 0) (w .low0), other (memberOf (systemOf ch s) 1) (w .low1),
-            other (memberOf (systemOf ch s) 2) (w .low2))
+        rw (
+          other (memberOf (systemOf ch s) 0) (w .low0),
+          other (memberOf (systemOf ch s) 1) (w .low1),
+          other (memberOf (systemOf ch s) 2) (w .low2),
+        )
 
   module _ (i : ℕ) (h : i < TRIES) (l : triedRow i < k) (p : triedRow i ≡ giverOf m → ⊥) (q : triedRow i ≡ takerOf m
       → ⊥) where
@@ -293,9 +309,13 @@ module _ (t : List ℤ) (s : ℕ) (low : s < SYSTEMS) where
         getD-set-other (set u first UNKNOWN) second i UNKNOWN (pos 0) q ∙ getD-set-other u first i UNKNOWN (pos 0) p
 
     pub going-on : Going t s next (c + 1)
-    going-on =
-        (simp length-set (g .0), omega arith, gone, λ i l r. at-other i (λ e. r (omega (arith, low, h, e)))
-        (λ e. r (omega (arith, low, h, e))) ∙ g .3 i l r)
+    going-on = (
+      simp length-set (g .0),
+      omega arith,
+      gone,
+      λ i l r. at-other i (λ e. r (omega (arith, low, h, e)))
+          (λ e. r (omega (arith, low, h, e))) ∙ g .3 i l r,
+    )
       where
         gone : (i : ℕ) → i < TRIES → triedRow i ≡ s → columnIn i < c + 1 → listed next i ≡ UNKNOWN
         gone i l r x = go (eqb i second) (eqb i first) refl refl

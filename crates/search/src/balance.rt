@@ -29,16 +29,16 @@ pub(crate) fn mark(x: i64) -> u64
     (x / THOUSANDTH + BELOW) as u64
 }
 
-// The totals of k partial numbers.
-pub(crate) fn total(v: &[i64; SYSTEMS], k: usize) -> Totals
-    requires { ⌜ Small (now v) k ⌝ }
-    ensures { λ r. ⌜ Totalled (listed (now (v .entry))) k (r .sum) (r .squares) ⌝ }
+// The totals of the partial numbers.
+pub(crate) fn total(numbers: &[i64; SYSTEMS], count: usize) -> Totals
+    requires { ⌜ Small (now numbers) count ⌝ }
+    ensures { λ r. ⌜ Totalled (listed (now (numbers .entry))) count (r .sum) (r .squares) ⌝ }
 {
     let mut sum: u64 = 0;
     let mut squares: u64 = 0;
     let mut i = 0;
-    while i < k {
-        let x = mark(v[i]);
+    while i < count {
+        let x = mark(numbers[i]);
         sum += x;
         squares += x * x;
         i += 1;
@@ -47,15 +47,14 @@ pub(crate) fn total(v: &[i64; SYSTEMS], k: usize) -> Totals
 }
 
 // The totals with the number x in the place of row s's.
-pub(crate) fn exchanged(w: Totals, v: &[i64; SYSTEMS], s: usize, x: i64) -> Totals
-    requires { ⌜ (s < SYSTEMS) × (natAbs (listed (now v) s) ≤ LARGEST) × (natAbs x ≤ LARGEST)
-        × (markOf (listed (now v) s) ≤ w .sum) × (markOf (listed (now v) s) * markOf (listed (now v) s) ≤ w .squares)
+pub(crate) fn exchanged(w: Totals, numbers: &[i64; SYSTEMS], s: usize, x: i64) -> Totals
+    requires { let old = listed (now numbers) s in let y = markOf old in
+        ⌜ (s < SYSTEMS) × (natAbs old ≤ LARGEST) × (natAbs x ≤ LARGEST) × (y ≤ w .sum) × (y * y ≤ w .squares)
         × (w .sum ≤ 3200000000) × (w .squares ≤ 1280000000000000000) ⌝ }
-    ensures { λ r. ⌜ (r .sum ≡ w .sum - markOf (listed (now (v .entry)) s) + markOf x)
-        × (r .squares ≡ w .squares - markOf (listed (now (v .entry)) s) * markOf (listed (now (v .entry)) s)
-        + markOf x * markOf x) ⌝ }
+    ensures { λ r. let y = markOf (listed (now (numbers .entry)) s) in let z = markOf x in
+        ⌜ (r .sum ≡ w .sum - y + z) × (r .squares ≡ w .squares - y * y + z * z) ⌝ }
 {
-    let y = mark(v[s]);
+    let y = mark(numbers[s]);
     let z = mark(x);
     Totals {
         sum: w.sum - y + z,
@@ -63,11 +62,11 @@ pub(crate) fn exchanged(w: Totals, v: &[i64; SYSTEMS], s: usize, x: i64) -> Tota
     }
 }
 
-// The imbalance of k numbers of these totals.
-pub(crate) fn imbalance(w: Totals, k: usize) -> u64
-    requires { ⌜ (k ≤ 8) × (w .sum ≤ 3200000000) × (w .squares ≤ 1280000000000000000)
-        × (w .sum * w .sum ≤ k * w .squares) ⌝ }
-    ensures { λ r. ⌜ r ≡ k * w .squares - w .sum * w .sum ⌝ }
+// The imbalance of so many numbers of these totals.
+pub(crate) fn imbalance(w: Totals, count: usize) -> u64
+    requires { ⌜ (count ≤ 8) × (w .sum ≤ 3200000000) × (w .squares ≤ 1280000000000000000)
+        × (w .sum * w .sum ≤ count * w .squares) ⌝ }
+    ensures { λ r. ⌜ r ≡ count * w .squares - w .sum * w .sum ⌝ }
 {
-    k as u64 * w.squares - w.sum * w.sum
+    count as u64 * w.squares - w.sum * w.sum
 }

@@ -42,12 +42,20 @@ pub fn find(
     if (LEVEL < level) | !start::fit(mix, choice) {
         return nothing();
     }
-    let a = start::start(mix, choice);
-    let rows = split_rows::evaluate(choice, &a);
+    let cells = start::start(mix, choice);
+    let rows = split_rows::evaluate(choice, &cells);
     if !rows.fit {
         return nothing();
     }
-    let ch = choice.systems;
-    let v = rows.numbers;
-    rounds::search(&ch, choice.count, limit, level, allowance, a, v)
+    let systems = choice.systems;
+    let numbers = rows.numbers;
+    rounds::search(
+        &systems,
+        choice.count,
+        limit,
+        level,
+        allowance,
+        cells,
+        numbers,
+    )
 }

@@ -32,104 +32,143 @@ use turn::MOVES;
 // The pairs of a giver and a taker.
 pub(crate) const PAIRS: usize = SYSTEMS * SYSTEMS;
 
-// Whether move m's giver contains the component, has the stride d of it, and does not end empty.
-fn gives(ch: &[u8; SYSTEMS], k: usize, a: &[u32; CELLS], d: u32, m: usize) -> bool
-    requires { ⌜ Sound (now ch) k (now a) × (m < MOVES) × (giverOf m < k) ⌝ }
-    ensures { λ r. ⌜ r ≡ givesOf (now (ch .entry)) k (now (a .entry)) d m ⌝ }
+// The row that a move takes from.
+fn giver(moving: usize) -> usize
+    ensures { λ r. ⌜ r ≡ giverOf moving ⌝ }
 {
-    let f = m / SYSTEMS % SYSTEMS;
-    let c = m / PAIRS;
-    let system = ch[f];
-    if !systems::has(system, c) {
-        return false;
-    }
-    let i = f * COMPONENTS + c;
-    if a[i] < d {
-        return false;
-    }
-    d < amount(a, system, f, 0) + amount(a, system, f, 1) + amount(a, system, f, 2)
+    moving / SYSTEMS % SYSTEMS
 }
 
-// Move m of the stride d, made.
-pub(crate) fn moved(a: &mut [u32; CELLS], m: usize, d: u32)
-    requires { ⌜ (m < MOVES) × (d ≤ cellOf (now a) (giverOf m) (componentOf m))
-        × (cellOf (now a) (takerOf m) (componentOf m) + d ≤ MILLION) ⌝ }
-    ensures { λ _. ⌜ now (a .exit) ≡ movedOf (now (a .entry)) m d ⌝ }
+// The row that it gives to.
+fn taker(moving: usize) -> usize
+    ensures { λ r. ⌜ r ≡ takerOf moving ⌝ }
 {
-    let c = m / PAIRS;
-    let i = m / SYSTEMS % SYSTEMS * COMPONENTS + c;
-    let j = m % SYSTEMS * COMPONENTS + c;
-    let y = a[j];
-    a[i] = a[i] - d;
-    a[j] = y + d;
+    moving % SYSTEMS
+}
+
+// The component that it moves.
+fn component(moving: usize) -> usize
+    ensures { λ r. ⌜ r ≡ componentOf moving ⌝ }
+{
+    moving / PAIRS
+}
+
+// Whether a move's giver contains the component, has the stride of it, and does not end empty.
+fn gives(
+    systems: &[u8; SYSTEMS],
+    count: usize,
+    cells: &[u32; CELLS],
+    stride: u32,
+    moving: usize,
+) -> bool
+    requires { ⌜ Sound (now systems) count (now cells) × (moving < MOVES) × (giverOf moving < count) ⌝ }
+    ensures { λ r. ⌜ r ≡ givesOf (now (systems .entry)) count (now (cells .entry)) stride moving ⌝ }
+{
+    let giver = giver(moving);
+    let component = component(moving);
+    let system = systems[giver];
+    if !systems::has(system, component) {
+        return false;
+    }
+    let i = giver * COMPONENTS + component;
+    if cells[i] < stride {
+        return false;
+    }
+    let parts = amount(cells, system, giver, 0)
+        + amount(cells, system, giver, 1)
+        + amount(cells, system, giver, 2);
+    stride < parts
+}
+
+// A move of the stride, made.
+pub(crate) fn moved(cells: &mut [u32; CELLS], moving: usize, stride: u32)
+    requires { let c = componentOf moving in
+        ⌜ (moving < MOVES) × (stride ≤ cellOf (now cells) (giverOf moving) c)
+        × (cellOf (now cells) (takerOf moving) c + stride ≤ MILLION) ⌝ }
+    ensures { λ _. ⌜ now (cells .exit) ≡ movedOf (now (cells .entry)) moving stride ⌝ }
+{
+    let component = component(moving);
+    let i = giver(moving) * COMPONENTS + component;
+    let j = taker(moving) * COMPONENTS + component;
+    let y = cells[j];
+    cells[i] = cells[i] - stride;
+    cells[j] = y + stride;
 }
 
 // Row s has the number x now. Of its tries one alone is known, i, which leads back to the number before.
-fn put(v: &mut [i64; SYSTEMS], tried: &mut [i64; TRIES], s: usize, i: usize, x: i64)
+fn put(numbers: &mut [i64; SYSTEMS], tried: &mut [i64; TRIES], s: usize, i: usize, x: i64)
     requires { ⌜ (i < TRIES) × (s ≡ triedRow i) × (length (now tried) ≡ TRIES) × (natAbs x ≤ LARGEST)
-        × (natAbs (listed (now v) s) ≤ LARGEST) ⌝ }
-    ensures { λ _. ⌜ (now (v .exit) ≡ set (now (v .entry)) s x)
-        × Back (now (tried .entry)) s i (listed (now (v .entry)) s) (now (tried .exit)) ⌝ }
+        × (natAbs (listed (now numbers) s) ≤ LARGEST) ⌝ }
+    ensures { λ _. ⌜ (now (numbers .exit) ≡ set (now (numbers .entry)) s x)
+        × Back (now (tried .entry)) s i (listed (now (numbers .entry)) s) (now (tried .exit)) ⌝ }
 {
     forget(tried, s);
-    tried[i] = v[s];
-    v[s] = x;
+    tried[i] = numbers[s];
+    numbers[s] = x;
 }
 
-// The partial numbers after move m, and what is known of tries then: those of its two rows are the tried ones and those
+// The partial numbers after a move, and what is known of tries then: those of its two rows are the tried ones and those
 // that would take the move back, the others stay.
 pub(crate) fn renumber(
-    ch: &[u8; SYSTEMS],
-    k: usize,
-    a: &[u32; CELLS],
-    v: &mut [i64; SYSTEMS],
+    systems: &[u8; SYSTEMS],
+    count: usize,
+    cells: &[u32; CELLS],
+    numbers: &mut [i64; SYSTEMS],
     tried: &mut [i64; TRIES],
-    d: u32,
-    m: usize,
+    stride: u32,
+    moving: usize,
 )
-    requires { ⌜ Held (now ch) k (now a) (now v) × MayMove (now ch) k (now a) d m
-        × Tried (now ch) k (now a) d (now tried) ⌝ }
-    ensures { λ _. ⌜ Held (now (ch .entry)) k (movedOf (now (a .entry)) m d) (now (v .exit))
-        × Tried (now (ch .entry)) k (movedOf (now (a .entry)) m d) d (now (tried .exit)) ⌝ }
+    requires { let systems = now systems in let cells = now cells in
+        ⌜ Held systems count cells (now numbers) × MayMove systems count cells stride moving
+        × Tried systems count cells stride (now tried) ⌝ }
+    ensures { λ _. let systems = now (systems .entry) in let after = movedOf (now (cells .entry)) moving stride in
+        ⌜ Held systems count after (now (numbers .exit)) × Tried systems count after stride (now (tried .exit)) ⌝ }
 {
-    let f = m / SYSTEMS % SYSTEMS;
-    let t = m % SYSTEMS;
-    let c = m / PAIRS;
-    let x = number_less(ch, k, a, tried, d, f, c);
-    let y = number_more(ch, k, a, tried, d, t, c);
-    put(v, tried, f, CELLS + f * COMPONENTS + c, x);
-    put(v, tried, t, t * COMPONENTS + c, y);
+    let giver = giver(moving);
+    let taker = taker(moving);
+    let component = component(moving);
+    let given = number_less(systems, count, cells, tried, stride, giver, component);
+    let taken = number_more(systems, count, cells, tried, stride, taker, component);
+    put(
+        numbers,
+        tried,
+        giver,
+        CELLS + giver * COMPONENTS + component,
+        given,
+    );
+    put(numbers, tried, taker, taker * COMPONENTS + component, taken);
 }
 
-// Of the moves from n on with n's component c and giver f, the first that can be made and lowers the imbalance, or the
+// Of the moves from n on with n's component and giver, the first that can be made and lowers the imbalance, or the
 // number after them. w are the totals where the giver has given; the imbalance was `was`.
 fn first_taker(
-    ch: &[u8; SYSTEMS],
-    k: usize,
-    a: &[u32; CELLS],
-    v: &[i64; SYSTEMS],
+    systems: &[u8; SYSTEMS],
+    count: usize,
+    cells: &[u32; CELLS],
+    numbers: &[i64; SYSTEMS],
     tried: &mut [i64; TRIES],
-    d: u32,
+    stride: u32,
     n: usize,
-    c: usize,
-    f: usize,
+    component: usize,
+    giver: usize,
     w: Totals,
     was: u64,
 ) -> usize
-    requires { ⌜ Held (now ch) k (now a) (now v) × (n < MOVES) × (n % SYSTEMS ≡ 0)
-        × (givesOf (now ch) k (now a) d n ≡ true) × Past (now ch) k (now a) d n
-        × Tried (now ch) k (now a) d (now tried)
-        × Totalled (afterGiving (now ch) (now a) d (giverOf n) (componentOf n)) k (w .sum) (w .squares)
-        × (was ≡ imbalanceOf (rowNumber (now ch) (now a)) k) × (c ≡ componentOf n) × (f ≡ giverOf n) ⌝ }
-    ensures { λ r. ⌜ Scanned (now (ch .entry)) k (now (a .entry)) d n r
-        × Tried (now (ch .entry)) k (now (a .entry)) d (now (tried .exit)) ⌝ }
+    requires { let systems = now systems in let cells = now cells in
+        ⌜ Held systems count cells (now numbers) × (n < MOVES) × (n % SYSTEMS ≡ 0)
+        × (givesOf systems count cells stride n ≡ true) × Past systems count cells stride n
+        × Tried systems count cells stride (now tried)
+        × Totalled (afterGiving systems cells stride (giverOf n) (componentOf n)) count (w .sum) (w .squares)
+        × (was ≡ imbalanceOf (rowNumber systems cells) count) × (component ≡ componentOf n) × (giver ≡ giverOf n) ⌝ }
+    ensures { λ r. let systems = now (systems .entry) in let cells = now (cells .entry) in
+        ⌜ Scanned systems count cells stride n r × Tried systems count cells stride (now (tried .exit)) ⌝ }
 {
     let mut t = 0;
-    while t < k {
-        if f != t {
-            if systems::has(ch[t], c) {
-                let more = number_more(ch, k, a, tried, d, t, c);
-                if imbalance(exchanged(w, v, t, more), k) < was {
+    while t < count {
+        if giver != t {
+            if systems::has(systems[t], component) {
+                let more = number_more(systems, count, cells, tried, stride, t, component);
+                if imbalance(exchanged(w, numbers, t, more), count) < was {
                     return n + t;
                 }
             }
@@ -141,56 +180,70 @@ fn first_taker(
 
 // The same of the moves from n on, whether n's giver gives or not.
 fn first_from(
-    ch: &[u8; SYSTEMS],
-    k: usize,
-    a: &[u32; CELLS],
-    v: &[i64; SYSTEMS],
+    systems: &[u8; SYSTEMS],
+    count: usize,
+    cells: &[u32; CELLS],
+    numbers: &[i64; SYSTEMS],
     tried: &mut [i64; TRIES],
-    d: u32,
+    stride: u32,
     n: usize,
     all: Totals,
     was: u64,
 ) -> usize
-    requires { ⌜ Held (now ch) k (now a) (now v) × (n < MOVES) × (n % SYSTEMS ≡ 0) × (giverOf n < k)
-        × Past (now ch) k (now a) d n × Tried (now ch) k (now a) d (now tried)
-        × Totalled (rowNumber (now ch) (now a)) k (all .sum) (all .squares)
-        × (was ≡ imbalanceOf (rowNumber (now ch) (now a)) k) ⌝ }
-    ensures { λ r. ⌜ Scanned (now (ch .entry)) k (now (a .entry)) d n r
-        × Tried (now (ch .entry)) k (now (a .entry)) d (now (tried .exit)) ⌝ }
+    requires { let systems = now systems in let cells = now cells in
+        ⌜ Held systems count cells (now numbers) × (n < MOVES) × (n % SYSTEMS ≡ 0) × (giverOf n < count)
+        × Past systems count cells stride n × Tried systems count cells stride (now tried)
+        × Totalled (rowNumber systems cells) count (all .sum) (all .squares)
+        × (was ≡ imbalanceOf (rowNumber systems cells) count) ⌝ }
+    ensures { λ r. let systems = now (systems .entry) in let cells = now (cells .entry) in
+        ⌜ Scanned systems count cells stride n r × Tried systems count cells stride (now (tried .exit)) ⌝ }
 {
-    if !gives(ch, k, a, d, n) {
+    if !gives(systems, count, cells, stride, n) {
         return n + SYSTEMS;
     }
-    let c = n / PAIRS;
-    let f = n / SYSTEMS % SYSTEMS;
-    let less = number_less(ch, k, a, tried, d, f, c);
-    let w = exchanged(all, v, f, less);
-    first_taker(ch, k, a, v, tried, d, n, c, f, w, was)
+    let component = component(n);
+    let giver = giver(n);
+    let less = number_less(systems, count, cells, tried, stride, giver, component);
+    let w = exchanged(all, numbers, giver, less);
+    first_taker(
+        systems,
+        count,
+        cells,
+        numbers,
+        tried,
+        stride,
+        n,
+        component,
+        giver,
+        w,
+        was,
+    )
 }
 
 // The first move that can be made and lowers the imbalance, or MOVES.
 pub(crate) fn first_move(
-    ch: &[u8; SYSTEMS],
-    k: usize,
-    a: &[u32; CELLS],
-    v: &[i64; SYSTEMS],
+    systems: &[u8; SYSTEMS],
+    count: usize,
+    cells: &[u32; CELLS],
+    numbers: &[i64; SYSTEMS],
     tried: &mut [i64; TRIES],
-    d: u32,
+    stride: u32,
 ) -> usize
-    requires { ⌜ Held (now ch) k (now a) (now v) × Tried (now ch) k (now a) d (now tried) ⌝ }
-    ensures { λ r. ⌜ (r ≡ firstOf (now (ch .entry)) k (now (a .entry)) d)
-        × Tried (now (ch .entry)) k (now (a .entry)) d (now (tried .exit)) ⌝ }
+    requires { let systems = now systems in let cells = now cells in
+        ⌜ Held systems count cells (now numbers) × Tried systems count cells stride (now tried) ⌝ }
+    ensures { λ r. let systems = now (systems .entry) in let cells = now (cells .entry) in
+        ⌜ (r ≡ firstOf systems count cells stride) × Tried systems count cells stride (now (tried .exit)) ⌝ }
 {
-    let all = total(v, k);
-    let was = imbalance(all, k);
+    let all = total(numbers, count);
+    let was = imbalance(all, count);
     let mut n = 0;
     while n < MOVES {
-        let m = first_from(ch, k, a, v, tried, d, n, all, was);
+        let found = first_from(systems, count, cells, numbers, tried, stride, n, all, was);
         n += SYSTEMS;
-        if m < n {
-            return m;
+        if found < n {
+            return found;
         }
-        if k <= n / SYSTEMS % SYSTEMS {
+        if count <= giver(n) {
             n += PAIRS - n % PAIRS;
         }
     }

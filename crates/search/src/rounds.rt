@@ -19,7 +19,7 @@ use systems::SYSTEMS;
 use turn::Before;
 
 // The stride of a level.
-fn stride(level: usize) -> u32
+fn stride_of(level: usize) -> u32
     requires { ⌜ level ≤ FIRST_LEVEL ⌝ }
     ensures { λ r. ⌜ r ≡ 2 ^ level ⌝ }
 {
@@ -28,27 +28,31 @@ fn stride(level: usize) -> u32
 
 // What is done next, for a split with its partial numbers.
 fn next_turn(
-    ch: &[u8; SYSTEMS],
-    k: usize,
+    systems: &[u8; SYSTEMS],
+    count: usize,
     limit: u64,
     allowance: u32,
-    a: &[u32; CELLS],
-    v: &[i64; SYSTEMS],
+    cells: &[u32; CELLS],
+    numbers: &[i64; SYSTEMS],
     tried: &mut [i64; TRIES],
     level: usize,
     rounds: u32,
 ) -> Turn
-    requires { ⌜ Held (now ch) k (now a) (now v) × (level ≤ FIRST_LEVEL) × Tried (now ch) k (now a) (2 ^ level) (now tried) ⌝ }
-    ensures { λ r. ⌜ (r ≡ turnOf (now (ch .entry)) k limit allowance (now (a .entry)) level rounds) × Tried (now (ch .entry)) k (now (a .entry)) (2 ^ level) (now (tried .exit)) ⌝ }
+    requires { let systems = now systems in let cells = now cells in
+        ⌜ Held systems count cells (now numbers) × (level ≤ FIRST_LEVEL)
+        × Tried systems count cells (2 ^ level) (now tried) ⌝ }
+    ensures { λ r. let systems = now (systems .entry) in let cells = now (cells .entry) in
+        ⌜ (r ≡ turnOf systems count limit allowance cells level rounds)
+        × Tried systems count cells (2 ^ level) (now (tried .exit)) ⌝ }
 {
-    let s = spread(v, k);
+    let s = spread(numbers, count);
     match turn::before_round(s, limit, rounds, allowance) {
         Before::Within => Turn::Rate(s),
         Before::Spent => Turn::Refuse,
         Before::Open => {
-            let d = stride(level);
-            let m = first_move(ch, k, a, v, tried, d);
-            turn::go_on(level, m)
+            let stride = stride_of(level);
+            let found = first_move(systems, count, cells, numbers, tried, stride);
+            turn::go_on(level, found)
         }
     }
 }
@@ -71,28 +75,37 @@ fn ended(cells: [u32; CELLS], last: Turn, rounds: u32) -> Found
 
 // The search from a split with its partial numbers: a move counts a round, halving the stride does not.
 pub(crate) fn search(
-    ch: &[u8; SYSTEMS],
-    k: usize,
+    systems: &[u8; SYSTEMS],
+    count: usize,
     limit: u64,
     mut level: usize,
     allowance: u32,
     start: [u32; CELLS],
-    numbers: [i64; SYSTEMS],
+    mut numbers: [i64; SYSTEMS],
 ) -> Found
-    requires { ⌜ Held (now ch) k start numbers × (level ≤ FIRST_LEVEL) ⌝ }
-    ensures { λ r. ⌜ r ≡ searchOf (now (ch .entry)) k limit level allowance start ⌝ }
+    requires { ⌜ Held (now systems) count start numbers × (level ≤ FIRST_LEVEL) ⌝ }
+    ensures { λ r. ⌜ r ≡ searchOf (now (systems .entry)) count limit level allowance start ⌝ }
 {
-    let mut a = start;
-    let mut v = numbers;
+    let mut cells = start;
     let mut tried = none_known();
     let mut rounds: u32 = 0;
     loop {
-        let t = next_turn(ch, k, limit, allowance, &a, &v, &mut tried, level, rounds);
-        match t {
+        let turn = next_turn(
+            systems,
+            count,
+            limit,
+            allowance,
+            &cells,
+            &numbers,
+            &mut tried,
+            level,
+            rounds,
+        );
+        match turn {
             Turn::Move(m) => {
-                let d = stride(level);
-                renumber(ch, k, &a, &mut v, &mut tried, d, m);
-                moved(&mut a, m, d);
+                let stride = stride_of(level);
+                renumber(systems, count, &cells, &mut numbers, &mut tried, stride, m);
+                moved(&mut cells, m, stride);
                 rounds += 1;
             }
             Turn::Halve => {
@@ -100,7 +113,7 @@ pub(crate) fn search(
                 tried = none_known();
             }
             _ => {
-                return ended(a, t, rounds);
+                return ended(cells, turn, rounds);
             }
         }
     }

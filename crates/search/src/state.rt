@@ -32,11 +32,11 @@ pub(crate) fn spread(v: &[i64; SYSTEMS], k: usize) -> u64
 }
 
 // The amount in row s, of the given system, of the system's component j.
-pub(crate) fn amount(a: &[u32; CELLS], system: u8, s: usize, j: usize) -> u32
+pub(crate) fn amount(cells: &[u32; CELLS], system: u8, s: usize, j: usize) -> u32
     requires { ⌜ Candidate system × (s < SYSTEMS) × (j < 3) ⌝ }
-    ensures { λ r. ⌜ r ≡ cellOf (now (a .entry)) s (memberOf system j) ⌝ }
+    ensures { λ r. ⌜ r ≡ cellOf (now (cells .entry)) s (memberOf system j) ⌝ }
 {
     let c = systems::member(system, j);
     let i = s * COMPONENTS + c;
-    a[i]
+    cells[i]
 }

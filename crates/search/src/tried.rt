@@ -1,4 +1,5 @@
-// The partial numbers that moves of one stride lead to, each worked out when it is first asked for and kept while its row stays.
+// The partial numbers that moves of one stride lead to, each worked out when it is first asked for and kept while its
+// row stays.
 ghost use mathlib.Core.Path.{_≡_};
 ghost use Prim.Native.Nat.{_+_, _*_, _<_, _≤_};
 ghost use lib.IntN.{natAbs};
@@ -21,27 +22,27 @@ pub(crate) const TRIES: usize = 2 * CELLS;
 const UNKNOWN: i64 = 4000000000000;
 
 // The amount in row s of the system's component j, where that of component c were n.
-fn instead(a: &[u32; CELLS], system: u8, s: usize, c: usize, n: u32, j: usize) -> u32
+fn instead(cells: &[u32; CELLS], system: u8, s: usize, c: usize, n: u32, j: usize) -> u32
     requires { ⌜ Candidate system × (s < SYSTEMS) × (j < 3) ⌝ }
-    ensures { λ r. ⌜ r ≡ insteadOf (now (a .entry)) s c n (memberOf system j) ⌝ }
+    ensures { λ r. ⌜ r ≡ insteadOf (now (cells .entry)) s c n (memberOf system j) ⌝ }
 {
     if systems::member(system, j) == c {
         return n;
     }
-    amount(a, system, s, j)
+    amount(cells, system, s, j)
 }
 
 // Row s's partial number where its amount of component c were n.
-fn number_with(ch: &[u8; SYSTEMS], a: &[u32; CELLS], s: usize, c: usize, n: u32) -> i64
-    requires { ⌜ Workable (now ch) (now a) s c n ⌝ }
-    ensures { λ r. ⌜ (r ≡ numberWith (now (ch .entry)) (now (a .entry)) s c n) × (natAbs r ≤ LARGEST) ⌝ }
+fn number_with(systems: &[u8; SYSTEMS], cells: &[u32; CELLS], s: usize, c: usize, n: u32) -> i64
+    requires { ⌜ Workable (now systems) (now cells) s c n ⌝ }
+    ensures { λ r. ⌜ (r ≡ numberWith (now (systems .entry)) (now (cells .entry)) s c n) × (natAbs r ≤ LARGEST) ⌝ }
 {
-    let system = ch[s];
+    let system = systems[s];
     let p = ternary::formula_number(
         system as u32,
-        instead(a, system, s, c, n, 0),
-        instead(a, system, s, c, n, 1),
-        instead(a, system, s, c, n, 2),
+        instead(cells, system, s, c, n, 0),
+        instead(cells, system, s, c, n, 1),
+        instead(cells, system, s, c, n, 2),
     );
     match p {
         ternary::Partial::Number(x) => x,
@@ -49,52 +50,56 @@ fn number_with(ch: &[u8; SYSTEMS], a: &[u32; CELLS], s: usize, c: usize, n: u32)
     }
 }
 
-// The number that row s with d of component c less leads to: worked out and kept where it is not known.
+// The number that row s with the stride of component c less leads to: worked out and kept where it is not known.
 pub(crate) fn number_less(
-    ch: &[u8; SYSTEMS],
-    k: usize,
-    a: &[u32; CELLS],
+    systems: &[u8; SYSTEMS],
+    count: usize,
+    cells: &[u32; CELLS],
     tried: &mut [i64; TRIES],
-    d: u32,
+    stride: u32,
     s: usize,
     c: usize,
 ) -> i64
-    requires { ⌜ (s < SYSTEMS) × (c < COMPONENTS) × Triable (now ch) k (now a) d (s * COMPONENTS + c)
-        × Tried (now ch) k (now a) d (now tried) ⌝ }
-    ensures { λ r. ⌜ (r ≡ wantedOf (now (ch .entry)) (now (a .entry)) d (s * COMPONENTS + c)) × (natAbs r ≤ LARGEST)
-        × Tried (now (ch .entry)) k (now (a .entry)) d (now (tried .exit)) ⌝ }
+    requires { let systems = now systems in let cells = now cells in
+        ⌜ (s < SYSTEMS) × (c < COMPONENTS) × Triable systems count cells stride (s * COMPONENTS + c)
+        × Tried systems count cells stride (now tried) ⌝ }
+    ensures { λ r. let systems = now (systems .entry) in let cells = now (cells .entry) in
+        ⌜ (r ≡ wantedOf systems cells stride (s * COMPONENTS + c)) × (natAbs r ≤ LARGEST)
+        × Tried systems count cells stride (now (tried .exit)) ⌝ }
 {
     let i = s * COMPONENTS + c;
     let x = tried[i];
     if x != UNKNOWN {
         return x;
     }
-    let y = number_with(ch, a, s, c, a[i] - d);
+    let y = number_with(systems, cells, s, c, cells[i] - stride);
     tried[i] = y;
     y
 }
 
-// The number that row s with d of component c more leads to: worked out and kept where it is not known.
+// The number that row s with the stride of component c more leads to: worked out and kept where it is not known.
 pub(crate) fn number_more(
-    ch: &[u8; SYSTEMS],
-    k: usize,
-    a: &[u32; CELLS],
+    systems: &[u8; SYSTEMS],
+    count: usize,
+    cells: &[u32; CELLS],
     tried: &mut [i64; TRIES],
-    d: u32,
+    stride: u32,
     s: usize,
     c: usize,
 ) -> i64
-    requires { ⌜ (s < SYSTEMS) × (c < COMPONENTS) × Triable (now ch) k (now a) d (CELLS + s * COMPONENTS + c)
-        × Tried (now ch) k (now a) d (now tried) ⌝ }
-    ensures { λ r. ⌜ (r ≡ wantedOf (now (ch .entry)) (now (a .entry)) d (CELLS + s * COMPONENTS + c))
-        × (natAbs r ≤ LARGEST) × Tried (now (ch .entry)) k (now (a .entry)) d (now (tried .exit)) ⌝ }
+    requires { let systems = now systems in let cells = now cells in
+        ⌜ (s < SYSTEMS) × (c < COMPONENTS) × Triable systems count cells stride (CELLS + s * COMPONENTS + c)
+        × Tried systems count cells stride (now tried) ⌝ }
+    ensures { λ r. let systems = now (systems .entry) in let cells = now (cells .entry) in
+        ⌜ (r ≡ wantedOf systems cells stride (CELLS + s * COMPONENTS + c)) × (natAbs r ≤ LARGEST)
+        × Tried systems count cells stride (now (tried .exit)) ⌝ }
 {
     let i = CELLS + s * COMPONENTS + c;
     let x = tried[i];
     if x != UNKNOWN {
         return x;
     }
-    let y = number_with(ch, a, s, c, a[i - CELLS] + d);
+    let y = number_with(systems, cells, s, c, cells[i - CELLS] + stride);
     tried[i] = y;
     y
 }

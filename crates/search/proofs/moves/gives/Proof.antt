@@ -1,22 +1,29 @@
 -- `search::moves::gives` meets its contract. Assumes nothing.
 use native.Mathlib.Omega.{arith}
-use borrow.Author.Tests.{not-true, not-false}
-use Rattle.split.specs.Laws.Tests.{not-had, affords-is}
-use Rattle.search.proofs.Amounts.{known, parts-is, all-fit, two-fit}
-use Rattle.search.proofs.Givers.{give-lacks, give-is}
 use borrow.Author.Needs.{needs}
+use Rattle.search.proofs.Amounts.{may-read, parts-is, all-fit, two-fit}
+use Rattle.search.proofs.Givers.{give-lacks, give-short, give-all}
 use Rattle.search.proofs.moves.gives.Statement.{statement}
 use Rattle.search.proofs.moves.gives.Tie as tie
+
+giver-requires : tie.Need-giver-requires
+giver-requires c κs = tt
+
+component-requires : tie.Need-component-requires
+component-requires c κs = tt
 
 element-copy-out-system : tie.Need-element-copy-out-system
 element-copy-out-system c = search needs
 
 has-requires : tie.Need-has-requires
-has-requires c κs = search needs
+has-requires c κs = tt
 
 returns : tie.Need-returns
 returns c =
-    give-lacks _ _ _ _ _ (c .before .before .before .pre .2) _ (c .before .has .ensures) (not-true _ (c .if1 .taken))
+    let h = c .before in
+    let g = h .before .before in
+    let pre = g .before .before .pre in
+    give-lacks _ _ pre (g .before .giver .ensures) (g .component .ensures) (h .has .ensures) (c .if1 .taken)
 
 mul-i : tie.Need-mul-i
 mul-i c = search needs
@@ -31,50 +38,64 @@ element-copy-out-if2 : tie.Need-element-copy-out-if2
 element-copy-out-if2 c = search needs
 
 returns-2 : tie.Need-returns-2
-returns-2 c = give-is _ _ _ _ _ (c .before .before .before .before .before .pre .2) _ (c .before .before .before .has .ensures) (not-false _ (c .before .before .if1 .left)) _ (not-had _ (c .before .before .before .before .before .args .k) _ _ _ (c .if2 .taken))
+returns-2 c =
+    let i = c .before .before in
+    let h = i .before in
+    let g = h .before .before in
+    let pre = g .before .before .pre in
+    let short = give-short _ _ pre (g .before .giver .ensures) (g .component .ensures) (h .has .ensures) in
+    short (i .if1 .left) (c .if2 .taken)
 
 amount-requires : tie.Need-amount-requires
 amount-requires c κs =
-    (known _ _ _ _ (c .before .before .before .before .before .pre .0 .stock)
-    (c .before .before .before .before .before .pre .2), omega arith, omega arith)
+    let g = c .before .before .before .before .before .before in
+    may-read (g .before .pre .0 .stock) (g .before .pre .2) (g .giver .ensures) (omega arith)
 
 amount-requires-2 : tie.Need-amount-requires-2
 amount-requires-2 c κs =
-    (known _ _ _ _ (c .before .before .before .before .before .before .pre .0 .stock)
-    (c .before .before .before .before .before .before .pre .2), omega arith, omega arith)
+    let g = c .before .before .before .before .before .before .before in
+    may-read (g .before .pre .0 .stock) (g .before .pre .2) (g .giver .ensures) (omega arith)
 
-add-result : tie.Need-add-result
-add-result c =
-    omega (arith, two-fit _ _ _ _ (c .before .before .before .before .before .before .before .pre .0 .stock)
-    (c .before .before .before .before .before .before .before .pre .2) _ _ (c .before .amount .ensures)
-    (c .amount2 .ensures))
+add-parts : tie.Need-add-parts
+add-parts c =
+    let g = c .before .before .before .before .before .before .before .before in
+    let pre = g .before .pre in
+    let w = two-fit (pre .0 .stock) (pre .2) (g .giver .ensures) (c .before .amount .ensures) (c .amount2 .ensures) in
+    omega (arith, w)
 
 amount-requires-3 : tie.Need-amount-requires-3
 amount-requires-3 c κs =
-    (known _ _ _ _ (c .before .before .before .before .before .before .before .pre .0 .stock)
-    (c .before .before .before .before .before .before .before .pre .2), omega arith, omega arith)
+    let g = c .before .before .before .before .before .before .before .before in
+    may-read (g .before .pre .0 .stock) (g .before .pre .2) (g .giver .ensures) (omega arith)
 
-add-result-2 : tie.Need-add-result-2
-add-result-2 c =
-    omega (arith, all-fit _ _ _ _ (c .before .before .before .before .before .before .before .before .pre .0 .stock)
-    (c .before .before .before .before .before .before .before .before .pre .2) _ _ _
-    (c .before .before .amount .ensures) (c .before .amount2 .ensures) (c .amount3 .ensures))
+add-parts-2 : tie.Need-add-parts-2
+add-parts-2 c =
+    let a = c .before .before in
+    let g = a .before .before .before .before .before .before .before in
+    let pre = g .before .pre in
+    omega (
+      arith,
+      all-fit (pre .0 .stock) (pre .2) (g .giver .ensures) (a .amount .ensures) (c .before .amount2 .ensures)
+          (c .amount3 .ensures),
+    )
 
 returns-3 : tie.Need-returns-3
 returns-3 c =
-    give-is _ _ _ _ _ (c .before .before .before .before .before .before .before .before .pre .2) _
-    (c .before .before .before .before .before .before .has .ensures)
-    (not-false _ (c .before .before .before .before .before .if1 .left)) _
-    (affords-is _ (c .before .before .before .before .before .before .before .before .args .k) _ _ _ _
-    (c .before .before .before .if2 .left)
-    (parts-is _ _ _ _ (c .before .before .before .before .before .before .before .before .pre .0 .stock)
-    (c .before .before .before .before .before .before .before .before .pre .2) _ _ _
-    (c .before .before .amount .ensures) (c .before .amount2 .ensures) (c .amount3 .ensures)))
+    let a = c .before .before in
+    let i = a .before .before .before in
+    let h = i .before in
+    let g = h .before .before in
+    let pre = g .before .before .pre in
+    let giver = g .before .giver .ensures in
+    give-all _ _ pre giver (g .component .ensures) (h .has .ensures) (i .if1 .left) (a .before .if2 .left)
+    (parts-is (pre .0 .stock) (pre .2) giver (a .amount .ensures) (c .before .amount2 .ensures) (c .amount3 .ensures))
 
 pub gives-spec : {M : Type 1} → statement M
 gives-spec =
     tie.close
     (tie.spec
+    giver-requires
+    component-requires
     element-copy-out-system
     has-requires
     returns
@@ -85,7 +106,7 @@ gives-spec =
     returns-2
     amount-requires
     amount-requires-2
-    add-result
+    add-parts
     amount-requires-3
-    add-result-2
+    add-parts-2
     returns-3)

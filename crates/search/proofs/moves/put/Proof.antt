@@ -1,11 +1,12 @@
 -- `search::moves::put` meets its contract. Assumes nothing.
-use Rattle.search.proofs.Renumbered.{put-is}
+use native.Mathlib.Omega.{arith}
 use borrow.Author.Needs.{needs}
+use Rattle.search.proofs.Renumbered.{put-is}
 use Rattle.search.proofs.moves.put.Statement.{statement}
 use Rattle.search.proofs.moves.put.Tie as tie
 
 forget-requires : tie.Need-forget-requires
-forget-requires c κs = search needs
+forget-requires c κs = (omega (arith, c .before .pre .1), c .before .pre .2)
 
 mul-tried : tie.Need-mul-tried
 mul-tried c = search needs
@@ -27,9 +28,9 @@ element-set-from-x c = search needs
 
 returns : tie.Need-returns
 returns c =
-    let s = c .before .before .before in put-is (s .args .v .now) (s .args .tried .now) (c .before .forget .last .0)
-    (s .args .s) (s .args .i) (s .args .x) (s .pre .0) (s .pre .1) (s .pre .3) (s .pre .4)
-    (c .before .forget .ensures)
+    let s = c .before .before .before in
+    put-is (s .args .numbers .now) (s .args .tried .now) (c .before .forget .last .0) (s .args .s) (s .args .i)
+    (s .args .x) (s .pre) (c .before .forget .ensures)
 
 pub put-spec : {M : Type 1} → statement M
 put-spec =

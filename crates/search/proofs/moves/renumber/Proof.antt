@@ -1,23 +1,34 @@
 -- `search::moves::renumber` meets its contract. Assumes nothing.
-use native.Mathlib.Omega.{arith}
-use Rattle.search.proofs.Tries.{taker-triable}
-use Rattle.search.proofs.Givers.{fit-gives}
-use Rattle.search.proofs.Given.{give-triable}
-use Rattle.search.proofs.Renumbered.{giver-may, taker-may, renumbered}
 use borrow.Author.Needs.{needs}
+use Rattle.search.proofs.Renumbered.{gives-triable, takes-triable, giver-puts, taker-puts, both-put}
 use Rattle.search.proofs.moves.renumber.Statement.{statement}
 use Rattle.search.proofs.moves.renumber.Tie as tie
 
+giver-requires : tie.Need-giver-requires
+giver-requires c κs = tt
+
+taker-requires : tie.Need-taker-requires
+taker-requires c κs = tt
+
+component-requires : tie.Need-component-requires
+component-requires c κs = tt
+
 number-less-requires : tie.Need-number-less-requires
 number-less-requires c κs =
-    (omega arith, omega (arith, c .before .pre .1 .below), give-triable _ _ _ _ (c .before .pre .0) _ _
-    (c .before .pre .1 .below) (fit-gives _ _ _ _ _ (c .before .pre .1)), c .before .pre .2)
+    let g = c .before in
+    let t = g .before in
+    let pre = t .before .before .pre in
+    let w = gives-triable (pre .0) (pre .1) (t .before .giver .ensures) (t .taker .ensures) (g .component .ensures) in
+    (w .0, w .1, w .2, pre .2)
 
 number-more-requires : tie.Need-number-more-requires
 number-more-requires c κs =
-    (omega arith, omega (arith, c .before .before .before .pre .1 .below),
-    taker-triable _ _ _ _ _ (c .before .before .before .pre .0 .sound) (c .before .before .before .pre .1),
-    c .before .number-less .ensures .2)
+    let l = c .before in
+    let g = l .before .before in
+    let t = g .before in
+    let pre = t .before .before .pre in
+    let w = takes-triable (pre .0) (pre .1) (t .before .giver .ensures) (t .taker .ensures) (g .component .ensures) in
+    (w .0, w .1, w .2, l .number-less .ensures .2)
 
 mul-put : tie.Need-mul-put
 mul-put c = search needs
@@ -30,10 +41,13 @@ add-put-2 c = search needs
 
 put-requires : tie.Need-put-requires
 put-requires c κs =
-    giver-may _ _ _ _ _ _ (c .before .before .before .before .before .before .pre .0)
-    (c .before .before .before .before .before .before .pre .1) (c .before .before .number-more .last .1 .1 .1 .0)
-    (c .before .before .before .before .number-less .result) (c .before .before .number-more .ensures .2 .long)
-    (c .before .before .before .before .number-less .ensures .1)
+    let more = c .before .before in
+    let less = more .before .before in
+    let g = less .before .before in
+    let t = g .before in
+    let pre = t .before .before .pre in
+    giver-puts (pre .0) (pre .1) (t .before .giver .ensures) (t .taker .ensures) (g .component .ensures)
+    (less .number-less .ensures) (more .number-more .ensures .2)
 
 mul-put-2 : tie.Need-mul-put-2
 mul-put-2 c = search needs
@@ -43,25 +57,33 @@ add-put-3 c = search needs
 
 put-requires-2 : tie.Need-put-requires-2
 put-requires-2 c κs =
-    taker-may _ _ _ _ _ _ (c .before .before .before .before .before .before .before .before .before .pre .0)
-    (c .before .before .before .before .before .before .before .before .before .pre .1) _ _
-    (c .before .before .put .ensures .0) (c .before .before .put .last .1 .0)
-    (c .before .before .before .before .before .number-more .result) (c .before .before .put .ensures .1 .long)
-    (c .before .before .before .before .before .number-more .ensures .1)
+    let p = c .before .before in
+    let more = p .before .before .before in
+    let less = more .before .before in
+    let g = less .before .before in
+    let t = g .before in
+    let pre = t .before .before .pre in
+    taker-puts (pre .0) (pre .1) (t .before .giver .ensures) (t .taker .ensures) (g .component .ensures)
+    (less .number-less .ensures) (more .number-more .ensures) (p .put .ensures)
 
 returns : tie.Need-returns
 returns c =
-    let x = c .before .before .before .before .before .before .before .before .number-less .ensures in
-    let y = c .before .before .before .before .before .before .number-more .ensures in
-    renumbered _ _ _ _ _ _ (c .before .before .before .before .before .before .before .before .before .before .pre .0)
-    (c .before .before .before .before .before .before .before .before .before .before .pre .1) _ _ _ _ _ _ _
-    (x .0, x .1) (y .0, y .1) (c .before .before .before .put .ensures .0) (c .put2 .ensures .0) (y .2)
-    (c .before .before .before .put .ensures .1) (c .put2 .ensures .1)
+    let p = c .before .before .before in
+    let more = p .before .before .before in
+    let less = more .before .before in
+    let g = less .before .before in
+    let t = g .before in
+    let pre = t .before .before .pre in
+    both-put (pre .0) (pre .1) (t .before .giver .ensures) (t .taker .ensures) (g .component .ensures)
+    (less .number-less .ensures) (more .number-more .ensures) (p .put .ensures) (c .put2 .ensures)
 
 pub renumber-spec : {M : Type 1} → statement M
 renumber-spec =
     tie.close
     (tie.spec
+    giver-requires
+    taker-requires
+    component-requires
     number-less-requires
     number-more-requires
     mul-put

@@ -1,8 +1,8 @@
 -- `search::rounds::next_turn` meets its contract. Assumes nothing.
 use mathlib.Core.Path.{sym}
+use borrow.Author.Needs.{needs}
 use Rattle.search.proofs.Tries.{tried-as}
 use Rattle.search.proofs.Loop.{code-rate, code-refuse, code-on}
-use borrow.Author.Needs.{needs}
 use Rattle.search.proofs.rounds.next_turn.Statement.{statement}
 use Rattle.search.proofs.rounds.next_turn.Tie as tie
 
@@ -10,7 +10,7 @@ spread-requires : tie.Need-spread-requires
 spread-requires c κs = (c .pre .0 .small, c .pre .0 .sound .stock .chosen .some)
 
 before-round-requires : tie.Need-before-round-requires
-before-round-requires c κs = search needs
+before-round-requires c κs = tt
 
 enum-told : tie.Need-enum-told
 enum-told c = search needs
@@ -21,40 +21,40 @@ enum-told-2 c = search needs
 enum-told-3 : tie.Need-enum-told-3
 enum-told-3 c = search needs
 
-stride-requires : tie.Need-stride-requires
-stride-requires c κs = search needs
+stride-of-requires : tie.Need-stride-of-requires
+stride-of-requires c κs = c .before .before .before .before .pre .1
 
 first-move-requires : tie.Need-first-move-requires
 first-move-requires c κs =
-    (c .before .before .before .before .before .before .pre .0, tried-as _ _ _ _ _ _ (c .before .stride .ensures)
-    (c .before .before .before .before .before .before .pre .2))
+    let pre = c .before .before .before .before .before .before .pre in
+    (pre .0, tried-as (c .before .stride-of .ensures) (pre .2))
 
 go-on-requires : tie.Need-go-on-requires
-go-on-requires c κs = search needs
+go-on-requires c κs = tt
 
 returns : tie.Need-returns
 returns c =
     let b = c .before .before in
     let s = b .before in
-    (code-rate _ _ _ _ _ _ _ _ _ (s .spread .ensures) (s .before .pre .0) _ (b .before-round .ensures)
-    (c .enum-told .given .1), s .before .pre .2)
+    let pre = s .before .pre in
+    (code-rate (pre .0) _ _ _ _ (s .spread .ensures) (b .before-round .ensures) (c .enum-told .given .1), pre .2)
 
 returns-2 : tie.Need-returns-2
 returns-2 c =
     let b = c .before .before in
     let s = b .before in
-    (code-refuse _ _ _ _ _ _ _ _ _ (s .spread .ensures) (s .before .pre .0) _ (b .before-round .ensures)
-    (c .enum-told2 .given .1), s .before .pre .2)
+    let pre = s .before .pre in
+    (code-refuse (pre .0) _ _ _ _ (s .spread .ensures) (b .before-round .ensures) (c .enum-told2 .given .1), pre .2)
 
 returns-3 : tie.Need-returns-3
 returns-3 c =
+    let m = c .before .first-move .ensures in
     let d = c .before .before .before in
     let b = d .before .before .before in
     let s = b .before in (
-      code-on _ _ _ _ _ _ _ _ _ (s .spread .ensures) (s .before .pre .0) _ (b .before-round .ensures)
-          (d .before .enum-told3 .given .1) _ _ _ (d .stride .ensures) (c .before .first-move .ensures .0)
-          (c .go-on .ensures),
-      tried-as _ _ _ _ _ _ (sym (d .stride .ensures)) (c .before .first-move .ensures .1),
+      code-on (s .before .pre .0) _ _ _ _ (s .spread .ensures) (b .before-round .ensures)
+          (d .before .enum-told3 .given .1) (d .stride-of .ensures) (m .0) (c .go-on .ensures),
+      tried-as (sym (d .stride-of .ensures)) (m .1),
     )
 
 pub next-turn-spec : {M : Type 1} → statement M
@@ -66,7 +66,7 @@ next-turn-spec =
     enum-told
     enum-told-2
     enum-told-3
-    stride-requires
+    stride-of-requires
     first-move-requires
     go-on-requires
     returns

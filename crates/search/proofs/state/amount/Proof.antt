@@ -9,7 +9,7 @@ use Rattle.search.proofs.state.amount.Statement.{statement}
 use Rattle.search.proofs.state.amount.Tie as tie
 
 member-requires : tie.Need-member-requires
-member-requires c κs = search needs
+member-requires c κs = tt
 
 mul-i : tie.Need-mul-i
 mul-i c = search needs
@@ -24,7 +24,7 @@ element-copy-out-result : tie.Need-element-copy-out-result
 element-copy-out-result c = omega (arith, c .member .ensures, member-lt _ (c .before .pre .0) _ (c .before .pre .2))
 
 returns : tie.Need-returns
-returns c = ap (cellOf (c .before .before .args .a .now) (c .before .before .args .s)) (c .before .member .ensures)
+returns c = ap (cellOf (c .before .before .args .cells .now) (c .before .before .args .s)) (c .before .member .ensures)
 
 pub amount-spec : {M : Type 1} → statement M
 amount-spec =

@@ -1,8 +1,8 @@
 -- `search::tried::forget` meets its contract. Assumes nothing.
-use Rattle.systems.specs.Systems.{COMPONENTS}
-use Rattle.search.proofs.Tries.{Going, going-starts, going-on, going-ends}
 use Prim.Native.Nat.{_-_}
 use native.Mathlib.Omega.{arith}
+use Rattle.systems.specs.Systems.{COMPONENTS}
+use Rattle.search.proofs.Tries.{Going, going-starts, going-on, going-ends}
 use Rattle.search.proofs.tried.forget.Statement.{statement}
 use Rattle.search.proofs.tried.forget.Tie as tie
 
@@ -44,13 +44,17 @@ loop-less c = omega (arith, c .loop-test .taken)
 
 loop-again : tie.Need-loop-again Inv-loop μ-loop
 loop-again c =
-    going-on (c .before .before .args .tried .now) (c .before .before .args .s) (c .before .before .pre .0)
-    (c .before .loop .tried) (c .before .loop .c) (c .before .loop .inv) (c .loop-test .taken)
+    let l = c .before in
+    let f = l .before in
+    going-on (f .args .tried .now) (f .args .s) (f .pre .0) (l .loop .tried) (l .loop .c) (l .loop .inv)
+    (c .loop-test .taken)
 
 returns : tie.Need-returns Inv-loop μ-loop
 returns c =
-    going-ends (c .before .before .args .tried .now) (c .before .before .args .s) (c .before .before .pre .0)
-    (c .before .loop .tried) (c .before .loop .c) (c .before .loop .inv) (c .loop-test .left)
+    let l = c .before in
+    let f = l .before in
+    going-ends (f .args .tried .now) (f .args .s) (f .pre .0) (l .loop .tried) (l .loop .c) (l .loop .inv)
+    (c .loop-test .left)
 
 pub forget-spec : {M : Type 1} → statement M
 forget-spec =

@@ -1,7 +1,6 @@
 -- `search::tried::number_less` meets its contract. Assumes nothing.
-use mathlib.Core.Path.{_∙_}
-use Rattle.search.proofs.Tries.{known-is, put-is, less-had, less-work, less-wanted}
 use borrow.Author.Needs.{needs}
+use Rattle.search.proofs.Tries.{known-is, less-had, less-work, less-put}
 use Rattle.search.proofs.tried.number_less.Statement.{statement}
 use Rattle.search.proofs.tried.number_less.Tie as tie
 
@@ -18,7 +17,7 @@ element-copy-out-x : tie.Need-element-copy-out-x
 element-copy-out-x c = search needs
 
 returns : tie.Need-returns
-returns c = known-is _ _ _ _ _ (c .before .before .pre .3) _ (c .before .before .pre .2) (c .if1 .taken)
+returns c = let pre = c .before .before .pre in known-is (pre .2) (pre .3) (c .if1 .taken)
 
 mul-number-with : tie.Need-mul-number-with
 mul-number-with c = search needs
@@ -27,14 +26,10 @@ element-copy-out-number-with : tie.Need-element-copy-out-number-with
 element-copy-out-number-with c = search needs
 
 sub-number-with : tie.Need-sub-number-with
-sub-number-with c =
-    less-had (c .before .before .before .args .ch .now) _ _ _ _ _ (c .before .before .before .pre .0)
-    (c .before .before .before .pre .1) (c .before .before .before .pre .2)
+sub-number-with c = less-had (c .before .before .before .pre)
 
 number-with-requires : tie.Need-number-with-requires
-number-with-requires c κs =
-    less-work _ _ _ _ _ _ (c .before .before .before .pre .0) (c .before .before .before .pre .1)
-    (c .before .before .before .pre .2)
+number-with-requires c κs = less-work (c .before .before .before .pre)
 
 mul-y : tie.Need-mul-y
 mul-y c = search needs
@@ -43,11 +38,7 @@ element-set-from-y : tie.Need-element-set-from-y
 element-set-from-y c = search needs
 
 returns-2 : tie.Need-returns-2
-returns-2 c =
-    put-is _ _ _ _ _ (c .before .before .before .before .pre .3) _ (c .before .before .before .before .pre .2) _
-    (c .number-with .ensures .0 ∙ less-wanted _ (c .before .before .before .before .args .k) _ _ _ _
-    (c .before .before .before .before .pre .0) (c .before .before .before .before .pre .1),
-    c .number-with .ensures .1)
+returns-2 c = less-put (c .before .before .before .before .pre) (c .number-with .ensures)
 
 pub number-less-spec : {M : Type 1} → statement M
 number-less-spec =

@@ -1,8 +1,6 @@
 -- `search::tried::number_more` meets its contract. Assumes nothing.
-use mathlib.Core.Path.{_∙_}
-use native.Mathlib.Omega.{arith}
-use Rattle.search.proofs.Tries.{known-is, put-is, more-room, more-work, more-wanted}
 use borrow.Author.Needs.{needs}
+use Rattle.search.proofs.Tries.{known-is, more-room, more-work, more-put}
 use Rattle.search.proofs.tried.number_more.Statement.{statement}
 use Rattle.search.proofs.tried.number_more.Tie as tie
 
@@ -22,7 +20,7 @@ element-copy-out-x : tie.Need-element-copy-out-x
 element-copy-out-x c = search needs
 
 returns : tie.Need-returns
-returns c = known-is _ _ _ _ _ (c .before .before .pre .3) _ (c .before .before .pre .2) (c .if1 .taken)
+returns c = let pre = c .before .before .pre in known-is (pre .2) (pre .3) (c .if1 .taken)
 
 sub-number-with : tie.Need-sub-number-with
 sub-number-with c = search needs
@@ -34,14 +32,10 @@ element-copy-out-number-with : tie.Need-element-copy-out-number-with
 element-copy-out-number-with c = search needs
 
 add-number-with : tie.Need-add-number-with
-add-number-with c =
-    omega (arith, more-room (c .before .before .before .args .ch .now) _ _ _ _ _ (c .before .before .before .pre .0)
-    (c .before .before .before .pre .1) (c .before .before .before .pre .2))
+add-number-with c = more-room (c .before .before .before .pre)
 
 number-with-requires : tie.Need-number-with-requires
-number-with-requires c κs =
-    more-work _ _ _ _ _ _ (c .before .before .before .pre .0) (c .before .before .before .pre .1)
-    (c .before .before .before .pre .2)
+number-with-requires c κs = more-work (c .before .before .before .pre)
 
 mul-y : tie.Need-mul-y
 mul-y c = search needs
@@ -50,11 +44,7 @@ element-set-from-y : tie.Need-element-set-from-y
 element-set-from-y c = search needs
 
 returns-2 : tie.Need-returns-2
-returns-2 c =
-    put-is _ _ _ _ _ (c .before .before .before .before .pre .3) _ (c .before .before .before .before .pre .2) _
-    (c .number-with .ensures .0 ∙ more-wanted _ (c .before .before .before .before .args .k) _ _ _ _
-    (c .before .before .before .before .pre .0) (c .before .before .before .before .pre .1),
-    c .number-with .ensures .1)
+returns-2 c = more-put (c .before .before .before .before .pre) (c .number-with .ensures)
 
 pub number-more-spec : {M : Type 1} → statement M
 number-more-spec =

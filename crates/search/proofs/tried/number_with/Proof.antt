@@ -1,7 +1,7 @@
 -- `search::tried::number_with` meets its contract. Assumes nothing.
+use borrow.Author.Needs.{needs}
 use Rattle.search.proofs.Numbers.{system-fits}
 use Rattle.search.proofs.Trials.{with-ok, with-never}
-use borrow.Author.Needs.{needs}
 use Rattle.search.proofs.tried.number_with.Statement.{statement}
 use Rattle.search.proofs.tried.number_with.Tie as tie
 
@@ -21,7 +21,7 @@ instead-requires-3 : tie.Need-instead-requires-3
 instead-requires-3 c κs = search needs
 
 formula-number-requires : tie.Need-formula-number-requires
-formula-number-requires c κs = search needs
+formula-number-requires c κs = tt
 
 enum-known-p : tie.Need-enum-known-p
 enum-known-p c = search needs
@@ -31,18 +31,17 @@ enum-told c = search needs
 
 returns : tie.Need-returns
 returns c =
-    with-ok _ _ _ _ _ _ _ _ (c .before .before .before .before .before .before .instead .ensures)
-    (c .before .before .before .before .before .instead2 .ensures)
-    (c .before .before .before .before .instead3 .ensures)
-    (c .before .before .before .before .before .before .before .before .pre) _
-    (c .before .before .before .formula-number .ensures .0) _ (c .before .p .given .1)
+    let f = c .before .before .before in
+    let i = f .before .before .before in
+    with-ok (i .before .before .pre) (i .instead .ensures) (f .before .before .instead2 .ensures)
+    (f .before .instead3 .ensures) (f .formula-number .ensures .0) (c .before .p .given .1)
 
 returns-2 : tie.Need-returns-2
 returns-2 c =
-    with-never _ _ _ _ _ _ _ _ (c .before .before .before .before .before .instead .ensures)
-    (c .before .before .before .before .instead2 .ensures) (c .before .before .before .instead3 .ensures)
-    (c .before .before .before .before .before .before .before .pre) _ (c .before .before .formula-number .ensures .0)
-    _ (c .enum-told .given .1)
+    let f = c .before .before in
+    let i = f .before .before .before in
+    with-never (i .before .before .pre) (i .instead .ensures) (f .before .before .instead2 .ensures)
+    (f .before .instead3 .ensures) (f .formula-number .ensures .0) (c .enum-told .given .1)
 
 pub number-with-spec : {M : Type 1} → statement M
 number-with-spec =
