@@ -103,7 +103,7 @@ def main():
     same('the room for records', macros['RECORDS'], constant('sheet', 'RECORDS'),
          definition('sheet', 'Split.antt', 'RECORDS'), definition('split', 'Split.antt', 'RECORDS'))
     same('the greatest allowance', macros['ROUNDS'], constant('rating', 'ROUNDS'),
-         definition('rating', 'Rate.antt', 'ROUNDS'))
+         definition('outcome', 'Rate.antt', 'ROUNDS'))
     same('the longest sheet', macros['SHEET'], sheet_bytes())
     if re.search(r'\[(?!SAUGRINTE_CODES\]|SAUGRINTE_RECORDS\]|k\]|i\])', header):
         fail('an array without its named size')

@@ -1,4 +1,5 @@
-// The choice of systems. No public function has a `requires`.
+// The choice of systems. The definitions are in crate `systems`, Choice and Systems. No public function has a
+// `requires`.
 ghost use mathlib.Core.Path.{_≡_};
 ghost use mathlib.Core.Bool.{Bool, true, false, cond};
 ghost use lib.Dec.{ltb};
@@ -7,30 +8,32 @@ ghost use mathlib.Core.List.{List};
 ghost use lib.ListN.{getD, length, replicate};
 ghost use Rattle.systems.specs.Systems.{COMPONENTS, hasOf};
 ghost use Rattle.systems.specs.Choice.{NUMBERS, weights, order, allTo, presentOf, presentCount, presentIn};
-ghost use Rattle.systems.specs.Choice.{standingOf, candidatesFor, keep, takeOf, passOf, choiceFrom, chosenOf, chooseBy};
-ghost use Rattle.systems.specs.Choice.{hydrocarbonOrder, marksOf, choiceOf};
+ghost use Rattle.systems.specs.Choice.{standingOf, candidatesFor, keep, takeOf, passOf, choiceFrom, chosenOf};
+ghost use Rattle.systems.specs.Choice.{chooseBy, hydrocarbonOrder, marksOf, choiceOf};
 ghost use Rattle.choice.specs.Inner.Keys.{KEYS, Keyed, keyWeights};
 use systems::COMPONENTS;
 use systems::Choice;
 use systems::HYDROGEN;
 use systems::SYSTEMS;
 
-// The weights of the components in the fitness, times 480: two hexadecimal digits each, from the right.
+// The weights of the components in the fitness, times 480: two hexadecimal digits each, from the right. Methane has 30,
+// which is 48, ethane 4B, 75, propane 50, 80, butane 64, 100, and hydrogen 60, 96.
 const WEIGHTS: u64 = 0x6064504B30;
 
-// The order in which components take systems: hydrogen, propane, ethane, butane, methane, an octal digit each, from the
-// right.
+// The order in which components take systems, an octal digit each, from the right: hydrogen 4, propane 2, ethane 1,
+// butane 3, methane 0.
 const ORDER: u64 = 0o03124;
 
 // The components after hydrogen.
 const HYDROCARBONS: usize = 4;
 
-// The systems that can be chosen, a hexadecimal digit each, from the right, and how many there are.
+// The systems that can be chosen, 1, 2, 4, 5, 6, 7 and 8: a hexadecimal digit each, from the right; and how many there
+// are.
 const SYSTEM_NUMBERS: u64 = 0x8765421;
 
 const CANDIDATES: usize = 7;
 
-// The same where hydrogen is absent.
+// The same where hydrogen is absent: 2, 4, 7 and 8.
 const HYDROCARBON_NUMBERS: u64 = 0x8742;
 
 const HYDROCARBON_CANDIDATES: usize = 4;

@@ -1,5 +1,5 @@
-// The step of the working rule, n / d of an accumulator with its fraction dropped towards zero and the next coefficient,
-// by multiplications with n / d in binary digits in place of a division.
+// The step of the working rule, n / d of an accumulator with its fraction dropped towards zero and the next
+// coefficient, by multiplications with n / d in binary digits in place of a division.
 ghost use mathlib.Core.Path.{_≡_};
 ghost use Prim.Native.Nat.{_+_, _*_, _/_, _<_, _≤_};
 ghost use lib.IntN.{pos, natAbs};
