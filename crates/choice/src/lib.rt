@@ -99,28 +99,28 @@ fn weighted(hydrogen: bool, i: usize, c: usize, x: u32) -> u64
 }
 
 // The fitness of the candidate in place i times 480, and 1.
-fn fitness(m: [u32; COMPONENTS], hydrogen: bool, i: usize) -> u64
+fn fitness(mix: [u32; COMPONENTS], hydrogen: bool, i: usize) -> u64
     requires { ⌜ i < length (candidatesFor hydrogen) ⌝ }
-    ensures { λ r. ⌜ (r ≡ keyWeights m (getD (candidatesFor hydrogen) i 0) COMPONENTS + 1)
+    ensures { λ r. ⌜ (r ≡ keyWeights mix (getD (candidatesFor hydrogen) i 0) COMPONENTS + 1)
         × (r ≤ 429496729500 * COMPONENTS + 1) ⌝ }
 {
     let mut k: u64 = 1;
     let mut c: usize = 0;
     while c < COMPONENTS {
-        k += weighted(hydrogen, i, c, m[c]);
+        k += weighted(hydrogen, i, c, mix[c]);
         c += 1;
     }
     k
 }
 
 // The weighted parts of all components, and 1: above every fitness times 480.
-fn above(m: [u32; COMPONENTS]) -> u64
-    ensures { λ r. ⌜ (r ≡ allTo m COMPONENTS + 1) × (r ≤ 429496729500 * COMPONENTS + 1) ⌝ }
+fn above(mix: [u32; COMPONENTS]) -> u64
+    ensures { λ r. ⌜ (r ≡ allTo mix COMPONENTS + 1) × (r ≤ 429496729500 * COMPONENTS + 1) ⌝ }
 {
     let mut k: u64 = 1;
     let mut c: usize = 0;
     while c < COMPONENTS {
-        k += weigh(c, m[c]);
+        k += weigh(c, mix[c]);
         c += 1;
     }
     k
@@ -137,23 +137,23 @@ fn one_if(x: u32) -> u32
 }
 
 // The components present, a bit for each.
-fn present(m: [u32; COMPONENTS]) -> u32
-    ensures { λ r. ⌜ r ≡ presentOf m ⌝ }
+fn present(mix: [u32; COMPONENTS]) -> u32
+    ensures { λ r. ⌜ r ≡ presentOf mix ⌝ }
 {
     let mut p: u32 = 0;
     let mut c = COMPONENTS;
     while 0 < c {
         c -= 1;
-        p = p * 2 + one_if(m[c]);
+        p = p * 2 + one_if(mix[c]);
     }
     p
 }
 
 // How many components of a mixture are present.
-pub fn present_count(m: [u32; COMPONENTS]) -> u32
-    ensures { λ r. ⌜ r ≡ presentCount m ⌝ }
+pub fn present_count(mix: [u32; COMPONENTS]) -> u32
+    ensures { λ r. ⌜ r ≡ presentCount mix ⌝ }
 {
-    u32::count_ones(present(m))
+    u32::count_ones(present(mix))
 }
 
 // How many components of the candidate in place i are present.
@@ -165,25 +165,25 @@ fn count(p: u32, hydrogen: bool, i: usize) -> u32
 }
 
 // The key of the candidate in place i before it is chosen: the number present goes before the fitness.
-fn key(m: [u32; COMPONENTS], p: u32, top: u64, hydrogen: bool, i: usize) -> u64
-    requires { ⌜ (i < length (candidatesFor hydrogen)) × (p ≡ presentOf m) ⌝ }
-    requires { ⌜ (top ≡ allTo m COMPONENTS + 1) × (top ≤ 429496729500 * COMPONENTS + 1) ⌝ }
-    ensures { λ r. ⌜ r ≡ standingOf m (getD (candidatesFor hydrogen) i 0) + 1 ⌝ }
+fn key(mix: [u32; COMPONENTS], p: u32, top: u64, hydrogen: bool, i: usize) -> u64
+    requires { ⌜ (i < length (candidatesFor hydrogen)) × (p ≡ presentOf mix) ⌝ }
+    requires { ⌜ (top ≡ allTo mix COMPONENTS + 1) × (top ≤ 429496729500 * COMPONENTS + 1) ⌝ }
+    ensures { λ r. ⌜ r ≡ standingOf mix (getD (candidatesFor hydrogen) i 0) + 1 ⌝ }
 {
-    count(p, hydrogen, i) as u64 * top + fitness(m, hydrogen, i)
+    count(p, hydrogen, i) as u64 * top + fitness(mix, hydrogen, i)
 }
 
 // The keys of the candidates before one is chosen.
-fn keys_of(m: [u32; COMPONENTS], p: u32, hydrogen: bool) -> [u64; KEYS]
-    requires { ⌜ p ≡ presentOf m ⌝ }
-    ensures { λ r. ⌜ Keyed hydrogen (standingOf m) (replicate NUMBERS false) r ⌝ }
+fn keys_of(mix: [u32; COMPONENTS], p: u32, hydrogen: bool) -> [u64; KEYS]
+    requires { ⌜ p ≡ presentOf mix ⌝ }
+    ensures { λ r. ⌜ Keyed hydrogen (standingOf mix) (replicate NUMBERS false) r ⌝ }
 {
-    let top = above(m);
+    let top = above(mix);
     let n = candidates(hydrogen);
     let mut keys = [0u64; KEYS];
     let mut i: usize = 0;
     while i < n {
-        keys[i] = key(m, p, top, hydrogen, i);
+        keys[i] = key(mix, p, top, hydrogen, i);
         i += 1;
     }
     keys
@@ -273,33 +273,33 @@ fn listed(keys: [u64; KEYS], hydrogen: bool) -> Choice
 }
 
 // The choice among all candidates: the components present take one system each and then two.
-fn among_all(m: [u32; COMPONENTS], p: u32) -> Choice
-    requires { ⌜ p ≡ presentOf m ⌝ }
-    ensures { λ r. ⌜ r ≡ choiceFrom (chooseBy (standingOf m) (candidatesFor true) (keep p order)) ⌝ }
+fn among_all(mix: [u32; COMPONENTS], p: u32) -> Choice
+    requires { ⌜ p ≡ presentOf mix ⌝ }
+    ensures { λ r. ⌜ r ≡ choiceFrom (chooseBy (standingOf mix) (candidatesFor true) (keep p order)) ⌝ }
 {
-    let mut keys = keys_of(m, p, true);
+    let mut keys = keys_of(mix, p, true);
     pass(&mut keys, p, 1);
     pass(&mut keys, p, 2);
     listed(keys, true)
 }
 
 // The same among those of hydrocarbons. Of its own: compiled, each has its number of candidates as a constant.
-fn among_hydrocarbons(m: [u32; COMPONENTS], p: u32) -> Choice
-    requires { ⌜ p ≡ presentOf m ⌝ }
-    ensures { λ r. ⌜ r ≡ choiceFrom (chooseBy (standingOf m) (candidatesFor false) (keep p hydrocarbonOrder)) ⌝ }
+fn among_hydrocarbons(mix: [u32; COMPONENTS], p: u32) -> Choice
+    requires { ⌜ p ≡ presentOf mix ⌝ }
+    ensures { λ r. ⌜ r ≡ choiceFrom (chooseBy (standingOf mix) (candidatesFor false) (keep p hydrocarbonOrder)) ⌝ }
 {
-    let mut keys = keys_of(m, p, false);
+    let mut keys = keys_of(mix, p, false);
     hydrocarbon_turns(&mut keys, p);
     listed(keys, false)
 }
 
 // The systems chosen for a mixture of so many parts of each component.
-pub fn choose(m: [u32; COMPONENTS]) -> Choice
-    ensures { λ r. ⌜ r ≡ choiceOf m ⌝ }
+pub fn choose(mix: [u32; COMPONENTS]) -> Choice
+    ensures { λ r. ⌜ r ≡ choiceOf mix ⌝ }
 {
-    let p = present(m);
+    let p = present(mix);
     if (p >> HYDROGEN) % 2 == 1 {
-        return among_all(m, p);
+        return among_all(mix, p);
     }
-    among_hydrocarbons(m, p)
+    among_hydrocarbons(mix, p)
 }

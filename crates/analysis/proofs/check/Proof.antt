@@ -38,7 +38,10 @@ array-copy-out-fault-at : tie.Need-array-copy-out-fault-at Inv-loop μ-loop
 array-copy-out-fault-at c = search needs
 
 fault-at-requires : tie.Need-fault-at-requires Inv-loop μ-loop
-fault-at-requires c κs = let h : c .before .before .before .loop .code - 1 < CODES = search needs in (h, range-at _ h .0, range-at _ h .1)
+fault-at-requires c κs =
+    let h : c .before .before .before .loop .code - 1 < CODES = search needs in
+    let r = range-at _ h in
+    (h, r .0, r .1)
 
 loop-less : tie.Need-loop-less Inv-loop μ-loop
 loop-less c = search needs

@@ -51,7 +51,8 @@ returns-2 : tie.Need-returns-2
 returns-2 c =
     let t = c .before .enum-told3 .given .1 in
     let k = c .before .before .before in
-    answer-codes _ _ _ _ _ (both (k .before)) _ _ _ (sym (k .codes .ensures) ∙ t) (c .refused .ensures ∙ ap refusedSheet t)
+    answer-codes _ _ _ _ _ (both (k .before)) _ _ _ (sym (k .codes .ensures) ∙ t)
+    (c .refused .ensures ∙ ap refusedSheet t)
 
 amounts-requires : tie.Need-amounts-requires
 amounts-requires c κs =
