@@ -5,15 +5,14 @@ use mathlib.Core.List.{List}
 use Prim.Native.Nat.{ℕ, _≤_, _<_}
 use native.Mathlib.Nat as N
 use native.Mathlib.Omega.{arith}
-use lib.ListN.{length}
 use lib.IntN.{ℤ, natAbs}
 use Rattle.integer.specs.Figures.{MILLION}
 use Rattle.integer.specs.Fraction.{Within}
 use Rattle.split.specs.Fold.{sumTo}
-use Rattle.split.specs.Split.{CELLS, partsOf, Chosen, Sound}
+use Rattle.split.specs.Split.{partsOf, Chosen}
 use Rattle.split.specs.Rating.{ratingOf, proposedOf}
 use Rattle.split.specs.Laws.Clean.{Clean}
-use Rattle.split.specs.Exact.{NoneEmpty, exactRating}
+use Rattle.split.specs.Exact.{exactRating}
 use Rattle.split.specs.Laws.Exact.{rating-within}
 use Rattle.split.specs.Fits.{Resums, Fit}
 use Rattle.split.specs.Rated.{IsRated, rated-fit, rated-is}
@@ -22,11 +21,6 @@ use Rattle.split.specs.Laws.Size.{spread-small, rating-small}
 use Rattle.split.specs.declared.Answer.the-variants.{Rated}
 
 module _ (ch : List ℕ) (k : ℕ) (mix a : List ℕ) (chosen : Chosen ch k) where
-  -- cells that re-sum to a million parts at most, with no system empty, can be worked out
-  pub fit-sound : length a ≡ CELLS → totalOf mix ≤ MILLION → Resums mix k a → NoneEmpty ch k a → Sound ch k a
-  fit-sound long few sums some =
-      record { stock = record { chosen = chosen; long = long; few = rw (resummed mix k a sums) few }; some = some }
-
   pub fit-few : totalOf mix ≤ MILLION → Resums mix k a → sumTo (partsOf ch a) k ≤ MILLION
   fit-few few sums = omega (arith, parts-le ch k a chosen, resummed mix k a sums)
 

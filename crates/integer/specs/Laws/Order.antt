@@ -140,15 +140,6 @@ pub <ℤ-more : (a : ℤ) {n : ℕ} → 0 < n → a <ℤ (a +ℤ pos n)
 by-more : {a b : ℤ} (n : ℕ) → 0 < n → b ≡ a +ℤ pos n → a <ℤ b
 by-more {a} {b} n h e = subst (λ (x : ℤ). a <ℤ x) (sym e) (<ℤ-more a h)
 
-pub <ℤ-≤ℤ : {a b : ℤ} → a <ℤ b → a ≤ℤ b
-<ℤ-≤ℤ h = let (n, p, e) = <ℤ-diff h in by-diff n e
-
-pub ≤ℤ-<ℤ-trans : {a b c : ℤ} → a ≤ℤ b → b <ℤ c → a <ℤ c
-≤ℤ-<ℤ-trans {a} {b} {c} h k =
-    let (m, p) = ≤ℤ-diff h in
-    let (n, s, q) = <ℤ-diff k in
-    by-more (m + n) (omega arith) (q ∙ ap (λ (x : ℤ). x +ℤ pos n) p ∙ +ℤ-assoc a (pos m) (pos n))
-
 pub <ℤ-+ : {a b : ℤ} (c : ℤ) → a <ℤ b → (a +ℤ c) <ℤ (b +ℤ c)
 <ℤ-+ {a} {b} c h = let (m, s, p) = <ℤ-diff h in by-more m s (ap (λ (x : ℤ). x +ℤ c) p ∙ swap a (pos m) c)
 

@@ -26,10 +26,11 @@ answer-of-requires c κs =
 
 returns-2 : tie.Need-returns-2
 returns-2 c =
-    let b = c .before .before .before .before .before .before .before .before .before in
-    split-fitting _ _ _ _ (b .args .split) _ (c .before .before .before .before .fits2 .ensures) _ _ _ (b .pre .0)
-    (c .before .before .before .if1 .left) (c .before .before .cells-of .ensures) (c .before .proposed .ensures)
-    (c .answer-of .ensures)
+    let t = c .before .before .before in
+    let f = t .before in
+    let b = f .before .before .before .before .before in
+    split-fitting _ _ _ _ (b .args .split) _ (f .fits2 .ensures) _ _ _ (b .pre .0) (t .if1 .left)
+    (c .before .before .cells-of .ensures) (c .before .proposed .ensures) (c .answer-of .ensures)
 
 pub split-by-spec : {M : Type 1} → statement M
 split-by-spec =
