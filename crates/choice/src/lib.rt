@@ -10,7 +10,7 @@ ghost use Rattle.systems.specs.Systems.{COMPONENTS, hasOf};
 ghost use Rattle.systems.specs.Choice.{NUMBERS, weights, order, allTo, presentOf, presentCount, presentIn};
 ghost use Rattle.systems.specs.Choice.{standingOf, candidatesFor, keep, takeOf, passOf, choiceFrom, chosenOf};
 ghost use Rattle.systems.specs.Choice.{chooseBy, hydrocarbonOrder, marksOf, choiceOf};
-ghost use Rattle.choice.specs.Inner.Keys.{KEYS, Keyed, keyWeights};
+ghost use Rattle.choice.specs.Inner.Keys.{candidateAt, MOST_WEIGHTED, KEYS, Keyed, keyWeights};
 use systems::COMPONENTS;
 use systems::Choice;
 use systems::HYDROGEN;
@@ -54,7 +54,7 @@ fn candidates(hydrogen: bool) -> usize
 // The number of the candidate in place i.
 fn number(hydrogen: bool, i: usize) -> u8
     requires { ⌜ i < length (candidatesFor hydrogen) ⌝ }
-    ensures { λ r. ⌜ r ≡ getD (candidatesFor hydrogen) i 0 ⌝ }
+    ensures { λ r. ⌜ r ≡ candidateAt hydrogen i ⌝ }
 {
     if hydrogen {
         return ((SYSTEM_NUMBERS >> (i * 4)) % 16) as u8;
@@ -73,7 +73,7 @@ fn ordered(i: usize) -> usize
 // Whether the candidate in place i contains component c.
 fn contains(hydrogen: bool, i: usize, c: usize) -> bool
     requires { ⌜ (i < length (candidatesFor hydrogen)) × (c < COMPONENTS) ⌝ }
-    ensures { λ r. ⌜ r ≡ hasOf (getD (candidatesFor hydrogen) i 0) c ⌝ }
+    ensures { λ r. ⌜ r ≡ hasOf (candidateAt hydrogen i) c ⌝ }
 {
     systems::has(number(hydrogen, i), c)
 }
@@ -81,7 +81,7 @@ fn contains(hydrogen: bool, i: usize, c: usize) -> bool
 // The weight of component c times its parts x.
 fn weigh(c: usize, x: u32) -> u64
     requires { ⌜ c < COMPONENTS ⌝ }
-    ensures { λ r. ⌜ (r ≡ getD weights c 0 * x) × (r ≤ 429496729500) ⌝ }
+    ensures { λ r. ⌜ (r ≡ getD weights c 0 * x) × (r ≤ MOST_WEIGHTED) ⌝ }
 {
     (WEIGHTS >> (c * 8)) % 256 * x as u64
 }
@@ -89,8 +89,7 @@ fn weigh(c: usize, x: u32) -> u64
 // The same where the candidate in place i contains it.
 fn weighted(hydrogen: bool, i: usize, c: usize, x: u32) -> u64
     requires { ⌜ (i < length (candidatesFor hydrogen)) × (c < COMPONENTS) ⌝ }
-    ensures { λ r. ⌜ (r ≡ cond (hasOf (getD (candidatesFor hydrogen) i 0) c) (getD weights c 0 * x) 0)
-        × (r ≤ 429496729500) ⌝ }
+    ensures { λ r. ⌜ (r ≡ cond (hasOf (candidateAt hydrogen i) c) (getD weights c 0 * x) 0) × (r ≤ MOST_WEIGHTED) ⌝ }
 {
     if contains(hydrogen, i, c) {
         return weigh(c, x);
@@ -101,8 +100,8 @@ fn weighted(hydrogen: bool, i: usize, c: usize, x: u32) -> u64
 // The fitness of the candidate in place i times 480, and 1.
 fn fitness(mix: [u32; COMPONENTS], hydrogen: bool, i: usize) -> u64
     requires { ⌜ i < length (candidatesFor hydrogen) ⌝ }
-    ensures { λ r. ⌜ (r ≡ keyWeights mix (getD (candidatesFor hydrogen) i 0) COMPONENTS + 1)
-        × (r ≤ 429496729500 * COMPONENTS + 1) ⌝ }
+    ensures { λ r. ⌜ (r ≡ keyWeights mix (candidateAt hydrogen i) COMPONENTS + 1)
+        × (r ≤ MOST_WEIGHTED * COMPONENTS + 1) ⌝ }
 {
     let mut k: u64 = 1;
     let mut c: usize = 0;
@@ -115,7 +114,7 @@ fn fitness(mix: [u32; COMPONENTS], hydrogen: bool, i: usize) -> u64
 
 // The weighted parts of all components, and 1: above every fitness times 480.
 fn above(mix: [u32; COMPONENTS]) -> u64
-    ensures { λ r. ⌜ (r ≡ allTo mix COMPONENTS + 1) × (r ≤ 429496729500 * COMPONENTS + 1) ⌝ }
+    ensures { λ r. ⌜ (r ≡ allTo mix COMPONENTS + 1) × (r ≤ MOST_WEIGHTED * COMPONENTS + 1) ⌝ }
 {
     let mut k: u64 = 1;
     let mut c: usize = 0;
@@ -159,7 +158,7 @@ pub fn present_count(mix: [u32; COMPONENTS]) -> u32
 // How many components of the candidate in place i are present.
 fn count(p: u32, hydrogen: bool, i: usize) -> u32
     requires { ⌜ i < length (candidatesFor hydrogen) ⌝ }
-    ensures { λ r. ⌜ (r ≡ presentIn p (getD (candidatesFor hydrogen) i 0)) × (r ≤ COMPONENTS) ⌝ }
+    ensures { λ r. ⌜ (r ≡ presentIn p (candidateAt hydrogen i)) × (r ≤ COMPONENTS) ⌝ }
 {
     u32::count_ones(systems::mask(number(hydrogen, i)) & p)
 }
@@ -167,8 +166,8 @@ fn count(p: u32, hydrogen: bool, i: usize) -> u32
 // The key of the candidate in place i before it is chosen: the number present goes before the fitness.
 fn key(mix: [u32; COMPONENTS], p: u32, top: u64, hydrogen: bool, i: usize) -> u64
     requires { ⌜ (i < length (candidatesFor hydrogen)) × (p ≡ presentOf mix) ⌝ }
-    requires { ⌜ (top ≡ allTo mix COMPONENTS + 1) × (top ≤ 429496729500 * COMPONENTS + 1) ⌝ }
-    ensures { λ r. ⌜ r ≡ standingOf mix (getD (candidatesFor hydrogen) i 0) + 1 ⌝ }
+    requires { ⌜ (top ≡ allTo mix COMPONENTS + 1) × (top ≤ MOST_WEIGHTED * COMPONENTS + 1) ⌝ }
+    ensures { λ r. ⌜ r ≡ standingOf mix (candidateAt hydrogen i) + 1 ⌝ }
 {
     count(p, hydrogen, i) as u64 * top + fitness(mix, hydrogen, i)
 }

@@ -41,7 +41,7 @@ use systems::Choice;
 const LIMIT: u64 = 500000;
 
 // The level of the first stride, 65536 = 2^16.
-const LEVEL: usize = 16;
+const FIRST_LEVEL: usize = 16;
 
 // The most rounds of a search.
 const ROUNDS: u32 = 4000;
@@ -98,7 +98,7 @@ pub fn rate_by_search(analysis: Analysis, allowance: u32) -> Outcome
                 choice,
                 mix,
                 inert,
-                search::find(mix, choice, LIMIT, LEVEL, at_most(allowance)),
+                search::find(mix, choice, LIMIT, FIRST_LEVEL, at_most(allowance)),
             )
         }
     }
