@@ -25,17 +25,16 @@ pub const FIGURES: usize = 3;
 
 // The rating of a sheet, with figures that fit.
 fn rated(sheet: &[u8]) -> Outcome
-    ensures { λ r. ⌜ (r ≡ sheetOutcome (now (sheet .entry)) (faultOf (r .answer)))
-        × (numberOf (r .answer) ≡ 5 → FaultInSheet (now (sheet .entry)) (faultOf (r .answer)))
-        × SmallFigures (r .answer) ⌝ }
+    ensures { λ r. let answer = r .answer in ⌜ (r ≡ sheetOutcome (now (sheet .entry)) (faultOf answer))
+        × (numberOf answer ≡ 5 → FaultInSheet (now (sheet .entry)) (faultOf answer)) × SmallFigures answer ⌝ }
 {
     rating::rate_sheet(sheet)
 }
 
 // The rating by the search, with figures that fit.
 fn searched(amounts: [u32; CODES], allowance: u32) -> Outcome
-    ensures { λ r. ⌜ (r ≡ searchOutcome amounts allowance (faultOf (r .answer)))
-        × (numberOf (r .answer) ≡ 5 → AtFault amounts (faultOf (r .answer))) × SmallFigures (r .answer) ⌝ }
+    ensures { λ r. let answer = r .answer in ⌜ (r ≡ searchOutcome amounts allowance (faultOf answer))
+        × (numberOf answer ≡ 5 → AtFault amounts (faultOf answer)) × SmallFigures answer ⌝ }
 {
     rating::rate_by_search(Analysis { amounts }, allowance)
 }

@@ -239,6 +239,10 @@ fn read_case(bytes: &[u8], faults: u16) {
     put(b"\n");
 }
 
+fn wide(x: u8) -> usize {
+    x as usize
+}
+
 fn join(a: u8, b: u8, c: u8, d: u8) -> u32 {
     a as u32 * 16777216 + b as u32 * 65536 + c as u32 * 256 + d as u32
 }
@@ -279,7 +283,7 @@ fn split_of(bytes: &[u8]) -> Split
         i += 1;
     }
     Split {
-        count: bytes[AMOUNT_BYTES] as usize,
+        count: wide(bytes[AMOUNT_BYTES]),
         systems,
         codes,
         amounts,

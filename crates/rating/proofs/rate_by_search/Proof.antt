@@ -9,6 +9,10 @@ use borrow.Author.Needs.{needs}
 use Rattle.rating.proofs.rate_by_search.Statement.{statement}
 use Rattle.rating.proofs.rate_by_search.Tie as tie
 
+-- the analysis has an amount for each code
+long : (b : tie.After-simplify) → length (b .before .args .analysis .amounts) ≡ CODES
+long b = search needs
+
 simplify-requires : tie.Need-simplify-requires
 simplify-requires c κs = search needs
 
@@ -33,7 +37,7 @@ returns c =
     let t = n .before in
     let b = t .before .before .before .before in
     let a = b .before .args .analysis .amounts in
-    let l : length a ≡ CODES = search needs in
+    let l = long b in
     let s = b .simplify .ensures in
     let p = in-range _ _ (s .0) (t .enum-told .given .1) in
     search-away-is _ _ _ _ _
@@ -56,7 +60,7 @@ found-outcome-requires c κs =
     let t = n .before in
     let b = t .before .before .before .before in
     let a = b .before .args .analysis .amounts in
-    let l : length a ≡ CODES = search needs in
+    let l = long b in
     let s = b .simplify .ensures in
     let p = in-range _ _ (s .0) (t .enum-told .given .1) in
     let on = count-enough a l p _ _ (s .1 .0) (n .present-count .ensures) (omega (arith, h .before .if1 .left)) in (
@@ -79,7 +83,7 @@ returns-3 c =
     let t = n .before in
     let b = t .before .before .before .before in
     let a = b .before .args .analysis .amounts in
-    let l : length a ≡ CODES = search needs in
+    let l = long b in
     let s = b .simplify .ensures in
     let p = in-range _ _ (s .0) (t .enum-told .given .1) in
     let on = count-enough a l p _ _ (s .1 .0) (n .present-count .ensures) (omega (arith, h .before .if1 .left)) in

@@ -9,6 +9,10 @@ use borrow.Author.Needs.{needs}
 use Rattle.rating.proofs.rate_split.Statement.{statement}
 use Rattle.rating.proofs.rate_split.Tie as tie
 
+-- the analysis has an amount for each code
+long : (b : tie.After-simplify) → length (b .before .args .analysis .amounts) ≡ CODES
+long b = search needs
+
 simplify-requires : tie.Need-simplify-requires
 simplify-requires c κs = search needs
 
@@ -26,7 +30,7 @@ returns c =
     let t = c .before .before in
     let b = t .before .before .before .before in
     let a = b .before .args .analysis .amounts in
-    let l : length a ≡ CODES = search needs in
+    let l = long b in
     let s = b .simplify .ensures in
     let p = in-range _ _ (s .0) (t .enum-told .given .1) in
     let w = count-few a l p _ _ (s .1 .0) (c .before .present-count .ensures) (omega (arith, c .if1 .taken)) in
@@ -41,7 +45,7 @@ split-by-requires c κs =
     let t = n .before in
     let b = t .before .before .before .before in
     let a = b .before .args .analysis .amounts in
-    let l : length a ≡ CODES = search needs in
+    let l = long b in
     let s = b .simplify .ensures in
     let p = in-range _ _ (s .0) (t .enum-told .given .1) in
     let on = count-enough a l p _ _ (s .1 .0) (n .present-count .ensures) (omega (arith, c .before .if1 .left)) in (
@@ -63,7 +67,7 @@ returns-3 c =
     let t = n .before in
     let b = t .before .before .before .before in
     let a = b .before .args .analysis .amounts in
-    let l : length a ≡ CODES = search needs in
+    let l = long b in
     let s = b .simplify .ensures in
     let p = in-range _ _ (s .0) (t .enum-told .given .1) in
     let on = count-enough a l p _ _ (s .1 .0) (n .present-count .ensures) (omega (arith, h .before .if1 .left)) in
