@@ -3,60 +3,54 @@
 use mathlib.Core.Path.{_≡_, refl, sym, _∙_}
 use mathlib.Core.Bool.{Bool, true, false, not, _&&_, _||_, cond}
 use mathlib.Core.List.{List, [], _∷_}
-use Prim.Native.Nat.{ℕ, _+_, _*_, _/_, _%_, _<_, _≤_}
+use Prim.Native.Nat.{ℕ, _<_, _≤_}
 use native.Mathlib.Omega.{arith}
 use lib.Dec.{eqb, leb, eqb→eq, leb→le}
-use lib.ListN.{getD}
+use lib.ListN.{getD, replicate}
 use borrow.Author.Tests.{eqb-true, leb-true}
 use Rattle.analysis.specs.Register.{CODES, statusOf}
 use Rattle.analysis.specs.Laws.Table.{at, same, same-eq}
 use Rattle.analysis.specs.Check.{leastOf, greatestOf, requiredOf, inRange}
-use Rattle.analysis.specs.Inner.Packed.{rangeOf}
 
-abbrev range : ℕ → ℕ → ℕ
-range greatest least = greatest * 4294967296 + least
-
-abbrev ranges : List ℕ
+abbrev ranges : List (List ℕ)
 ranges =
-    range 0 1 ∷ range 999700 400000 ∷ range 150000 100 ∷ range 60000 100 ∷ range 40000 10 ∷ range 40000 10
-        ∷ range 500 10 ∷
-    range 20000 10 ∷ range 20000 10 ∷ range 0 1 ∷ range 15000 10 ∷ range 100000 50 ∷ range 150000 50 ∷ range 0 1 ∷
-    range 0 1 ∷ range 100000 10 ∷ []
+    (1 ∷ 0 ∷ []) ∷ (400000 ∷ 999700 ∷ []) ∷ (100 ∷ 150000 ∷ []) ∷ (100 ∷ 60000 ∷ []) ∷ (10 ∷ 40000 ∷ []) ∷
+    (10 ∷ 40000 ∷ []) ∷ (10 ∷ 500 ∷ []) ∷ (10 ∷ 20000 ∷ []) ∷ (10 ∷ 20000 ∷ []) ∷ (1 ∷ 0 ∷ []) ∷ (10 ∷ 15000 ∷ []) ∷
+    (50 ∷ 100000 ∷ []) ∷ (50 ∷ 150000 ∷ []) ∷ (1 ∷ 0 ∷ []) ∷ (1 ∷ 0 ∷ []) ∷ (10 ∷ 100000 ∷ []) ∷ []
 
-pub range-at : (k : ℕ) → k < CODES → getD ranges k 0 ≡ rangeOf k
+-- a place for each code
+abbrev codes : List ℕ
+codes = replicate CODES 0
+
+pub range-at : (k : ℕ) → k < CODES
+    → (getD (getD ranges k []) 0 0 ≡ leastOf k) × (getD (getD ranges k []) 1 0 ≡ greatestOf k)
 unfolding statusOf
-range-at k h = eqb→eq (getD ranges k 0) (rangeOf k) (at (λ i x. eqb x (rangeOf i)) ranges tt k h)
+range-at k h = (
+  eqb→eq _ _ (at (λ i _. eqb (getD (getD ranges i []) 0 0) (leastOf i)) codes tt k h),
+  eqb→eq _ _ (at (λ i _. eqb (getD (getD ranges i []) 1 0) (greatestOf i)) codes tt k h),
+)
 
 or-false : (b : Bool) → (b || false) ≡ b
 or-false true = refl
 or-false false = refl
 
-module _ (k x range : ℕ) (h : k < CODES) (e : range ≡ rangeOf k) where
-  least-is : range % 4294967296 ≡ leastOf k
-  unfolding statusOf
-  least-is =
-      rw e (eqb→eq (rangeOf k % 4294967296) (leastOf k)
-      (at (λ i y. eqb (rangeOf i % 4294967296) (leastOf i)) ranges tt k h))
-
-  greatest-is : range / 4294967296 ≡ greatestOf k
-  unfolding statusOf
-  greatest-is =
-      rw e (eqb→eq (rangeOf k / 4294967296) (greatestOf k)
-      (at (λ i y. eqb (rangeOf i / 4294967296) (greatestOf i)) ranges tt k h))
-
+module _ (k x least greatest : ℕ) (h : k < CODES) (e : (least ≡ leastOf k) × (greatest ≡ greatestOf k)) where
   least-some : 1 ≤ leastOf k
   unfolding statusOf
-  least-some = leb→le 1 (leastOf k) (at (λ i y. leb 1 (leastOf i)) ranges tt k h)
+  least-some = leb→le 1 (leastOf k) (at (λ i _. leb 1 (leastOf i)) codes tt k h)
 
   required-is : not (eqb k 1) ≡ not (requiredOf k)
   unfolding statusOf
   required-is =
-      same-eq (not (eqb k 1)) (not (requiredOf k)) (at (λ i y. same (not (eqb i 1)) (not (requiredOf i))) ranges tt k h)
+      same-eq (not (eqb k 1)) (not (requiredOf k)) (at (λ i _. same (not (eqb i 1)) (not (requiredOf i))) codes tt k h)
 
-  tested : ((eqb x 0 && not (eqb k 1)) || (leb (range % 4294967296) x && leb x (range / 4294967296))) ≡ inRange k x
+  abbrev fits : Bool
+  fits = (eqb x 0 && not (eqb k 1)) || (leb least x && leb x greatest)
+
+  tested : fits ≡ inRange k x
   unfolding inRange
   tested =
-      rw (least-is, greatest-is, required-is)
+      rw (e .0, e .1, required-is)
       (go (not (requiredOf k)) (leb x (greatestOf k)) (eqb x 0) (leb (leastOf k) x) refl refl)
     where
       go : (a c t u : Bool) → eqb x 0 ≡ t → leb (leastOf k) x ≡ u → ((t && a) || (u && c)) ≡ cond t a (cond u c false)
@@ -66,11 +60,8 @@ module _ (k x range : ℕ) (h : k < CODES) (e : range ≡ rangeOf k) where
       go a c false false p q = refl
 
   -- the code at fault, by the test
-  pub fault-before : (fault : ℕ)
-      → ((eqb x 0 && not (eqb k 1)) || (leb (range % 4294967296) x && leb x (range / 4294967296))) ≡ true
-      → fault ≡ cond (inRange k x) fault k
+  pub fault-before : (fault : ℕ) → fits ≡ true → fault ≡ cond (inRange k x) fault k
   fault-before fault t = rw (sym tested ∙ t)
 
-  pub fault-here : (fault : ℕ) → ((eqb x 0 && not (eqb k 1))
-      || (leb (range % 4294967296) x && leb x (range / 4294967296))) ≡ false → k ≡ cond (inRange k x) fault k
+  pub fault-here : (fault : ℕ) → fits ≡ false → k ≡ cond (inRange k x) fault k
   fault-here fault t = rw (sym tested ∙ t)

@@ -3,5 +3,4 @@ pub mod CheckedCases
 pub mod Check
 pub mod Required
 pub mod Examples
-pub mod Inner
 pub mod Laws

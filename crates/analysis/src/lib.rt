@@ -4,10 +4,10 @@ ghost use mathlib.Core.Bool.{cond};
 ghost use mathlib.Core.Path.{_≡_};
 ghost use Prim.Native.Nat.{_+_, _<_, _≤_};
 ghost use lib.Dec.{eqb};
+ghost use lib.ListN.{getD};
 ghost use Rattle.analysis.specs.Register.{CODES};
-ghost use Rattle.analysis.specs.Inner.Packed.{rangeOf};
-ghost use Rattle.analysis.specs.CheckedCases.{numberOf, faultOf};
-ghost use Rattle.analysis.specs.Check.{inRange, totalFits, refusalByTests, analysisRefusal, checkedOf, AtFault};
+ghost use Rattle.analysis.specs.Check.{leastOf, greatestOf, inRange, totalFits, refusalByTests};
+ghost use Rattle.analysis.specs.Check.{checkedOf, Checking};
 use refusal::OUT_OF_RANGE;
 use refusal::TOTAL;
 
@@ -25,38 +25,51 @@ pub enum Checked {
     Refused { number: u32, code: u32 },
 }
 
-// The range of each code in one number: the greatest amount times this, and the least amount.
-const ABOVE: u64 = 4294967296;
-
-// The ranges by code; one that may have no amount has the least 1 and the greatest 0.
-const RANGES: [u64; CODES] = [
-    1,
-    999700 * ABOVE + 400000,
-    150000 * ABOVE + 100,
-    60000 * ABOVE + 100,
-    40000 * ABOVE + 10,
-    40000 * ABOVE + 10,
-    500 * ABOVE + 10,
-    20000 * ABOVE + 10,
-    20000 * ABOVE + 10,
-    1,
-    15000 * ABOVE + 10,
-    100000 * ABOVE + 50,
-    150000 * ABOVE + 50,
-    1,
-    1,
-    100000 * ABOVE + 10,
+// The least and the greatest amount of each code, as 001 Table 1 has them; 1 and 0, which no amount lies between, where
+// it may have none.
+const RANGES: [[u32; 2]; CODES] = [
+    // 0, no code
+    [1, 0],
+    // 1, methane
+    [400000, 999700],
+    // 2, ethane
+    [100, 150000],
+    // 3, propane
+    [100, 60000],
+    // 4, i-butane
+    [10, 40000],
+    // 5, n-butane
+    [10, 40000],
+    // 6, neo-pentane
+    [10, 500],
+    // 7, i-pentane
+    [10, 20000],
+    // 8, n-pentane
+    [10, 20000],
+    // 9, retired
+    [1, 0],
+    // 10, hexanes+
+    [10, 15000],
+    // 11, carbon dioxide
+    [50, 100000],
+    // 12, nitrogen
+    [50, 150000],
+    // 13, retired
+    [1, 0],
+    // 14, butanes of a split
+    [1, 0],
+    // 15, hydrogen
+    [10, 100000],
 ];
 
 // The code where its amount is out of its range, else the code at fault so far. 0 is in range where the code may be
 // absent: all but 1.
-fn fault_at(code: usize, amount: u32, range: u64, fault: usize) -> usize
-    requires { ⌜ (code < CODES) × (range ≡ rangeOf code) ⌝ }
+fn fault_at(code: usize, amount: u32, range: [u32; 2], fault: usize) -> usize
+    requires { ⌜ (code < CODES) × (getD range 0 0 ≡ leastOf code) × (getD range 1 0 ≡ greatestOf code) ⌝ }
     ensures { λ r. ⌜ r ≡ cond (inRange code amount) fault code ⌝ }
 {
-    let x = amount as u64;
-    let absent = (x == 0) & (code != 1);
-    let fits = absent | ((range % ABOVE <= x) & (x <= range / ABOVE));
+    let absent = (amount == 0) & (code != 1);
+    let fits = absent | ((range[0] <= amount) & (amount <= range[1]));
     if fits { fault } else { code }
 }
 
@@ -104,11 +117,10 @@ fn answer(fault: usize, sum: u64) -> Checked
 
 // Is the analysis in range, or with which number is it refused? One walk from the last code to the first finds the
 // lowest code at fault, CODES where there is none, and the total.
-pub fn check(a: Analysis) -> Checked
-    ensures { λ r. ⌜ r ≡ checkedOf (analysisRefusal (a .amounts)) (faultOf r) ⌝ }
-    ensures { λ r. ⌜ (numberOf r ≡ 5 → AtFault (a .amounts) (faultOf r)) ⌝ }
+pub fn check(analysis: Analysis) -> Checked
+    ensures { λ r. ⌜ Checking (analysis .amounts) r ⌝ }
 {
-    let amounts = a.amounts;
+    let amounts = analysis.amounts;
     let ranges = RANGES;
     let mut fault: usize = CODES;
     let mut sum: u64 = 0;

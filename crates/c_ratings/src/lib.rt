@@ -3,9 +3,8 @@
 //
 // No public function has a `requires`.
 ghost use mathlib.Core.Path.{_≡_};
-ghost use lib.ListN.{getD};
 ghost use Rattle.analysis.specs.Check.{AtFault};
-ghost use Rattle.sheet.specs.Read.{FaultIn};
+ghost use Rattle.sheet.specs.Read.{FaultInSheet};
 ghost use Rattle.split.specs.AnswerCases.{numberOf, faultOf, figuresOf, bufferOf};
 ghost use Rattle.outcome.specs.Rate.{splitAnswer, searchOutcome, sheetOutcome};
 ghost use Rattle.demand.specs.Small.{SmallFigures};
@@ -26,17 +25,16 @@ pub const FIGURES: usize = 3;
 
 // The rating of a sheet, with figures that fit.
 fn rated(sheet: &[u8]) -> Outcome
-    ensures { λ r. ⌜ (r ≡ sheetOutcome (now (sheet .entry)) (faultOf (r .answer)))
-        × (numberOf (r .answer) ≡ 5 → FaultIn (getD (now (sheet .entry)) 0 0) (now (sheet .entry)) (faultOf (r .answer)))
-        × SmallFigures (r .answer) ⌝ }
+    ensures { λ r. let answer = r .answer in ⌜ (r ≡ sheetOutcome (now (sheet .entry)) (faultOf answer))
+        × (numberOf answer ≡ 5 → FaultInSheet (now (sheet .entry)) (faultOf answer)) × SmallFigures answer ⌝ }
 {
     rating::rate_sheet(sheet)
 }
 
 // The rating by the search, with figures that fit.
 fn searched(amounts: [u32; CODES], allowance: u32) -> Outcome
-    ensures { λ r. ⌜ (r ≡ searchOutcome amounts allowance (faultOf (r .answer)))
-        × (numberOf (r .answer) ≡ 5 → AtFault amounts (faultOf (r .answer))) × SmallFigures (r .answer) ⌝ }
+    ensures { λ r. let answer = r .answer in ⌜ (r ≡ searchOutcome amounts allowance (faultOf answer))
+        × (numberOf answer ≡ 5 → AtFault amounts (faultOf answer)) × SmallFigures answer ⌝ }
 {
     rating::rate_by_search(Analysis { amounts }, allowance)
 }
@@ -75,12 +73,13 @@ fn put_outcome(
     parts: &mut [u32; RECORDS],
 ) -> Reply
     requires { ⌜ SmallFigures (x .answer) ⌝ }
-    ensures { λ r. ⌜ (r ≡ replyOf (x .answer))
-        × (now (figures .exit) ≡ figuresOf (x .answer) (now (figures .entry)))
-        × (now (count .exit) ≡ bufferOf (x .answer) (x .split .count) (now (count .entry)))
-        × (now (systems .exit) ≡ bufferOf (x .answer) (x .split .systems) (now (systems .entry)))
-        × (now (codes .exit) ≡ bufferOf (x .answer) (x .split .codes) (now (codes .entry)))
-        × (now (parts .exit) ≡ bufferOf (x .answer) (x .split .amounts) (now (parts .entry))) ⌝ }
+    ensures { λ r. let answer = x .answer in
+        let split = x .split in ⌜ (r ≡ replyOf answer)
+        × (now (figures .exit) ≡ figuresOf answer (now (figures .entry)))
+        × (now (count .exit) ≡ bufferOf answer (split .count) (now (count .entry)))
+        × (now (systems .exit) ≡ bufferOf answer (split .systems) (now (systems .entry)))
+        × (now (codes .exit) ≡ bufferOf answer (split .codes) (now (codes .entry)))
+        × (now (parts .exit) ≡ bufferOf answer (split .amounts) (now (parts .entry))) ⌝ }
 {
     let answer = x.answer;
     let split = x.split;
@@ -98,13 +97,15 @@ pub fn rate_sheet(
     codes: &mut [u8; RECORDS],
     parts: &mut [u32; RECORDS],
 ) -> Reply
-    ensures { λ r. let x = sheetOutcome (now (sheet .entry)) (codeIn r) in ⌜ (r ≡ replyOf (x .answer))
-        × (now (figures .exit) ≡ figuresOf (x .answer) (now (figures .entry)))
-        × (now (count .exit) ≡ bufferOf (x .answer) (x .split .count) (now (count .entry)))
-        × (now (systems .exit) ≡ bufferOf (x .answer) (x .split .systems) (now (systems .entry)))
-        × (now (codes .exit) ≡ bufferOf (x .answer) (x .split .codes) (now (codes .entry)))
-        × (now (parts .exit) ≡ bufferOf (x .answer) (x .split .amounts) (now (parts .entry))) ⌝ }
-    ensures { λ r. ⌜ (r .number ≡ 5 → FaultIn (getD (now (sheet .entry)) 0 0) (now (sheet .entry)) (codeIn r)) ⌝ }
+    ensures { λ r. let x = sheetOutcome (now (sheet .entry)) (codeIn r) in
+        let answer = x .answer in
+        let split = x .split in ⌜ (r ≡ replyOf answer)
+        × (now (figures .exit) ≡ figuresOf answer (now (figures .entry)))
+        × (now (count .exit) ≡ bufferOf answer (split .count) (now (count .entry)))
+        × (now (systems .exit) ≡ bufferOf answer (split .systems) (now (systems .entry)))
+        × (now (codes .exit) ≡ bufferOf answer (split .codes) (now (codes .entry)))
+        × (now (parts .exit) ≡ bufferOf answer (split .amounts) (now (parts .entry))) ⌝ }
+    ensures { λ r. ⌜ (r .number ≡ 5 → FaultInSheet (now (sheet .entry)) (codeIn r)) ⌝ }
 {
     let outcome = rated(sheet);
     put_outcome(outcome, figures, count, systems, codes, parts)
@@ -120,12 +121,14 @@ pub fn rate_by_search(
     codes: &mut [u8; RECORDS],
     parts: &mut [u32; RECORDS],
 ) -> Reply
-    ensures { λ r. let x = searchOutcome (now (amounts .entry)) allowance (codeIn r) in ⌜ (r ≡ replyOf (x .answer))
-        × (now (figures .exit) ≡ figuresOf (x .answer) (now (figures .entry)))
-        × (now (count .exit) ≡ bufferOf (x .answer) (x .split .count) (now (count .entry)))
-        × (now (systems .exit) ≡ bufferOf (x .answer) (x .split .systems) (now (systems .entry)))
-        × (now (codes .exit) ≡ bufferOf (x .answer) (x .split .codes) (now (codes .entry)))
-        × (now (parts .exit) ≡ bufferOf (x .answer) (x .split .amounts) (now (parts .entry))) ⌝ }
+    ensures { λ r. let x = searchOutcome (now (amounts .entry)) allowance (codeIn r) in
+        let answer = x .answer in
+        let split = x .split in ⌜ (r ≡ replyOf answer)
+        × (now (figures .exit) ≡ figuresOf answer (now (figures .entry)))
+        × (now (count .exit) ≡ bufferOf answer (split .count) (now (count .entry)))
+        × (now (systems .exit) ≡ bufferOf answer (split .systems) (now (systems .entry)))
+        × (now (codes .exit) ≡ bufferOf answer (split .codes) (now (codes .entry)))
+        × (now (parts .exit) ≡ bufferOf answer (split .amounts) (now (parts .entry))) ⌝ }
     ensures { λ r. ⌜ (r .number ≡ 5 → AtFault (now (amounts .entry)) (codeIn r)) ⌝ }
 {
     let gas = *amounts;

@@ -1,5 +1,6 @@
 // What C gets from every call, 0 or a refusal's number with its place, and a split as C lends it: a count and three
-// columns. What a call answers and leaves in each buffer is in specs/Interface.antt.
+// columns. What a call answers and leaves in each buffer is in specs/Interface.antt; the calls are in crates
+// `c_ratings`, `c_sheets` and `c_numbers`, and crate `saugrinte` gives them their names in C.
 //
 // No public function has a `requires`.
 ghost use mathlib.Core.Path.{_≡_};

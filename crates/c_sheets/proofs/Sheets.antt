@@ -5,12 +5,12 @@ use mathlib.Core.List.{List}
 use Prim.Native.Nat.{ℕ}
 use native.Mathlib.Omega.{arith}
 use lib.Dec.{eqb}
-use lib.ListN.{getD, length}
+use lib.ListN.{length}
 use borrow.Author.Tests.{eq-eqb, ne-eqb}
 use Rattle.analysis.specs.Check.{AtFault}
 use Rattle.sheet.specs.Sheet.{sheetOf}
 use Rattle.sheet.specs.ReadingCases as read
-use Rattle.sheet.specs.Read.{readOf, ReadAs, FaultIn}
+use Rattle.sheet.specs.Read.{readOf, ReadAs, FaultInSheet}
 use Rattle.sheet.specs.Laws.Coded.{refused-answer, carried-code, read-as-is, read-as-read}
 use Rattle.sheet.specs.WrittenCases as write
 use Rattle.sheet.specs.Write.{writeRefusal, writtenOf, leftOf, WrittenAs}
@@ -36,11 +36,8 @@ carries false n len c = go (eqb n 5)
 
 -- the writer's promise, of the split that it was given
 pub written-by : (a : List ℕ) (p q : Split) (b : List ℕ) (r : Written) (left : List ℕ) → p ≡ q
-    → r ≡ writtenOf a p (length b) (write.faultOf r) → left ≡ leftOf a p b
-    → (write.numberOf r ≡ 5 → AtFault a (write.faultOf r))
-    → WrittenAs a q b r left
-written-by a p q b r left e x y z =
-    subst (λ (s : Split). WrittenAs a s b r left) e (record { answer = x; buffer = y; code = z })
+    → WrittenAs a p b r left → WrittenAs a q b r left
+written-by a p q b r left e w = subst (λ (s : Split). WrittenAs a s b r left) e w
 
 module _ (a : List ℕ) (p : Split) (b : List ℕ) (r : Written) (left : List ℕ) (w : WrittenAs a p b r left) where
   coded : write.faultOf r ≡ cond (eqb (write.numberOf r) 5) (write.faultOf r) 0
@@ -57,9 +54,10 @@ module _ (a : List ℕ) (p : Split) (b : List ℕ) (r : Written) (left : List �
       × (_≡_ {A = ℕ} 0 5 → AtFault a 0)
   written-done n e old =
       let f : writtenOf a p (length b) 0 ≡ Length n = ap (writtenOf a p (length b)) (sym (ap write.faultOf e))
-          ∙ sym (w .answer) ∙ e in
-      ((sym (ap writtenReply f), w .buffer, sym (ap (λ (x : Written). writtenLength x old) f)),
-      λ (z : _≡_ {A = ℕ} 0 5). absurd (omega (arith, z)))
+      ∙ sym (w .answer) ∙ e in (
+        (sym (ap writtenReply f), w .buffer, sym (ap (λ (x : Written). writtenLength x old) f)),
+        λ (z : _≡_ {A = ℕ} 0 5). absurd (omega (arith, z)),
+      )
 
   module _ (number code : ℕ) (e : r ≡ Refused number code) where
     same : write.faultOf r ≡ codeIn (reply number code)
@@ -108,10 +106,10 @@ module _ (s : List ℕ) (r : Sheet) (h : ReadAs s r) (number place code : ℕ)
     pub stays : {A : Type 0} → (new old : A) → old ≡ readOr (readOf s (codeIn o) .answer) new old
     stays new old = sym (ap (λ (x : Reading). readOr x new old) answer-is)
 
-    pub read-fault : o .number ≡ 5 → FaultIn (getD s 0 0) s (codeIn o)
+    pub read-fault : o .number ≡ 5 → FaultInSheet s (codeIn o)
     read-fault z =
-        subst⁻¹ (λ (c : ℕ). FaultIn (getD s 0 0) s c) (ap codeIn q ∙ same-code)
-        (subst (FaultIn (getD s 0 0) s) (ap read.faultOf e)
+        subst⁻¹ (FaultInSheet s) (ap codeIn q ∙ same-code)
+        (subst (FaultInSheet s) (ap read.faultOf e)
         (h .code (ap read.numberOf e ∙ ap (λ (x : Reply). x .number) (sym q) ∙ z)))
 
 module _ (s : List ℕ) (r : Sheet) (h : ReadAs s r) (e : r .answer ≡ reading.Read) where

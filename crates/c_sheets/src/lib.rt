@@ -3,9 +3,8 @@
 //
 // No public function has a `requires`.
 ghost use mathlib.Core.Path.{_≡_};
-ghost use lib.ListN.{getD};
 ghost use Rattle.analysis.specs.Check.{AtFault};
-ghost use Rattle.sheet.specs.Read.{readOf, FaultIn};
+ghost use Rattle.sheet.specs.Read.{readOf, FaultInSheet};
 ghost use Rattle.sheet.specs.Write.{writtenOf, leftOf};
 ghost use Rattle.sheet.specs.declared.Reading.the-variants.{Refused};
 ghost use Rattle.c_reply.specs.Interface.{codeIn, splitFrom, size, readReply, readOr, writtenReply, writtenLength};
@@ -28,13 +27,15 @@ pub fn read_sheet(
     codes: &mut [u8; RECORDS],
     parts: &mut [u32; RECORDS],
 ) -> Reply
-    ensures { λ r. let x = readOf (now (sheet .entry)) (codeIn r) in ⌜ (r ≡ readReply (x .answer))
-        × (now (amounts .exit) ≡ readOr (x .answer) (x .analysis .amounts) (now (amounts .entry)))
-        × (now (count .exit) ≡ readOr (x .answer) (x .split .count) (now (count .entry)))
-        × (now (systems .exit) ≡ readOr (x .answer) (x .split .systems) (now (systems .entry)))
-        × (now (codes .exit) ≡ readOr (x .answer) (x .split .codes) (now (codes .entry)))
-        × (now (parts .exit) ≡ readOr (x .answer) (x .split .amounts) (now (parts .entry))) ⌝ }
-    ensures { λ r. ⌜ (r .number ≡ 5 → FaultIn (getD (now (sheet .entry)) 0 0) (now (sheet .entry)) (codeIn r)) ⌝ }
+    ensures { λ r. let x = readOf (now (sheet .entry)) (codeIn r) in
+        let answer = x .answer in
+        let split = x .split in ⌜ (r ≡ readReply answer)
+        × (now (amounts .exit) ≡ readOr answer (x .analysis .amounts) (now (amounts .entry)))
+        × (now (count .exit) ≡ readOr answer (split .count) (now (count .entry)))
+        × (now (systems .exit) ≡ readOr answer (split .systems) (now (systems .entry)))
+        × (now (codes .exit) ≡ readOr answer (split .codes) (now (codes .entry)))
+        × (now (parts .exit) ≡ readOr answer (split .amounts) (now (parts .entry))) ⌝ }
+    ensures { λ r. ⌜ (r .number ≡ 5 → FaultInSheet (now (sheet .entry)) (codeIn r)) ⌝ }
 {
     let read = reader::read(sheet);
     let answer = read.answer;

@@ -24,7 +24,7 @@ use Rattle.systems.specs.Laws.Table.{none-has, to-true, everyTo, eachTo}
 use Rattle.systems.specs.Laws.Presence.{Every, every-in, mask-lt}
 use Rattle.systems.specs.Without.{HYDROCARBONS}
 use Rattle.systems.specs.Laws.Scores.{better-next, better-before}
-use Rattle.choice.specs.Inner.Keys.{KEYS, keyWeights, keyOf, Keyed}
+use Rattle.choice.specs.Inner.Keys.{MOST_WEIGHTED, KEYS, keyWeights, keyOf, Keyed}
 use Rattle.choice.proofs.Loops.{next, done}
 use Rattle.choice.proofs.Packed.{offered-few, offered-past, candidate-lt, candidates-apart}
 
@@ -103,12 +103,12 @@ unfolding standingOf
 standing-is hy mix i p top n f h e t q w =
     let g : f ≡ fitnessOf mix (getD (candidatesFor hy) i 0) + 1 = w ∙ ap (λ (x : ℕ). x + 1) (fitness-is hy mix i h) in
     rw (q, e, t, g) (sym (add-assoc
-        (presentIn (presentOf mix) (getD (candidatesFor hy) i 0) * (allTo mix COMPONENTS + 1))
-        (fitnessOf mix (getD (candidatesFor hy) i 0)) 1))
+    (presentIn (presentOf mix) (getD (candidatesFor hy) i 0) * (allTo mix COMPONENTS + 1))
+    (fitnessOf mix (getD (candidatesFor hy) i 0)) 1))
 
 -- the product fits
-pub standing-fits : (n top : ℕ) → n ≤ COMPONENTS → top ≤ 429496729500 * COMPONENTS + 1
-    → n * top ≤ COMPONENTS * (429496729500 * COMPONENTS + 1)
+pub standing-fits : (n top : ℕ) → n ≤ COMPONENTS → top ≤ MOST_WEIGHTED * COMPONENTS + 1
+    → n * top ≤ COMPONENTS * (MOST_WEIGHTED * COMPONENTS + 1)
 standing-fits n top h l = mul-le-mul h l
 
 -- ---- a key and the marks
@@ -256,9 +256,11 @@ module _ (hy : Bool) (keys : List ℕ) (c i count best at : ℕ) (k : Tally hy k
         × (getD (candidatesFor hy) at′ 0 ≡ betterOf fit marks c (getD (candidatesFor hy) at 0)
         (getD (candidatesFor hy) i 0))
     stays fit marks b l q r =
-        let e = ap (λ (x : ℕ). getD (candidatesFor hy) x 0) r in
-        (q ∙ b ∙ ap (scoreOf fit marks c) (sym e), e
-        ∙ sym (better-before fit marks c (getD (candidatesFor hy) at 0) (getD (candidatesFor hy) i 0) (omega arith)))
+        let e = ap (λ (x : ℕ). getD (candidatesFor hy) x 0) r in (
+          q ∙ b ∙ ap (scoreOf fit marks c) (sym e),
+          e
+              ∙ sym (better-before fit marks c (getD (candidatesFor hy) at 0) (getD (candidatesFor hy) i 0) (omega arith)),
+        )
 
     pub tally-chosen : hasOf (getD (candidatesFor hy) i 0) c ≡ true → getD keys i 0 ≡ 0 → count′ ≡ count + 1
         → best′ ≡ best → at′ ≡ at → Tally hy keys c (i + 1) count′ best′ at′
@@ -266,7 +268,7 @@ module _ (hy : Bool) (keys : List ℕ) (c i count best at : ℕ) (k : Tally hy k
         tally-next count′ best′ at′ (omega (arith, k .few)) (omega (arith, k .place))
         (λ fit marks a b.
         let s : keyOf fit marks (getD (candidatesFor hy) i 0) ≡ scoreOf fit marks c (getD (candidatesFor hy) i 0) =
-            score-key fit marks (getD (candidatesFor hy) i 0) c t in
+        score-key fit marks (getD (candidatesFor hy) i 0) c t in
         let s′ = stays fit marks b (omega arith) q r in
         (p ∙ rw (chosen-of-key fit marks (getD (candidatesFor hy) i 0) (sym a ∙ z), t), s′ .0, s′ .1))
 
@@ -303,9 +305,12 @@ module _ (hy : Bool) (keys : List ℕ) (c i count best at : ℕ) (k : Tally hy k
           (λ fit marks a b.
           let e = ap (λ (x : ℕ). getD (candidatesFor hy) x 0) r in
           let s : getD keys i 0 ≡ scoreOf fit marks c (getD (candidatesFor hy) i 0) = a
-              ∙ score-key fit marks (getD (candidatesFor hy) i 0) c t in
-          (open-one fit marks a, q ∙ s ∙ ap (scoreOf fit marks c) (sym e), e
-          ∙ sym (better-next fit marks c (getD (candidatesFor hy) at 0) (getD (candidatesFor hy) i 0) (omega arith))))
+          ∙ score-key fit marks (getD (candidatesFor hy) i 0) c t in (
+            open-one fit marks a,
+            q ∙ s ∙ ap (scoreOf fit marks c) (sym e),
+            e
+                ∙ sym (better-next fit marks c (getD (candidatesFor hy) at 0) (getD (candidatesFor hy) i 0) (omega arith)),
+          ))
 
 -- ---- what a component takes
 
@@ -323,35 +328,41 @@ keyed-set hy fit marks keys at k l =
         → getD (set keys at 0) i 0 ≡ keyOf fit (set marks (getD (candidatesFor hy) at 0) true)
         (getD (candidatesFor hy) i 0)
     go i h true p =
-        rw (eqb-true i at p, getD-set-same keys at 0 0 (omega (arith, k .long, offered-few hy)),
-            getD-set-same marks (getD (candidatesFor hy) at 0) true false
-            (omega (arith, k .marked, candidate-lt hy at l)))
+        rw (
+          eqb-true i at p,
+          getD-set-same keys at 0 0 (omega (arith, k .long, offered-few hy)),
+          getD-set-same marks (getD (candidatesFor hy) at 0) true false
+              (omega (arith, k .marked, candidate-lt hy at l)),
+        )
     go i h false p =
         let d : i ≡ at → ⊥ = eqb-false i at p in
         let e = candidates-apart hy i at (omega arith) l d in
-        rw (getD-set-other keys at i 0 0 d, getD-set-other marks (getD (candidatesFor hy) at 0)
-            (getD (candidatesFor hy) i 0) true false e) (k .at i h)
+        rw (
+          getD-set-other keys at i 0 0 d,
+          getD-set-other marks (getD (candidatesFor hy) at 0)
+              (getD (candidatesFor hy) i 0) true false e,
+        ) (k .at i h)
 
 module _ (hy : Bool) (keys : List ℕ) (c i count best at : ℕ) (k : Tally hy keys c i count best at)
     (h : length (candidatesFor hy) ≤ i) (wanted : ℕ) (fit : ℕ → ℕ) (marks : List Bool) (d : Keyed hy fit marks keys)
-    where
-  count-is : count ≡ containingOf (candidatesFor hy) marks c
-  count-is =
-      done (countOf marks c) (candidatesFor hy) i count (containingOf (candidatesFor hy) marks c) h
-      (k .told fit marks d .counted)
+  where
+    count-is : count ≡ containingOf (candidatesFor hy) marks c
+    count-is =
+        done (countOf marks c) (candidatesFor hy) i count (containingOf (candidatesFor hy) marks c) h
+        (k .told fit marks d .counted)
 
-  pub take-none : wanted ≤ count → Keyed hy fit (takeOf fit (candidatesFor hy) wanted marks c) keys
-  unfolding takeOf
-  take-none l = rw (le-ltb (containingOf (candidatesFor hy) marks c) wanted (rw (← count-is) l), takeOf) d
+    pub take-none : wanted ≤ count → Keyed hy fit (takeOf fit (candidatesFor hy) wanted marks c) keys
+    unfolding takeOf
+    take-none l = rw (le-ltb (containingOf (candidatesFor hy) marks c) wanted (rw (← count-is) l), takeOf) d
 
-  pub take-one : count < wanted → Keyed hy fit (takeOf fit (candidatesFor hy) wanted marks c) (set keys at 0)
-  unfolding takeOf
-  take-one l =
-      let f : getD (candidatesFor hy) at 0 ≡ fittestOf fit (candidatesFor hy) marks c = done (betterOf fit marks c)
-          (candidatesFor hy) i (getD (candidatesFor hy) at 0) (fittestOf fit (candidatesFor hy) marks c) h
-          (k .told fit marks d .rest) in
-      rw (lt-ltb (containingOf (candidatesFor hy) marks c) wanted (rw (← count-is) l), ← f, takeOf)
-          (keyed-set hy fit marks keys at d (k .place))
+    pub take-one : count < wanted → Keyed hy fit (takeOf fit (candidatesFor hy) wanted marks c) (set keys at 0)
+    unfolding takeOf
+    take-one l =
+        let f : getD (candidatesFor hy) at 0 ≡ fittestOf fit (candidatesFor hy) marks c = done (betterOf fit marks c)
+        (candidatesFor hy) i (getD (candidatesFor hy) at 0) (fittestOf fit (candidatesFor hy) marks c) h
+        (k .told fit marks d .rest) in
+        rw (lt-ltb (containingOf (candidatesFor hy) marks c) wanted (rw (← count-is) l), ← f, takeOf)
+        (keyed-set hy fit marks keys at d (k .place))
 
 -- ---- each component in turn, and again
 

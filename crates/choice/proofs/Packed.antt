@@ -10,7 +10,7 @@ use borrow.Author.Tests.{eq-eqb, ne-eqb}
 use Rattle.systems.specs.Systems.{COMPONENTS}
 use Rattle.systems.specs.Choice.{NUMBERS, weights, hydrocarbonOrder, order, candidatesFor}
 use Rattle.systems.specs.Laws.Table.{of-true, everyTo, eachTo, agree, agree-at}
-use Rattle.choice.specs.Inner.Keys.{KEYS}
+use Rattle.choice.specs.Inner.Keys.{MOST_WEIGHTED, KEYS}
 
 -- ---- the candidates
 
@@ -49,7 +49,7 @@ pub candidate-lt : (hy : Bool) (i : ℕ) → i ≤ length (candidatesFor hy) →
 unfolding low
 candidate-lt hy i h =
     let l = leb→le (getD (candidatesFor hy) i 0 + 1) NUMBERS
-        (eachTo (low hy) KEYS (low-all hy) i (omega (arith, offered-few hy))) in
+    (eachTo (low hy) KEYS (low-all hy) i (omega (arith, offered-few hy))) in
     omega arith
 
 -- the candidates differ, and from 0, which stands for none
@@ -69,7 +69,7 @@ pub candidates-apart : (hy : Bool) (i j : ℕ) → i ≤ length (candidatesFor h
 unfolding apart apartAt
 candidates-apart hy i j h l n e =
     go (eqb i j) (eqb (getD (candidatesFor hy) i 0) (getD (candidatesFor hy) j 0)) (ne-eqb i j n)
-        (eq-eqb (getD (candidatesFor hy) i 0) (getD (candidatesFor hy) j 0) e)
+    (eq-eqb (getD (candidatesFor hy) i 0) (getD (candidatesFor hy) j 0) e)
     (eachTo (apartAt hy i) (length (candidatesFor hy) + 1)
     (eachTo (apart hy) (length (candidatesFor hy) + 1) (apart-all hy) i (omega arith)) j (omega arith))
   where
@@ -91,7 +91,7 @@ light : ℕ → Bool
 light c = leb (getD weights c 0) 100
 
 -- a weight is at most 100, so a weighted amount of 32 bits stays small
-pub weighted-le : (c x : ℕ) → c < COMPONENTS → x ≤ 4294967295 → getD weights c 0 * x ≤ 429496729500
+pub weighted-le : (c x : ℕ) → c < COMPONENTS → x ≤ 4294967295 → getD weights c 0 * x ≤ MOST_WEIGHTED
 unfolding light
 weighted-le c x h l = mul-le-mul (leb→le (getD weights c 0) 100 (eachTo light COMPONENTS tt c h)) l
 
@@ -101,14 +101,15 @@ weighted-fits table t c x h l = rw (weight-is table t c h) (omega (arith, weight
 
 pub weigh-is : (table : ℕ) → T (agree (weightAt table) (λ c. getD weights c 0) COMPONENTS) → (c x : ℕ)
     → c < COMPONENTS → x ≤ 4294967295
-    → (weightAt table c * x ≡ getD weights c 0 * x) × (weightAt table c * x ≤ 429496729500)
+    → (weightAt table c * x ≡ getD weights c 0 * x) × (weightAt table c * x ≤ MOST_WEIGHTED)
 weigh-is table t c x h l = rw (weight-is table t c h) (refl, weighted-le c x h l)
 
 -- a component's weighted parts where a system has it, and 0 where it has not
-pub weighted-in : (b : Bool) (r w : ℕ) → b ≡ true → (r ≡ w) × (r ≤ 429496729500) → (r ≡ cond b w 0) × (r ≤ 429496729500)
+pub weighted-in : (b : Bool) (r w : ℕ) → b ≡ true → (r ≡ w) × (r ≤ MOST_WEIGHTED) → (r ≡ cond b w 0)
+    × (r ≤ MOST_WEIGHTED)
 weighted-in b r w e h = rw e h
 
-pub weighted-out : (b : Bool) (w : ℕ) → b ≡ false → (0 ≡ cond b w 0) × (0 ≤ 429496729500)
+pub weighted-out : (b : Bool) (w : ℕ) → b ≡ false → (0 ≡ cond b w 0) × (0 ≤ MOST_WEIGHTED)
 weighted-out b w e = rw e (refl, omega arith)
 
 -- ---- the order

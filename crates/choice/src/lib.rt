@@ -1,4 +1,5 @@
-// The choice of systems. No public function has a `requires`.
+// The choice of systems. The definitions are in crate `systems`, Choice and Systems. No public function has a
+// `requires`.
 ghost use mathlib.Core.Path.{_≡_};
 ghost use mathlib.Core.Bool.{Bool, true, false, cond};
 ghost use lib.Dec.{ltb};
@@ -7,30 +8,32 @@ ghost use mathlib.Core.List.{List};
 ghost use lib.ListN.{getD, length, replicate};
 ghost use Rattle.systems.specs.Systems.{COMPONENTS, hasOf};
 ghost use Rattle.systems.specs.Choice.{NUMBERS, weights, order, allTo, presentOf, presentCount, presentIn};
-ghost use Rattle.systems.specs.Choice.{standingOf, candidatesFor, keep, takeOf, passOf, choiceFrom, chosenOf, chooseBy};
-ghost use Rattle.systems.specs.Choice.{hydrocarbonOrder, marksOf, choiceOf};
-ghost use Rattle.choice.specs.Inner.Keys.{KEYS, Keyed, keyWeights};
+ghost use Rattle.systems.specs.Choice.{standingOf, candidatesFor, keep, takeOf, passOf, choiceFrom, chosenOf};
+ghost use Rattle.systems.specs.Choice.{chooseBy, hydrocarbonOrder, marksOf, choiceOf};
+ghost use Rattle.choice.specs.Inner.Keys.{candidateAt, MOST_WEIGHTED, KEYS, Keyed, keyWeights};
 use systems::COMPONENTS;
 use systems::Choice;
 use systems::HYDROGEN;
 use systems::SYSTEMS;
 
-// The weights of the components in the fitness, times 480: two hexadecimal digits each, from the right.
+// The weights of the components in the fitness, times 480: two hexadecimal digits each, from the right. Methane has 30,
+// which is 48, ethane 4B, 75, propane 50, 80, butane 64, 100, and hydrogen 60, 96.
 const WEIGHTS: u64 = 0x6064504B30;
 
-// The order in which components take systems: hydrogen, propane, ethane, butane, methane, an octal digit each, from the
-// right.
+// The order in which components take systems, an octal digit each, from the right: hydrogen 4, propane 2, ethane 1,
+// butane 3, methane 0.
 const ORDER: u64 = 0o03124;
 
 // The components after hydrogen.
 const HYDROCARBONS: usize = 4;
 
-// The systems that can be chosen, a hexadecimal digit each, from the right, and how many there are.
+// The systems that can be chosen, 1, 2, 4, 5, 6, 7 and 8: a hexadecimal digit each, from the right; and how many there
+// are.
 const SYSTEM_NUMBERS: u64 = 0x8765421;
 
 const CANDIDATES: usize = 7;
 
-// The same where hydrogen is absent.
+// The same where hydrogen is absent: 2, 4, 7 and 8.
 const HYDROCARBON_NUMBERS: u64 = 0x8742;
 
 const HYDROCARBON_CANDIDATES: usize = 4;
@@ -51,7 +54,7 @@ fn candidates(hydrogen: bool) -> usize
 // The number of the candidate in place i.
 fn number(hydrogen: bool, i: usize) -> u8
     requires { ⌜ i < length (candidatesFor hydrogen) ⌝ }
-    ensures { λ r. ⌜ r ≡ getD (candidatesFor hydrogen) i 0 ⌝ }
+    ensures { λ r. ⌜ r ≡ candidateAt hydrogen i ⌝ }
 {
     if hydrogen {
         return ((SYSTEM_NUMBERS >> (i * 4)) % 16) as u8;
@@ -70,7 +73,7 @@ fn ordered(i: usize) -> usize
 // Whether the candidate in place i contains component c.
 fn contains(hydrogen: bool, i: usize, c: usize) -> bool
     requires { ⌜ (i < length (candidatesFor hydrogen)) × (c < COMPONENTS) ⌝ }
-    ensures { λ r. ⌜ r ≡ hasOf (getD (candidatesFor hydrogen) i 0) c ⌝ }
+    ensures { λ r. ⌜ r ≡ hasOf (candidateAt hydrogen i) c ⌝ }
 {
     systems::has(number(hydrogen, i), c)
 }
@@ -78,7 +81,7 @@ fn contains(hydrogen: bool, i: usize, c: usize) -> bool
 // The weight of component c times its parts x.
 fn weigh(c: usize, x: u32) -> u64
     requires { ⌜ c < COMPONENTS ⌝ }
-    ensures { λ r. ⌜ (r ≡ getD weights c 0 * x) × (r ≤ 429496729500) ⌝ }
+    ensures { λ r. ⌜ (r ≡ getD weights c 0 * x) × (r ≤ MOST_WEIGHTED) ⌝ }
 {
     (WEIGHTS >> (c * 8)) % 256 * x as u64
 }
@@ -86,8 +89,7 @@ fn weigh(c: usize, x: u32) -> u64
 // The same where the candidate in place i contains it.
 fn weighted(hydrogen: bool, i: usize, c: usize, x: u32) -> u64
     requires { ⌜ (i < length (candidatesFor hydrogen)) × (c < COMPONENTS) ⌝ }
-    ensures { λ r. ⌜ (r ≡ cond (hasOf (getD (candidatesFor hydrogen) i 0) c) (getD weights c 0 * x) 0)
-        × (r ≤ 429496729500) ⌝ }
+    ensures { λ r. ⌜ (r ≡ cond (hasOf (candidateAt hydrogen i) c) (getD weights c 0 * x) 0) × (r ≤ MOST_WEIGHTED) ⌝ }
 {
     if contains(hydrogen, i, c) {
         return weigh(c, x);
@@ -96,28 +98,28 @@ fn weighted(hydrogen: bool, i: usize, c: usize, x: u32) -> u64
 }
 
 // The fitness of the candidate in place i times 480, and 1.
-fn fitness(m: [u32; COMPONENTS], hydrogen: bool, i: usize) -> u64
+fn fitness(mix: [u32; COMPONENTS], hydrogen: bool, i: usize) -> u64
     requires { ⌜ i < length (candidatesFor hydrogen) ⌝ }
-    ensures { λ r. ⌜ (r ≡ keyWeights m (getD (candidatesFor hydrogen) i 0) COMPONENTS + 1)
-        × (r ≤ 429496729500 * COMPONENTS + 1) ⌝ }
+    ensures { λ r. ⌜ (r ≡ keyWeights mix (candidateAt hydrogen i) COMPONENTS + 1)
+        × (r ≤ MOST_WEIGHTED * COMPONENTS + 1) ⌝ }
 {
     let mut k: u64 = 1;
     let mut c: usize = 0;
     while c < COMPONENTS {
-        k += weighted(hydrogen, i, c, m[c]);
+        k += weighted(hydrogen, i, c, mix[c]);
         c += 1;
     }
     k
 }
 
 // The weighted parts of all components, and 1: above every fitness times 480.
-fn above(m: [u32; COMPONENTS]) -> u64
-    ensures { λ r. ⌜ (r ≡ allTo m COMPONENTS + 1) × (r ≤ 429496729500 * COMPONENTS + 1) ⌝ }
+fn above(mix: [u32; COMPONENTS]) -> u64
+    ensures { λ r. ⌜ (r ≡ allTo mix COMPONENTS + 1) × (r ≤ MOST_WEIGHTED * COMPONENTS + 1) ⌝ }
 {
     let mut k: u64 = 1;
     let mut c: usize = 0;
     while c < COMPONENTS {
-        k += weigh(c, m[c]);
+        k += weigh(c, mix[c]);
         c += 1;
     }
     k
@@ -134,53 +136,53 @@ fn one_if(x: u32) -> u32
 }
 
 // The components present, a bit for each.
-fn present(m: [u32; COMPONENTS]) -> u32
-    ensures { λ r. ⌜ r ≡ presentOf m ⌝ }
+fn present(mix: [u32; COMPONENTS]) -> u32
+    ensures { λ r. ⌜ r ≡ presentOf mix ⌝ }
 {
     let mut p: u32 = 0;
     let mut c = COMPONENTS;
     while 0 < c {
         c -= 1;
-        p = p * 2 + one_if(m[c]);
+        p = p * 2 + one_if(mix[c]);
     }
     p
 }
 
 // How many components of a mixture are present.
-pub fn present_count(m: [u32; COMPONENTS]) -> u32
-    ensures { λ r. ⌜ r ≡ presentCount m ⌝ }
+pub fn present_count(mix: [u32; COMPONENTS]) -> u32
+    ensures { λ r. ⌜ r ≡ presentCount mix ⌝ }
 {
-    u32::count_ones(present(m))
+    u32::count_ones(present(mix))
 }
 
 // How many components of the candidate in place i are present.
 fn count(p: u32, hydrogen: bool, i: usize) -> u32
     requires { ⌜ i < length (candidatesFor hydrogen) ⌝ }
-    ensures { λ r. ⌜ (r ≡ presentIn p (getD (candidatesFor hydrogen) i 0)) × (r ≤ COMPONENTS) ⌝ }
+    ensures { λ r. ⌜ (r ≡ presentIn p (candidateAt hydrogen i)) × (r ≤ COMPONENTS) ⌝ }
 {
     u32::count_ones(systems::mask(number(hydrogen, i)) & p)
 }
 
 // The key of the candidate in place i before it is chosen: the number present goes before the fitness.
-fn key(m: [u32; COMPONENTS], p: u32, top: u64, hydrogen: bool, i: usize) -> u64
-    requires { ⌜ (i < length (candidatesFor hydrogen)) × (p ≡ presentOf m) ⌝ }
-    requires { ⌜ (top ≡ allTo m COMPONENTS + 1) × (top ≤ 429496729500 * COMPONENTS + 1) ⌝ }
-    ensures { λ r. ⌜ r ≡ standingOf m (getD (candidatesFor hydrogen) i 0) + 1 ⌝ }
+fn key(mix: [u32; COMPONENTS], p: u32, top: u64, hydrogen: bool, i: usize) -> u64
+    requires { ⌜ (i < length (candidatesFor hydrogen)) × (p ≡ presentOf mix) ⌝ }
+    requires { ⌜ (top ≡ allTo mix COMPONENTS + 1) × (top ≤ MOST_WEIGHTED * COMPONENTS + 1) ⌝ }
+    ensures { λ r. ⌜ r ≡ standingOf mix (candidateAt hydrogen i) + 1 ⌝ }
 {
-    count(p, hydrogen, i) as u64 * top + fitness(m, hydrogen, i)
+    count(p, hydrogen, i) as u64 * top + fitness(mix, hydrogen, i)
 }
 
 // The keys of the candidates before one is chosen.
-fn keys_of(m: [u32; COMPONENTS], p: u32, hydrogen: bool) -> [u64; KEYS]
-    requires { ⌜ p ≡ presentOf m ⌝ }
-    ensures { λ r. ⌜ Keyed hydrogen (standingOf m) (replicate NUMBERS false) r ⌝ }
+fn keys_of(mix: [u32; COMPONENTS], p: u32, hydrogen: bool) -> [u64; KEYS]
+    requires { ⌜ p ≡ presentOf mix ⌝ }
+    ensures { λ r. ⌜ Keyed hydrogen (standingOf mix) (replicate NUMBERS false) r ⌝ }
 {
-    let top = above(m);
+    let top = above(mix);
     let n = candidates(hydrogen);
     let mut keys = [0u64; KEYS];
     let mut i: usize = 0;
     while i < n {
-        keys[i] = key(m, p, top, hydrogen, i);
+        keys[i] = key(mix, p, top, hydrogen, i);
         i += 1;
     }
     keys
@@ -270,33 +272,33 @@ fn listed(keys: [u64; KEYS], hydrogen: bool) -> Choice
 }
 
 // The choice among all candidates: the components present take one system each and then two.
-fn among_all(m: [u32; COMPONENTS], p: u32) -> Choice
-    requires { ⌜ p ≡ presentOf m ⌝ }
-    ensures { λ r. ⌜ r ≡ choiceFrom (chooseBy (standingOf m) (candidatesFor true) (keep p order)) ⌝ }
+fn among_all(mix: [u32; COMPONENTS], p: u32) -> Choice
+    requires { ⌜ p ≡ presentOf mix ⌝ }
+    ensures { λ r. ⌜ r ≡ choiceFrom (chooseBy (standingOf mix) (candidatesFor true) (keep p order)) ⌝ }
 {
-    let mut keys = keys_of(m, p, true);
+    let mut keys = keys_of(mix, p, true);
     pass(&mut keys, p, 1);
     pass(&mut keys, p, 2);
     listed(keys, true)
 }
 
 // The same among those of hydrocarbons. Of its own: compiled, each has its number of candidates as a constant.
-fn among_hydrocarbons(m: [u32; COMPONENTS], p: u32) -> Choice
-    requires { ⌜ p ≡ presentOf m ⌝ }
-    ensures { λ r. ⌜ r ≡ choiceFrom (chooseBy (standingOf m) (candidatesFor false) (keep p hydrocarbonOrder)) ⌝ }
+fn among_hydrocarbons(mix: [u32; COMPONENTS], p: u32) -> Choice
+    requires { ⌜ p ≡ presentOf mix ⌝ }
+    ensures { λ r. ⌜ r ≡ choiceFrom (chooseBy (standingOf mix) (candidatesFor false) (keep p hydrocarbonOrder)) ⌝ }
 {
-    let mut keys = keys_of(m, p, false);
+    let mut keys = keys_of(mix, p, false);
     hydrocarbon_turns(&mut keys, p);
     listed(keys, false)
 }
 
 // The systems chosen for a mixture of so many parts of each component.
-pub fn choose(m: [u32; COMPONENTS]) -> Choice
-    ensures { λ r. ⌜ r ≡ choiceOf m ⌝ }
+pub fn choose(mix: [u32; COMPONENTS]) -> Choice
+    ensures { λ r. ⌜ r ≡ choiceOf mix ⌝ }
 {
-    let p = present(m);
+    let p = present(mix);
     if (p >> HYDROGEN) % 2 == 1 {
-        return among_all(m, p);
+        return among_all(mix, p);
     }
-    among_hydrocarbons(m, p)
+    among_hydrocarbons(mix, p)
 }

@@ -1,5 +1,5 @@
 // The systems of 000 Table A.2: which there are, their coefficients, their ranges of validity. The definitions are in
-// the crate `formula`, Coefficients and Ranges. No public function has a `requires`.
+// crate `formula`, Coefficients and Ranges. No public function has a `requires`.
 mod ranges;
 mod table;
 
@@ -10,7 +10,8 @@ ghost use Rattle.formula.specs.Ranges.{rangesOf};
 // System numbers are below this one.
 const NUMBERS: u32 = 21;
 
-// A bit for each number, from the right: 1 where it is a system.
+// A bit for each number, from the right: 1 where it is a system. The first group from the right, 1110, is that of 3, 2,
+// 1 and 0, of which 0 is none; 9 to 11 and 19 are none either.
 const SYSTEMS: u32 = 0b1_0111_1111_0001_1111_1110;
 
 // Whether there is a system of that number: Table A.2 has it, and its coefficients keep the rule.

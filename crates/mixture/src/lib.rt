@@ -7,11 +7,10 @@ ghost use mathlib.Core.Path.{_≡_};
 ghost use Prim.Native.Nat.{_+_, _*_, _<_, _≤_};
 ghost use lib.ListN.{length, replicate};
 ghost use Rattle.integer.specs.Figures.{MILLION};
-ghost use Rattle.analysis.specs.Check.{totalOf, analysisRefusal, checkedOf, AtFault};
+ghost use Rattle.analysis.specs.Check.{totalOf, Checking};
 ghost use Rattle.mixture.specs.Scaling.{quotientOf, remainderOf, greatestPlace, distributed, scaledOf};
 ghost use Rattle.mixture.specs.Simplification.{COMPONENTS, butaneOf, tenthsOf, tenthsTotal, simplifiedOf};
 ghost use Rattle.mixture.specs.Inner.Limits.{MOST_PARTS, Limited};
-ghost use Rattle.analysis.specs.CheckedCases.{numberOf, faultOf};
 ghost use Rattle.mixture.specs.Answers.{mixtureOf, inertN1};
 ghost use Rattle.mixture.specs.Inert.{halvesUp, methaneShare, inertFirst};
 ghost use Rattle.mixture.specs.Inner.Factor.{factorOf};
@@ -38,16 +37,15 @@ pub struct Simplified {
     pub inert: u32,
 }
 
-// The simplified mixture and the inert mixture of an analysis in range, else its refusal beside zeros. Nitrogen does not
-// enter.
-pub fn simplify(a: Analysis) -> Simplified
-    ensures { λ r. ⌜ r .answer ≡ checkedOf (analysisRefusal (a .amounts)) (faultOf (r .answer)) ⌝ }
-    ensures { λ r. ⌜ (numberOf (r .answer) ≡ 5 → AtFault (a .amounts) (faultOf (r .answer))) ⌝ }
-    ensures { λ r. ⌜ r .mixture .amounts ≡ mixtureOf (a .amounts) ⌝ }
-    ensures { λ r. ⌜ r .inert ≡ inertN1 (a .amounts) ⌝ }
+// The simplified mixture and the inert mixture of an analysis in range, else its refusal beside zeros. Nitrogen does
+// not enter.
+pub fn simplify(analysis: Analysis) -> Simplified
+    ensures { λ r. ⌜ Checking (analysis .amounts) (r .answer) ⌝ }
+    ensures { λ r. ⌜ r .mixture .amounts ≡ mixtureOf (analysis .amounts) ⌝ }
+    ensures { λ r. ⌜ r .inert ≡ inertN1 (analysis .amounts) ⌝ }
 {
-    let amounts = a.amounts;
-    let answer = analysis::check(a);
+    let amounts = analysis.amounts;
+    let answer = analysis::check(analysis);
     match answer {
         Checked::InRange => in_range(&amounts),
         Checked::Refused { number, code } => refused(number, code),
@@ -57,7 +55,8 @@ pub fn simplify(a: Analysis) -> Simplified
 // The mixtures of amounts whose T is not 0, beside the answer of an analysis in range.
 fn in_range(a: &[u32; CODES]) -> Simplified
     requires { ⌜ 0 < tenthsTotal (now a) ⌝ }
-    ensures { λ r. ⌜ (r .answer ≡ Checked.InRange) × (r .mixture .amounts ≡ simplifiedOf (now (a .entry))) × (r .inert ≡ inertFirst (now (a .entry))) ⌝ }
+    ensures { λ r. ⌜ (r .answer ≡ Checked.InRange) × (r .mixture .amounts ≡ simplifiedOf (now (a .entry)))
+        × (r .inert ≡ inertFirst (now (a .entry))) ⌝ }
 {
     let x = tenths(a);
     let total = sum(&x);
@@ -72,7 +71,8 @@ fn in_range(a: &[u32; CODES]) -> Simplified
 
 // A refusal, beside zeros.
 fn refused(number: u32, code: u32) -> Simplified
-    ensures { λ r. ⌜ (r .answer ≡ Checked.Refused number code) × (r .mixture .amounts ≡ replicate COMPONENTS 0) × (r .inert ≡ 0) ⌝ }
+    ensures { λ r. ⌜ (r .answer ≡ Checked.Refused number code) × (r .mixture .amounts ≡ replicate COMPONENTS 0)
+        × (r .inert ≡ 0) ⌝ }
 {
     Simplified {
         answer: Checked::Refused { number, code },
@@ -191,7 +191,8 @@ fn distribute(
     quotients: [u32; COMPONENTS],
     remainders: [u64; COMPONENTS],
 ) -> [u32; COMPONENTS]
-    requires { ⌜ (length quotients ≡ COMPONENTS) × (length remainders ≡ COMPONENTS) × (totalOf quotients + missing ≤ MILLION) ⌝ }
+    requires { ⌜ (length quotients ≡ COMPONENTS) × (length remainders ≡ COMPONENTS)
+        × (totalOf quotients + missing ≤ MILLION) ⌝ }
     ensures { λ r. ⌜ r ≡ distributed missing quotients remainders ⌝ }
 {
     let mut q = quotients;

@@ -96,7 +96,8 @@ module _ (a : List ℕ) (x : Checked) (h : Checking a x) where
           (cond (eqb (analysisRefusal a) 5) (check.faultOf x) 0)) → TurnedAway a number code
       go true q r = absurd (differ (isIn x) (ap isIn r) (ap isIn e))
       go false q r =
-          let same : checked.Refused number code ≡ checked.Refused (analysisRefusal a) (cond (eqb (analysisRefusal a) 5) (check.faultOf x) 0) = sym e ∙ r in
+          let same : checked.Refused number code ≡ checked.Refused (analysisRefusal a)
+          (cond (eqb (analysisRefusal a) 5) (check.faultOf x) 0) = sym e ∙ r in
           let n : number ≡ analysisRefusal a = cc in
           let c : code ≡ cond (eqb (analysisRefusal a) 5) (check.faultOf x) 0 = cc in
           let f = range-first a q in
@@ -183,15 +184,17 @@ module _ (a : List ℕ) (long : length a ≡ CODES) (passed : analysisRefusal a 
           → Fit LIMIT (choice .systems) (choice .count) mix (found .cells)
       found-cells s r e =
           let b = find-balanced mix (choice .systems) (choice .count) 500000 16 most s r
-              (ap (λ (x : Found). x .search) (sym f) ∙ e) in
+          (ap (λ (x : Found). x .search) (sym f) ∙ e) in
           rw f (balance-fit mix (choice .systems) (choice .count) 500000 most
-              (findOf mix (choice .systems) (choice .count) 500000 16 most .cells) s r b
-              (λ c l. rw (choice-is, mix-is) (shared a on c l)))
+          (findOf mix (choice .systems) (choice .count) 500000 16 most .cells) s r b
+          (λ c l. rw (choice-is, mix-is) (shared a on c l)))
 
       pub found-fit : FoundFit mix (choice .systems) (choice .count) found
       found-fit =
-          record { made = λ e. never-unfit a allowance (ap (λ (x : Found). x .search) (sym found-is) ∙ e);
-          fit = found-cells }
+          record {
+            made = λ e. never-unfit a allowance (ap (λ (x : Found). x .search) (sym found-is) ∙ e);
+            fit = found-cells;
+          }
 
       pub search-in : (r : Outcome) → r ≡ foundOutcome (choice .systems) (choice .count) n1 found
           → r ≡ searchOutcome a allowance (faultOf (r .answer))
@@ -281,7 +284,7 @@ pub search-away-is : (a : List ℕ) (allowance number code : ℕ) (r : Outcome) 
     × (numberOf (r .answer) ≡ 5 → AtFault a (faultOf (r .answer)))
 search-away-is a allowance number code r t e =
     subst (λ (o : Outcome). (o ≡ searchOutcome a allowance (faultOf (o .answer)))
-        × (numberOf (o .answer) ≡ 5 → AtFault a (faultOf (o .answer)))) (sym e)
+    × (numberOf (o .answer) ≡ 5 → AtFault a (faultOf (o .answer)))) (sym e)
     (search-away a allowance number code t, t .fault)
 
 pub found-is-some : (ch : List ℕ) (k n1 : ℕ) (f : Found) (s r : ℕ) (w w′ : ℤ) (p : Split) → f .search ≡ Balanced s r
@@ -298,4 +301,4 @@ rating-value ch k mix n1 limit cells h f x e l w s r q =
     let is = rating-is ch k mix n1 limit cells f x e l w s r q in
     let small = rating-small ch k cells n1 (fit-few ch k mix cells (h .chosen) (h .few) (f .sums)) in
     read-back w (subst (λ (z : ℤ). mag z < 2 ^ 63) (sym is)
-        (N.lt-of-le-of-lt (N.le-trans (mag-le (ratingOf ch k cells n1)) small) (lit< tt))) ∙ is
+    (N.lt-of-le-of-lt (N.le-trans (mag-le (ratingOf ch k cells n1)) small) (lit< tt))) ∙ is

@@ -6,12 +6,11 @@ use mathlib.Core.List.{List}
 use Prim.Native.Nat.{ℕ}
 use native.Mathlib.Omega.{arith}
 use lib.Dec.{eqb}
-use lib.ListN.{getD}
 use borrow.Author.Tests.{ne-eqb}
 use Rattle.analysis.specs.Check.{analysisRefusal}
 use Rattle.sheet.specs.Split.{noSplit}
 use Rattle.sheet.specs.ReadingCases as read
-use Rattle.sheet.specs.Read.{readOf, ReadAs, FaultIn}
+use Rattle.sheet.specs.Read.{readOf, ReadAs, FaultInSheet}
 use Rattle.sheet.specs.Laws.Coded.{refused-answer, carried-code, read-as-is, read-as-read}
 use Rattle.sheet.specs.declared.Reading.{Reading}
 use Rattle.sheet.specs.declared.Reading.the-variants as reading
@@ -41,8 +40,8 @@ module _ (s : List ℕ) (r : Sheet) (h : ReadAs s r) (number place code : ℕ)
       ∙ ap (λ (x : Reading). readBy x (readOf s code .analysis .amounts) (readOf s code .split) code)
       (refused-answer s r h number place code e))
 
-  pub sheet-fault : number ≡ 5 → FaultIn (getD s 0 0) s (faultOf (Refused number carried))
-  sheet-fault z = rw same-code (subst (FaultIn (getD s 0 0) s) (ap read.faultOf e) (h .code (ap read.numberOf e ∙ z)))
+  pub sheet-fault : number ≡ 5 → FaultInSheet s (faultOf (Refused number carried))
+  sheet-fault z = rw same-code (subst (FaultInSheet s) (ap read.faultOf e) (h .code (ap read.numberOf e ∙ z)))
 
 -- ---- a sheet that was read
 
@@ -62,8 +61,7 @@ module _ (s : List ℕ) (r : Sheet) (h : ReadAs s r) (e : r .answer ≡ reading.
   free (Refused n p) (inl (inr b)) = rw (ne-eqb n 5 (λ z. omega (arith, b .0)))
   free (Refused n p) (inr q) = ap faultOf q
 
-  ends : RatedOrFew (cond (eqb (r .split .count) 0) (searchOutcome (r .analysis .amounts) 4000 0)
-      (outcome (splitAnswer (r .analysis .amounts) (r .split) 0) noSplit) .answer)
+  ends : RatedOrFew (readBy reading.Read (r .analysis .amounts) (r .split) 0 .answer)
   ends = go (eqb (r .split .count) 0)
     where
       go : (t : Bool) → RatedOrFew (cond t (searchOutcome (r .analysis .amounts) 4000 0)
@@ -71,8 +69,7 @@ module _ (s : List ℕ) (r : Sheet) (h : ReadAs s r) (e : r .answer ≡ reading.
       go true = search-in-range (r .analysis .amounts) 0 passed 4000
       go false = split-in-range (r .analysis .amounts) 0 passed (r .split)
 
-  module _ (o : Outcome) (q : o ≡ cond (eqb (r .split .count) 0) (searchOutcome (r .analysis .amounts) 4000 0)
-      (outcome (splitAnswer (r .analysis .amounts) (r .split) 0) noSplit)) where
+  module _ (o : Outcome) (q : o ≡ readBy reading.Read (r .analysis .amounts) (r .split) 0) where
     answer-ends : RatedOrFew (o .answer)
     answer-ends = subst (λ (x : Outcome). RatedOrFew (x .answer)) (sym q) ends
 
@@ -80,8 +77,7 @@ module _ (s : List ℕ) (r : Sheet) (h : ReadAs s r) (e : r .answer ≡ reading.
     unfolding sheetOutcome
     sheet-read =
         q
-        ∙ ap (λ (x : Sheet). cond (eqb (x .split .count) 0) (searchOutcome (x .analysis .amounts) 4000 0)
-        (outcome (splitAnswer (x .analysis .amounts) (x .split) 0) noSplit)) whole
+        ∙ ap (λ (x : Sheet). readBy reading.Read (x .analysis .amounts) (x .split) 0) whole
         ∙ sym (ap (λ (x : Reading). readBy x (readOf s 0 .analysis .amounts) (readOf s 0 .split) 0) good)
         ∙ ap (sheetOutcome s) (sym (free (o .answer) answer-ends))
 
@@ -95,9 +91,9 @@ pub sheet-refused-is : (s : List ℕ) (r : Sheet) → ReadAs s r → (number pla
     → (at : ℕ) (o : Outcome) → at ≡ read.placeOf (reading.Refused number place code)
     → o ≡ outcome (Refused number at) noSplit
     → (o ≡ sheetOutcome s (faultOf (o .answer)))
-    × (numberOf (o .answer) ≡ 5 → FaultIn (getD s 0 0) s (faultOf (o .answer)))
+    × (numberOf (o .answer) ≡ 5 → FaultInSheet s (faultOf (o .answer)))
 sheet-refused-is s r h number place code e at o c q =
     subst (λ (x : Outcome). (x ≡ sheetOutcome s (faultOf (x .answer)))
-        × (numberOf (x .answer) ≡ 5 → FaultIn (getD s 0 0) s (faultOf (x .answer))))
+    × (numberOf (x .answer) ≡ 5 → FaultInSheet s (faultOf (x .answer))))
     (sym (q ∙ ap (λ (n : ℕ). outcome (Refused number n) noSplit) c))
     (sheet-refused s r h number place code e, sheet-fault s r h number place code e)

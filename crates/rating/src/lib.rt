@@ -4,22 +4,20 @@
 // which is proved of those promises, is in crate `demand`, specs/Demand.antt.
 mod records;
 
-ghost use mathlib.Core.Bool.{cond};
 ghost use mathlib.Core.Path.{_≡_};
 ghost use Prim.Native.Nat.{_*_, _≤_, min};
-ghost use lib.Dec.{eqb};
-ghost use lib.ListN.{getD};
 ghost use Rattle.analysis.specs.Check.{analysisRefusal, AtFault};
 ghost use Rattle.sheet.specs.Split.{noSplit};
-ghost use Rattle.sheet.specs.Read.{FaultIn};
+ghost use Rattle.sheet.specs.Read.{FaultInSheet};
 ghost use Rattle.sheet.specs.ReadingCases.{placeOf};
+ghost use Rattle.sheet.specs.declared.Reading.the-variants.{Read};
 ghost use Rattle.split.specs.Split.{RECORDS};
 ghost use Rattle.split.specs.AnswerCases.{numberOf, faultOf};
 ghost use Rattle.split.specs.Rating.{ratingOf, LIMIT};
 ghost use Rattle.split.specs.Proposed.{Proposal};
 ghost use Rattle.split.specs.Fits.{Fit};
 ghost use Rattle.outcome.specs.Rate.{ROUNDS, splitBy, splitAnswer, outcome, foundOutcome, searchOutcome};
-ghost use Rattle.outcome.specs.Rate.{sheetOutcome};
+ghost use Rattle.outcome.specs.Rate.{readBy, sheetOutcome};
 ghost use Rattle.rating.specs.Inner.Given.{FoundFit};
 use analysis::Analysis;
 use analysis::Checked;
@@ -43,7 +41,7 @@ use systems::Choice;
 const LIMIT: u64 = 500000;
 
 // The level of the first stride, 65536 = 2^16.
-const LEVEL: usize = 16;
+const FIRST_LEVEL: usize = 16;
 
 // The most rounds of a search.
 const ROUNDS: u32 = 4000;
@@ -52,11 +50,11 @@ const ROUNDS: u32 = 4000;
 const FEWEST: u32 = 2;
 
 // The rating of a proposed split of an analysis: 5, 6, 16, then 7 to 10, else its rating and its spread.
-pub fn rate_split(a: Analysis, p: Split) -> Answer
-    ensures { λ r. ⌜ r ≡ splitAnswer (a .amounts) p (faultOf r) ⌝ }
-    ensures { λ r. ⌜ (numberOf r ≡ 5 → AtFault (a .amounts) (faultOf r)) ⌝ }
+pub fn rate_split(analysis: Analysis, split: Split) -> Answer
+    ensures { λ r. ⌜ r ≡ splitAnswer (analysis .amounts) split (faultOf r) ⌝ }
+    ensures { λ r. ⌜ (numberOf r ≡ 5 → AtFault (analysis .amounts) (faultOf r)) ⌝ }
 {
-    let simplified = mixture::simplify(a);
+    let simplified = mixture::simplify(analysis);
     let answer = simplified.answer;
     let mixture = simplified.mixture;
     let mix = mixture.amounts;
@@ -73,18 +71,18 @@ pub fn rate_split(a: Analysis, p: Split) -> Answer
                     place: 0,
                 };
             }
-            split_by(choice::choose(mix), mix, inert, p)
+            split_by(choice::choose(mix), mix, inert, split)
         }
     }
 }
 
 // The rating of an analysis by the search, with its split: 5, 6, 16 or 11, else rating, spread and rounds. An allowance
 // above the most rounds counts as those.
-pub fn rate_by_search(a: Analysis, allowance: u32) -> Outcome
-    ensures { λ r. ⌜ r ≡ searchOutcome (a .amounts) allowance (faultOf (r .answer)) ⌝ }
-    ensures { λ r. ⌜ (numberOf (r .answer) ≡ 5 → AtFault (a .amounts) (faultOf (r .answer))) ⌝ }
+pub fn rate_by_search(analysis: Analysis, allowance: u32) -> Outcome
+    ensures { λ r. ⌜ r ≡ searchOutcome (analysis .amounts) allowance (faultOf (r .answer)) ⌝ }
+    ensures { λ r. ⌜ (numberOf (r .answer) ≡ 5 → AtFault (analysis .amounts) (faultOf (r .answer))) ⌝ }
 {
-    let simplified = mixture::simplify(a);
+    let simplified = mixture::simplify(analysis);
     let answer = simplified.answer;
     let mixture = simplified.mixture;
     let mix = mixture.amounts;
@@ -100,7 +98,7 @@ pub fn rate_by_search(a: Analysis, allowance: u32) -> Outcome
                 choice,
                 mix,
                 inert,
-                search::find(mix, choice, LIMIT, LEVEL, at_most(allowance)),
+                search::find(mix, choice, LIMIT, FIRST_LEVEL, at_most(allowance)),
             )
         }
     }
@@ -110,7 +108,7 @@ pub fn rate_by_search(a: Analysis, allowance: u32) -> Outcome
 // none.
 pub fn rate_sheet(s: &[u8]) -> Outcome
     ensures { λ r. ⌜ r ≡ sheetOutcome (now (s .entry)) (faultOf (r .answer)) ⌝ }
-    ensures { λ r. ⌜ (numberOf (r .answer) ≡ 5 → FaultIn (getD (now (s .entry)) 0 0) (now (s .entry)) (faultOf (r .answer))) ⌝ }
+    ensures { λ r. ⌜ (numberOf (r .answer) ≡ 5 → FaultInSheet (now (s .entry)) (faultOf (r .answer))) ⌝ }
 {
     let sheet = reader::read(s);
     let answer = sheet.answer;
@@ -127,31 +125,31 @@ pub fn rate_sheet(s: &[u8]) -> Outcome
 }
 
 // The rating of what was read, an analysis in range.
-fn rate_read(a: Analysis, p: Split) -> Outcome
-    requires { ⌜ analysisRefusal (a .amounts) ≡ 0 ⌝ }
-    ensures { λ r. ⌜ r ≡ cond (eqb (p .count) 0) (searchOutcome (a .amounts) ROUNDS 0) (outcome (splitAnswer (a .amounts) p 0) noSplit) ⌝ }
+fn rate_read(analysis: Analysis, split: Split) -> Outcome
+    requires { ⌜ analysisRefusal (analysis .amounts) ≡ 0 ⌝ }
+    ensures { λ r. ⌜ r ≡ readBy Read (analysis .amounts) split 0 ⌝ }
 {
-    let count = p.count;
+    let count = split.count;
     if count == 0 {
-        return rate_by_search(a, ROUNDS);
+        return rate_by_search(analysis, ROUNDS);
     }
     Outcome {
-        answer: rate_split(a, p),
+        answer: rate_split(analysis, split),
         split: no_split(),
     }
 }
 
 // The answer to a split of chosen systems, a mixture and its inert part.
-fn split_by(choice: Choice, mix: [u32; COMPONENTS], n1: u32, p: Split) -> Answer
+fn split_by(choice: Choice, mix: [u32; COMPONENTS], n1: u32, split: Split) -> Answer
     requires { ⌜ Proposal mix (choice .systems) (choice .count) n1 × (3 * choice .count ≤ RECORDS) ⌝ }
-    ensures { λ r. ⌜ r ≡ splitBy (choice .systems) (choice .count) mix n1 p ⌝ }
+    ensures { λ r. ⌜ r ≡ splitBy (choice .systems) (choice .count) mix n1 split ⌝ }
 {
     let count = choice.count;
     let systems = choice.systems;
-    let records = p.count;
-    let found = p.systems;
-    let codes = p.codes;
-    let amounts = p.amounts;
+    let records = split.count;
+    let found = split.systems;
+    let codes = split.codes;
+    let amounts = split.amounts;
     if !records::fits(systems, count, records, found, codes) {
         return Answer::Refused {
             number: MISFIT,
@@ -183,7 +181,8 @@ fn answer_of(proposed: Proposed) -> Answer
 
 // What a search that was made came to: a rating with its split, or 11.
 fn found_outcome(choice: Choice, mix: [u32; COMPONENTS], n1: u32, found: Found) -> Outcome
-    requires { ⌜ Proposal mix (choice .systems) (choice .count) n1 × FoundFit mix (choice .systems) (choice .count) found ⌝ }
+    requires { ⌜ Proposal mix (choice .systems) (choice .count) n1
+        × FoundFit mix (choice .systems) (choice .count) found ⌝ }
     ensures { λ r. ⌜ r ≡ foundOutcome (choice .systems) (choice .count) n1 found ⌝ }
 {
     let search = found.search;
@@ -206,7 +205,8 @@ fn found_outcome(choice: Choice, mix: [u32; COMPONENTS], n1: u32, found: Found) 
 
 // The rating of cells that are fit.
 fn rating_of(choice: Choice, mix: [u32; COMPONENTS], cells: [u32; CELLS], n1: u32) -> i64
-    requires { ⌜ Proposal mix (choice .systems) (choice .count) n1 × Fit LIMIT (choice .systems) (choice .count) mix cells ⌝ }
+    requires { ⌜ Proposal mix (choice .systems) (choice .count) n1
+        × Fit LIMIT (choice .systems) (choice .count) mix cells ⌝ }
     ensures { λ r. ⌜ r ≡ ratingOf (choice .systems) (choice .count) cells n1 ⌝ }
 {
     let answer = answer_of(proposal::proposed(LIMIT, choice, mix, cells, n1));

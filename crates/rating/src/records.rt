@@ -15,10 +15,12 @@ use systems::COMPONENTS;
 use systems::SYSTEMS;
 
 // How far the component of each of a system's three records lies above the record's place: the components rise, so two
-// bits each hold it, six for a system number, from the right. Only candidates' are read.
+// bits each hold it, from the right, six for a system number, from the right. Only candidates' are read. System 1, the
+// second group from the right, has 00, 00 and 10: its components are 0, 1 and 2 + 2, methane, ethane and hydrogen.
 const RISING: u64 = 0b010000_010100_101000_100100_000000_000000_010101_100000_000000;
 
-// The components' codes in a split, a hexadecimal digit each, from the right.
+// The components' codes in a split, a hexadecimal digit each, from the right: methane 1, ethane 2, propane 3, butane
+// 14, hydrogen 15.
 const CODES: u64 = 0xFE321;
 
 // The component of a candidate's jth record.

@@ -1,14 +1,13 @@
-// The reader of a sheet: refusals 1 to 6, or the analysis and the split. No public function has a `requires`.
+// The reader of a sheet: refusals 1 to 6, or the analysis and the split. The definitions are in crate `sheet`, Read and
+// what it names. No public function has a `requires`.
 ghost use mathlib.Core.Path.{_≡_};
 ghost use Prim.Native.Nat.{_+_, _*_, _<_, _≤_};
-ghost use lib.ListN.{length, getD, replicate};
-ghost use Rattle.analysis.specs.Register.{CODES};
+ghost use lib.ListN.{length};
 ghost use Rattle.sheet.specs.Bytes.{fourBytes, fourBytesAt};
-ghost use Rattle.sheet.specs.Components.{COMPONENT_BYTES, codeRefusal, codesReading, amountsFrom};
+ghost use Rattle.sheet.specs.Components.{COMPONENT_BYTES, codeRefusal, codesReading};
 ghost use Rattle.sheet.specs.Split.{RECORDS, RECORD_BYTES, splitAt};
 ghost use Rattle.sheet.specs.Sheet.{LISTED, sectionsOf};
-ghost use Rattle.sheet.specs.ReadingCases.{numberOf, faultOf};
-ghost use Rattle.sheet.specs.Read.{refusedSheet, readOf, FaultIn};
+ghost use Rattle.sheet.specs.Read.{amountsOf, refusedSheet, ReadAs};
 ghost use Rattle.reader.specs.Inner.Find.{AmountsRefused};
 use analysis::Analysis;
 use analysis::CODES;
@@ -130,7 +129,7 @@ fn codes(s: &[u8], n: usize) -> Reading
 // The amounts of `n` component records, by code.
 fn amounts(s: &[u8], n: usize) -> [u32; CODES]
     requires { ⌜ 1 + COMPONENT_BYTES * n ≤ length (now s) ⌝ }
-    ensures { λ r. ⌜ r ≡ amountsFrom n (now (s .entry)) 1 (replicate CODES 0) ⌝ }
+    ensures { λ r. ⌜ r ≡ amountsOf n (now (s .entry)) ⌝ }
 {
     let mut a = [0u32; CODES];
     let mut i: usize = 0;
@@ -203,7 +202,7 @@ fn refused_with(number: u32, place: u32, code: u32) -> Sheet
 
 // Is a component listed at 0, or the analysis out of range? Refused 5 or 6, or not.
 fn amounts_refused(s: &[u8], n: usize, a: Analysis) -> Checked
-    requires { ⌜ (1 + COMPONENT_BYTES * n ≤ length (now s)) × (a .amounts ≡ amountsFrom n (now s) 1 (replicate CODES 0)) ⌝ }
+    requires { ⌜ (1 + COMPONENT_BYTES * n ≤ length (now s)) × (a .amounts ≡ amountsOf n (now s)) ⌝ }
     ensures { λ r. ⌜ AmountsRefused n (now (s .entry)) r ⌝ }
 {
     let mut i: usize = 0;
@@ -224,8 +223,7 @@ fn amounts_refused(s: &[u8], n: usize, a: Analysis) -> Checked
 
 // The sheet that the bytes are, or the refusal.
 pub fn read(s: &[u8]) -> Sheet
-    ensures { λ r. ⌜ r ≡ readOf (now (s .entry)) (faultOf (r .answer)) ⌝ }
-    ensures { λ r. ⌜ (numberOf (r .answer) ≡ 5 → FaultIn (getD (now (s .entry)) 0 0) (now (s .entry)) (faultOf (r .answer))) ⌝ }
+    ensures { λ r. ⌜ ReadAs (now (s .entry)) r ⌝ }
 {
     let parts = sections(s);
     let Sections::Both {

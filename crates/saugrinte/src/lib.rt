@@ -4,9 +4,8 @@
 //
 // No public function has a `requires`.
 ghost use mathlib.Core.Path.{_≡_};
-ghost use lib.ListN.{getD};
 ghost use Rattle.analysis.specs.Check.{AtFault};
-ghost use Rattle.sheet.specs.Read.{readOf, FaultIn};
+ghost use Rattle.sheet.specs.Read.{readOf, FaultInSheet};
 ghost use Rattle.sheet.specs.Write.{writtenOf, leftOf};
 ghost use Rattle.ternary.specs.Answer.{partialOf};
 ghost use Rattle.whole_number.specs.Whole.{wholeNumber};
@@ -43,13 +42,15 @@ pub extern "C" fn saugrinte_rate(
     codes: &mut [u8; RECORDS],
     parts: &mut [u32; RECORDS],
 ) -> Reply
-    ensures { λ r. let x = sheetOutcome (now (sheet .entry)) (codeIn r) in ⌜ (r ≡ replyOf (x .answer))
-        × (now (figures .exit) ≡ figuresOf (x .answer) (now (figures .entry)))
-        × (now (count .exit) ≡ bufferOf (x .answer) (x .split .count) (now (count .entry)))
-        × (now (systems .exit) ≡ bufferOf (x .answer) (x .split .systems) (now (systems .entry)))
-        × (now (codes .exit) ≡ bufferOf (x .answer) (x .split .codes) (now (codes .entry)))
-        × (now (parts .exit) ≡ bufferOf (x .answer) (x .split .amounts) (now (parts .entry))) ⌝ }
-    ensures { λ r. ⌜ (r .number ≡ 5 → FaultIn (getD (now (sheet .entry)) 0 0) (now (sheet .entry)) (codeIn r)) ⌝ }
+    ensures { λ r. let x = sheetOutcome (now (sheet .entry)) (codeIn r) in
+        let answer = x .answer in
+        let split = x .split in ⌜ (r ≡ replyOf answer)
+        × (now (figures .exit) ≡ figuresOf answer (now (figures .entry)))
+        × (now (count .exit) ≡ bufferOf answer (split .count) (now (count .entry)))
+        × (now (systems .exit) ≡ bufferOf answer (split .systems) (now (systems .entry)))
+        × (now (codes .exit) ≡ bufferOf answer (split .codes) (now (codes .entry)))
+        × (now (parts .exit) ≡ bufferOf answer (split .amounts) (now (parts .entry))) ⌝ }
+    ensures { λ r. ⌜ (r .number ≡ 5 → FaultInSheet (now (sheet .entry)) (codeIn r)) ⌝ }
 {
     c_ratings::rate_sheet(sheet, figures, count, systems, codes, parts)
 }
@@ -65,12 +66,14 @@ pub extern "C" fn saugrinte_search(
     codes: &mut [u8; RECORDS],
     parts: &mut [u32; RECORDS],
 ) -> Reply
-    ensures { λ r. let x = searchOutcome (now (amounts .entry)) allowance (codeIn r) in ⌜ (r ≡ replyOf (x .answer))
-        × (now (figures .exit) ≡ figuresOf (x .answer) (now (figures .entry)))
-        × (now (count .exit) ≡ bufferOf (x .answer) (x .split .count) (now (count .entry)))
-        × (now (systems .exit) ≡ bufferOf (x .answer) (x .split .systems) (now (systems .entry)))
-        × (now (codes .exit) ≡ bufferOf (x .answer) (x .split .codes) (now (codes .entry)))
-        × (now (parts .exit) ≡ bufferOf (x .answer) (x .split .amounts) (now (parts .entry))) ⌝ }
+    ensures { λ r. let x = searchOutcome (now (amounts .entry)) allowance (codeIn r) in
+        let answer = x .answer in
+        let split = x .split in ⌜ (r ≡ replyOf answer)
+        × (now (figures .exit) ≡ figuresOf answer (now (figures .entry)))
+        × (now (count .exit) ≡ bufferOf answer (split .count) (now (count .entry)))
+        × (now (systems .exit) ≡ bufferOf answer (split .systems) (now (systems .entry)))
+        × (now (codes .exit) ≡ bufferOf answer (split .codes) (now (codes .entry)))
+        × (now (parts .exit) ≡ bufferOf answer (split .amounts) (now (parts .entry))) ⌝ }
     ensures { λ r. ⌜ (r .number ≡ 5 → AtFault (now (amounts .entry)) (codeIn r)) ⌝ }
 {
     c_ratings::rate_by_search(amounts, allowance, figures, count, systems, codes, parts)
@@ -119,13 +122,15 @@ pub extern "C" fn saugrinte_read(
     codes: &mut [u8; RECORDS],
     parts: &mut [u32; RECORDS],
 ) -> Reply
-    ensures { λ r. let x = readOf (now (sheet .entry)) (codeIn r) in ⌜ (r ≡ readReply (x .answer))
-        × (now (amounts .exit) ≡ readOr (x .answer) (x .analysis .amounts) (now (amounts .entry)))
-        × (now (count .exit) ≡ readOr (x .answer) (x .split .count) (now (count .entry)))
-        × (now (systems .exit) ≡ readOr (x .answer) (x .split .systems) (now (systems .entry)))
-        × (now (codes .exit) ≡ readOr (x .answer) (x .split .codes) (now (codes .entry)))
-        × (now (parts .exit) ≡ readOr (x .answer) (x .split .amounts) (now (parts .entry))) ⌝ }
-    ensures { λ r. ⌜ (r .number ≡ 5 → FaultIn (getD (now (sheet .entry)) 0 0) (now (sheet .entry)) (codeIn r)) ⌝ }
+    ensures { λ r. let x = readOf (now (sheet .entry)) (codeIn r) in
+        let answer = x .answer in
+        let split = x .split in ⌜ (r ≡ readReply answer)
+        × (now (amounts .exit) ≡ readOr answer (x .analysis .amounts) (now (amounts .entry)))
+        × (now (count .exit) ≡ readOr answer (split .count) (now (count .entry)))
+        × (now (systems .exit) ≡ readOr answer (split .systems) (now (systems .entry)))
+        × (now (codes .exit) ≡ readOr answer (split .codes) (now (codes .entry)))
+        × (now (parts .exit) ≡ readOr answer (split .amounts) (now (parts .entry))) ⌝ }
+    ensures { λ r. ⌜ (r .number ≡ 5 → FaultInSheet (now (sheet .entry)) (codeIn r)) ⌝ }
 {
     c_sheets::read_sheet(sheet, amounts, count, systems, codes, parts)
 }

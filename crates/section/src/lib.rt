@@ -1,5 +1,5 @@
-// The sections of a sheet, each a count byte and so many records of one size: the section at an offset, and a walker that
-// holds the lent sheet and the offset, and moves on section by section. No public function has a `requires`.
+// The sections of a sheet, each a count byte and so many records of one size: the section at an offset, and a walker
+// that holds the lent sheet and the offset, and moves on section by section. No public function has a `requires`.
 ghost use mathlib.Core.Path.{_≡_};
 ghost use Prim.Native.Nat.{_*_};
 ghost use Rattle.section.specs.Section.{sectionAt};

@@ -70,7 +70,11 @@ pub record ListedAtZero (n : ℕ) (s : List ℕ) (code : ℕ) : Type 0 where
 abbrev pub FaultIn : ℕ → List ℕ → ℕ → Type 0
 FaultIn n s code = ListedAtZero n s code ⊎ AtFault (amountsOf n s) code
 
+-- of as many components as its first byte says
+abbrev pub FaultInSheet : List ℕ → ℕ → Type 0
+FaultInSheet s code = FaultIn (getD s 0 0) s code
+
 -- the promise of the reader: the sheet is fixed but for the code of 5, and that is a code at fault
 pub record ReadAs (s : List ℕ) (r : Sheet) : Type 0 where
   pub sheet : r ≡ readOf s (faultOf (r .answer))
-  pub code : numberOf (r .answer) ≡ 5 → FaultIn (getD s 0 0) s (faultOf (r .answer))
+  pub code : numberOf (r .answer) ≡ 5 → FaultInSheet s (faultOf (r .answer))

@@ -1,4 +1,5 @@
-// A sheet: what it holds, and the answers of its reader and its writer. The bytes and the two round trips are in specs/.
+// A sheet: what it holds, and the answers of its reader and its writer. The bytes and the two round trips are in
+// specs/; the code that reads and writes is in crates `reader` and `writer`.
 // No public function has a `requires`.
 ghost use mathlib.Core.Path.{_≡_};
 ghost use Rattle.sheet.specs.Split.{allowedCount};

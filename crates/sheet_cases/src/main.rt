@@ -1,5 +1,5 @@
-// Reads the sheets of the data files, writes each that reads again, and prints a line for each; then writes the analyses of
-// the file `writings`. Files and lines are described in tests/sheet_cases.py, which makes both.
+// Reads the sheets of the data files, writes each that reads again, and prints a line for each; then writes the
+// analyses of the file `writings`. Files and lines are described in tests/sheet_cases.py, which makes both.
 ghost use Prim.Native.Nat.{_≤_, _<_};
 ghost use lib.ListN.{length};
 use analysis::Analysis;

@@ -1,4 +1,5 @@
-// The candidate systems and their components, and what a choice of systems is. No public function has a `requires`.
+// The candidate systems and their components, and what a choice of systems is. The definition of the choice is in
+// specs/Choice; the code that chooses is in crate `choice`. No public function has a `requires`.
 ghost use mathlib.Core.Path.{_≡_};
 ghost use Prim.Native.Nat.{_*_, _/_, _%_, _^_, _<_};
 ghost use Rattle.systems.specs.Systems.{memberOf, hasOf};
@@ -12,7 +13,8 @@ pub const HYDROGEN: usize = 4;
 // System numbers are below this one.
 const NUMBERS: usize = 9;
 
-// The systems' first, second and third components: an octal digit for each system number, from the right.
+// The systems' first, second and third components: an octal digit for each system number, from the right. System 1, the
+// second from the right, has 0, 4 and 1: methane, hydrogen and ethane. Numbers that are no candidates have COMPONENTS.
 const FIRST: u64 = 0o000005205;
 
 const SECOND: u64 = 0o124415145;
@@ -48,7 +50,8 @@ pub fn member(system: u8, j: usize) -> usize
 }
 
 // What each system number has for its members: BITS bits a number, from the right, one for each component and the last
-// for COMPONENTS, which numbers that are no candidates have.
+// for COMPONENTS, which numbers that are no candidates have. System 1, the second group from the right, has 010011:
+// methane, ethane and hydrogen.
 const HELD: u64 = 0b001011_001101_011001_010101_000111_100000_001110_010011_100000;
 
 const BITS: usize = 6;

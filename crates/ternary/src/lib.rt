@@ -1,4 +1,5 @@
-// Partial numbers of the ternary systems (000 A.3.4), by the formulas in the crate `formula`.
+// Partial numbers of the ternary systems (000 A.3.4). The definitions of the formulas, of the working rule and of the
+// ranges are in crate `formula`; those of the answers are in specs/Answer.
 //
 // A part is 0.0001 % by volume, a unit 0.0000001 of a methane number: document 01's own terms.
 // No public function has a `requires`.

@@ -1,5 +1,5 @@
-// The step of the working rule, n / d of an accumulator with its fraction dropped towards zero and the next coefficient,
-// by multiplications with n / d in binary digits in place of a division.
+// The step of the working rule, n / d of an accumulator with its fraction dropped towards zero and the next
+// coefficient, by multiplications with n / d in binary digits in place of a division.
 ghost use mathlib.Core.Path.{_≡_};
 ghost use Prim.Native.Nat.{_+_, _*_, _/_, _<_, _≤_};
 ghost use lib.IntN.{pos, natAbs};
@@ -7,7 +7,7 @@ ghost use lib.Dec.{T};
 ghost use lib.Signed.{nonNeg};
 ghost use Rattle.integer.specs.Figures.{MILLION};
 ghost use Rattle.formula.specs.WorkingRule.{stepZ, LARGEST};
-ghost use Rattle.ternary.specs.Inner.Precomputed.{Precomputed};
+ghost use Rattle.ternary.specs.Inner.Precomputed.{Digits};
 
 // 1 / d is counted in 2^63ths.
 pub(crate) const ONE: u64 = 9223372036854775808;
@@ -32,7 +32,7 @@ pub(crate) struct Ratio {
 // The ratio n / d, by the inverse of d.
 pub(crate) fn ratio_of(n: u32, d: u64, inverse: u64) -> Ratio
     requires { ⌜ (n ≤ d) × (0 < d) × (d ≤ MILLION) × (inverse ≡ 9223372036854775808 / d) ⌝ }
-    ensures { λ r. ⌜ (r .n ≡ n) × (r .d ≡ d) × Precomputed (r .n) (r .d) (r .high) (r .low) ⌝ }
+    ensures { λ r. ⌜ (r .n ≡ n) × (r .d ≡ d) × Digits r ⌝ }
 {
     let scaled = n as u64 * inverse / DROPPED;
     Ratio {
@@ -45,7 +45,7 @@ pub(crate) fn ratio_of(n: u32, d: u64, inverse: u64) -> Ratio
 
 // One step of the working rule: n / d of acc, its fraction dropped towards zero, and the next coefficient c.
 pub(crate) fn step(acc: i64, c: i64, w: Ratio) -> i64
-    requires { ⌜ (natAbs acc + natAbs c ≤ LARGEST) × Precomputed (w .n) (w .d) (w .high) (w .low) ⌝ }
+    requires { ⌜ (natAbs acc + natAbs c ≤ LARGEST) × Digits w ⌝ }
     ensures { λ r. ⌜ r ≡ stepZ acc (w .n) (w .d) c ⌝ }
 {
     if acc < 0 {
@@ -61,7 +61,7 @@ pub(crate) fn step(acc: i64, c: i64, w: Ratio) -> i64
 // than x / 2^21 + 2 parts of 2^21 too small, so that it is exact where its own fraction leaves room for these; else it
 // is compared with what is left over, and corrected once.
 fn share(a: i64, w: Ratio) -> i64
-    requires { ⌜ T (nonNeg a) × (natAbs a ≤ LARGEST) × Precomputed (w .n) (w .d) (w .high) (w .low) ⌝ }
+    requires { ⌜ T (nonNeg a) × (natAbs a ≤ LARGEST) × Digits w ⌝ }
     ensures { λ r. ⌜ r ≡ pos (natAbs a * (w .n) / (w .d)) ⌝ }
 {
     let x = a as u64;

@@ -5,7 +5,7 @@ ghost use lib.IntN.{natAbs};
 ghost use Rattle.integer.specs.Figures.{MILLION};
 ghost use Rattle.formula.specs.Coefficients.{coeffOf};
 ghost use Rattle.formula.specs.WorkingRule.{stepZ, horner, coefs, worked, rowsOf, LARGEST};
-ghost use Rattle.ternary.specs.Inner.Precomputed.{Precomputed};
+ghost use Rattle.ternary.specs.Inner.Precomputed.{Digits};
 ghost use Rattle.ternary.specs.Inner.Table.{inTable, Bounded};
 use super::ratio::ONE;
 use super::ratio::Ratio;
@@ -27,7 +27,7 @@ pub(crate) fn number(system: u32, n1: u32, n2: u32, d: u64) -> i64
 
 // The rows in w, combined in v. Rows 4 to 7 have one coefficient each.
 fn rows(t: &[i64; 20], v: Ratio, w: Ratio) -> i64
-    requires { ⌜ Bounded (now t) × (v .d ≡ w .d) × Precomputed (v .n) (v .d) (v .high) (v .low) × Precomputed (w .n) (w .d) (w .high) (w .low) ⌝ }
+    requires { ⌜ Bounded (now t) × (v .d ≡ w .d) × Digits v × Digits w ⌝ }
     ensures { λ r. ⌜ r ≡ worked (v .n) (w .n) (v .d) (rowsOf (inTable (now (t .entry)))) ⌝ }
 {
     let high = row(t, 16, 4, v);
@@ -40,7 +40,7 @@ fn rows(t: &[i64; 20], v: Ratio, w: Ratio) -> i64
 
 // `count` coefficients from place `at` on, in w, from the last down.
 fn row(t: &[i64; 20], at: usize, count: usize, w: Ratio) -> i64
-    requires { ⌜ Bounded (now t) × (at + count ≤ 20) × Precomputed (w .n) (w .d) (w .high) (w .low) ⌝ }
+    requires { ⌜ Bounded (now t) × (at + count ≤ 20) × Digits w ⌝ }
     ensures { λ r. ⌜ r ≡ horner (w .n) (w .d) (coefs (inTable (now (t .entry))) at count) ⌝ }
 {
     let mut i = at + count;
@@ -54,8 +54,9 @@ fn row(t: &[i64; 20], at: usize, count: usize, w: Ratio) -> i64
 
 // Rows 0 to 3 and the higher rows, already combined, in v.
 fn combined(high: i64, r3: i64, r2: i64, r1: i64, r0: i64, v: Ratio) -> i64
-    requires { ⌜ (natAbs high + natAbs r3 + natAbs r2 + natAbs r1 + natAbs r0 ≤ LARGEST) × Precomputed (v .n) (v .d) (v .high) (v .low) ⌝ }
-    ensures { λ r. ⌜ r ≡ stepZ (stepZ (stepZ (stepZ high (v .n) (v .d) r3) (v .n) (v .d) r2) (v .n) (v .d) r1) (v .n) (v .d) r0 ⌝ }
+    requires { ⌜ (natAbs high + natAbs r3 + natAbs r2 + natAbs r1 + natAbs r0 ≤ LARGEST) × Digits v ⌝ }
+    ensures { λ r. let n = v .n in let d = v .d in
+        ⌜ r ≡ stepZ (stepZ (stepZ (stepZ high n d r3) n d r2) n d r1) n d r0 ⌝ }
 {
     step(step(step(step(high, r3, v), r2, v), r1, v), r0, v)
 }

@@ -1,5 +1,5 @@
-// The writer of a sheet: refusals 1, 5, 6 and 14, or the sheet's bytes at the start of a lent buffer.
-// No public function has a `requires`.
+// The writer of a sheet: refusals 1, 5, 6 and 14, or the sheet's bytes at the start of a lent buffer. The definitions
+// are in crate `sheet`, Write and what it names. No public function has a `requires`.
 ghost use mathlib.Core.Path.{_≡_};
 ghost use Prim.Native.Nat.{_+_, _*_, _<_, _≤_};
 ghost use mathlib.Core.List.{_∷_, _++_};
@@ -10,9 +10,7 @@ ghost use Rattle.sheet.specs.Bytes.{bytesOf};
 ghost use Rattle.sheet.specs.Components.{COMPONENT_BYTES, countOf, componentBytes};
 ghost use Rattle.sheet.specs.Split.{RECORDS, RECORD_BYTES, splitBytes};
 ghost use Rattle.sheet.specs.Sheet.{sheetOf};
-ghost use Rattle.analysis.specs.Check.{AtFault};
-ghost use Rattle.sheet.specs.WrittenCases.{numberOf, faultOf};
-ghost use Rattle.sheet.specs.Write.{writtenOf, leftOf};
+ghost use Rattle.sheet.specs.Write.{WrittenAs};
 ghost use Rattle.writer.specs.Inner.Answered.{Answered, roomFor};
 use analysis::Analysis;
 use analysis::CODES;
@@ -71,7 +69,8 @@ fn listed(a: [u32; CODES]) -> usize
 // The records of the codes with an amount, after the count byte; where they end.
 fn put_components(a: [u32; CODES], b: &mut [u8]) -> usize
     requires { ⌜ 1 + COMPONENT_BYTES * countOf a ≤ length (now b) ⌝ }
-    ensures { λ r. ⌜ (r ≡ 1 + COMPONENT_BYTES * countOf a) × (now (b .exit) ≡ sets (now (b .entry)) 1 (componentBytes 0 a)) ⌝ }
+    ensures { λ r. ⌜ (r ≡ 1 + COMPONENT_BYTES * countOf a)
+        × (now (b .exit) ≡ sets (now (b .entry)) 1 (componentBytes 0 a)) ⌝ }
 {
     let mut at: usize = 1;
     let mut k: usize = 0;
@@ -87,14 +86,14 @@ fn put_components(a: [u32; CODES], b: &mut [u8]) -> usize
 }
 
 // The records of a split.
-fn put_split(p: Split, b: &mut [u8], at: usize)
-    requires { ⌜ (p .count ≤ RECORDS) × (at + RECORD_BYTES * p .count ≤ length (now b)) ⌝ }
-    ensures { λ _. ⌜ now (b .exit) ≡ sets (now (b .entry)) at (splitBytes p) ⌝ }
+fn put_split(split: Split, b: &mut [u8], at: usize)
+    requires { ⌜ (split .count ≤ RECORDS) × (at + RECORD_BYTES * split .count ≤ length (now b)) ⌝ }
+    ensures { λ _. ⌜ now (b .exit) ≡ sets (now (b .entry)) at (splitBytes split) ⌝ }
 {
-    let m = p.count;
-    let systems = p.systems;
-    let codes = p.codes;
-    let amounts = p.amounts;
+    let m = split.count;
+    let systems = split.systems;
+    let codes = split.codes;
+    let amounts = split.amounts;
     let mut i: usize = 0;
     let mut w: usize = at;
     while i < m {
@@ -105,10 +104,10 @@ fn put_split(p: Split, b: &mut [u8], at: usize)
 }
 
 // The answer for a buffer of `size` bytes.
-fn answer(a: Analysis, p: Split, size: usize) -> Written
-    ensures { λ r. ⌜ Answered (a .amounts) p size r ⌝ }
+fn answer(analysis: Analysis, split: Split, size: usize) -> Written
+    ensures { λ r. ⌜ Answered (analysis .amounts) split size r ⌝ }
 {
-    let m = p.count;
+    let m = split.count;
     let allowed = sheet::allowed_count(m);
     if !allowed {
         return Written::Refused {
@@ -116,11 +115,11 @@ fn answer(a: Analysis, p: Split, size: usize) -> Written
             code: 0,
         };
     }
-    let checked = analysis::check(a);
+    let checked = analysis::check(analysis);
     if let Checked::Refused { number, code } = checked {
         return Written::Refused { number, code };
     }
-    let amounts = a.amounts;
+    let amounts = analysis.amounts;
     length_in(amounts, m, size)
 }
 
@@ -140,29 +139,28 @@ fn length_in(a: [u32; CODES], m: usize, size: usize) -> Written
 }
 
 // The sheet's bytes at the buffer's start; the rest stays.
-fn put_sheet(a: [u32; CODES], p: Split, b: &mut [u8])
-    requires { ⌜ (p .count ≤ RECORDS) × (length (sheetOf a p) ≤ length (now b)) ⌝ }
-    ensures { λ _. ⌜ now (b .exit) ≡ sheetOf a p ++ drop (length (sheetOf a p)) (now (b .entry)) ⌝ }
+fn put_sheet(a: [u32; CODES], split: Split, b: &mut [u8])
+    requires { ⌜ (split .count ≤ RECORDS) × (length (sheetOf a split) ≤ length (now b)) ⌝ }
+    ensures { λ _. let sheet = sheetOf a split in
+        ⌜ now (b .exit) ≡ sheet ++ drop (length sheet) (now (b .entry)) ⌝ }
 {
     let n = listed(a);
     b[0] = n as u8;
     let at = put_components(a, b);
-    let m = p.count;
+    let m = split.count;
     b[at] = m as u8;
-    put_split(p, b, at + 1);
+    put_split(split, b, at + 1);
 }
 
 // The sheet of the analysis and the split in the buffer, and its length; or a refusal, and the buffer as it was.
-pub fn write(a: Analysis, p: Split, b: &mut [u8]) -> Written
-    ensures { λ r. ⌜ r ≡ writtenOf (a .amounts) p (length (now (b .entry))) (faultOf r) ⌝ }
-    ensures { λ _. ⌜ now (b .exit) ≡ leftOf (a .amounts) p (now (b .entry)) ⌝ }
-    ensures { λ r. ⌜ (numberOf r ≡ 5 → AtFault (a .amounts) (faultOf r)) ⌝ }
+pub fn write(analysis: Analysis, split: Split, buffer: &mut [u8]) -> Written
+    ensures { λ r. ⌜ WrittenAs (analysis .amounts) split (now (buffer .entry)) r (now (buffer .exit)) ⌝ }
 {
-    let answer = answer(a, p, b.len());
+    let answer = answer(analysis, split, buffer.len());
     let Written::Length(_) = answer else {
         return answer;
     };
-    let amounts = a.amounts;
-    put_sheet(amounts, p, b);
+    let amounts = analysis.amounts;
+    put_sheet(amounts, split, buffer);
     answer
 }

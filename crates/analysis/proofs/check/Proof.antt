@@ -17,7 +17,7 @@ abbrev μ-loop : tie.MeasureT-loop
 μ-loop amounts ranges fault₀ sum₀ code₀ fault sum code = code
 
 loop-holds : tie.Need-loop-holds Inv-loop μ-loop
-loop-holds c = let l : length (c .before .args .a .amounts) ≡ CODES = search needs in walk-none _ l
+loop-holds c = let l : length (c .before .args .analysis .amounts) ≡ CODES = search needs in walk-none _ l
 
 sub-code : tie.Need-sub-code Inv-loop μ-loop
 sub-code c = search needs
@@ -34,19 +34,23 @@ plus-requires c κs = search needs
 mul-fault-at : tie.Need-mul-fault-at Inv-loop μ-loop
 mul-fault-at c = search needs
 
-array-read-fault-at : tie.Need-array-read-fault-at Inv-loop μ-loop
-array-read-fault-at c = search needs
+array-copy-out-fault-at : tie.Need-array-copy-out-fault-at Inv-loop μ-loop
+array-copy-out-fault-at c = search needs
 
 fault-at-requires : tie.Need-fault-at-requires Inv-loop μ-loop
-fault-at-requires c κs = let h : c .before .before .loop .code - 1 < CODES = search needs in (h, range-at _ h)
+fault-at-requires c κs =
+    let h : c .before .before .before .loop .code - 1 < CODES = search needs in
+    let r = range-at _ h in
+    (h, r .0, r .1)
 
 loop-less : tie.Need-loop-less Inv-loop μ-loop
 loop-less c = search needs
 
 loop-again : tie.Need-loop-again Inv-loop μ-loop
 loop-again c =
-    let b = c .before .before in
-    walk-next _ _ _ _ _ (b .before .loop .inv) (b .loop-test .taken) (c .before .plus .ensures) _ (c .fault-at .ensures)
+    let p = c .before .before in
+    let b = p .before in
+    walk-next _ _ _ _ _ (b .before .loop .inv) (b .loop-test .taken) (p .plus .ensures) _ (c .fault-at .ensures)
 
 answer-requires : tie.Need-answer-requires Inv-loop μ-loop
 answer-requires c κs = c .before .loop .inv .within
@@ -54,8 +58,7 @@ answer-requires c κs = c .before .loop .inv .within
 returns : tie.Need-returns Inv-loop μ-loop
 returns c =
     let b = c .before in
-    let h = checking _ _ _ _ _ (b .loop-test .left) (b .before .loop .inv) (c .answer .ensures) in
-    (h .answer, h .code)
+    checking _ _ _ _ _ (b .loop-test .left) (b .before .loop .inv) (c .answer .ensures)
 
 pub check-spec : {M : Type 1} → statement M
 check-spec =
@@ -69,7 +72,7 @@ check-spec =
     array-read-amount
     plus-requires
     mul-fault-at
-    array-read-fault-at
+    array-copy-out-fault-at
     fault-at-requires
     loop-less
     loop-again

@@ -1,6 +1,5 @@
 -- `c_ratings::rate_sheet` meets its contract. Assumes nothing.
-use lib.ListN.{getD}
-use Rattle.sheet.specs.Read.{FaultIn}
+use Rattle.sheet.specs.Read.{FaultInSheet}
 use Rattle.outcome.specs.Rate.{sheetOutcome}
 use Rattle.c_ratings.proofs.Cases.{put-is, fault-at}
 use borrow.Author.Needs.{needs}
@@ -20,7 +19,7 @@ returns c =
     let l = b .before .before .args .sheet .now in
     let p = c .put-outcome .ensures in (
       put-is (sheetOutcome l) _ (s .ensures .0) _ _ _ _ _ _ _ _ _ _ _ p,
-      fault-at (s .result .answer) _ (p .0) (FaultIn (getD l 0 0) l) (s .ensures .1),
+      fault-at (s .result .answer) _ (p .0) (FaultInSheet l) (s .ensures .1),
     )
 
 pub rate-sheet-spec : {M : Type 1} → statement M

@@ -2,7 +2,6 @@
 use mathlib.Core.Path.{_≡_, ap}
 use native.Mathlib.Omega.{arith}
 use Prim.Native.Nat.{ℕ}
-use Rattle.sheet.specs.Read.{ReadAs}
 use Rattle.sheet.specs.declared.Sheet.{Sheet}
 use Rattle.c_sheets.proofs.Sheets.{whole, read-done, is-read, reply-refused, stays, read-fault}
 use borrow.Author.Needs.{needs}
@@ -20,9 +19,7 @@ read-refused-requires c κs = search needs
 
 returns : tie.Need-returns
 returns c =
-    let r = c .before .before .before .before .read in
-    let h : ReadAs (c .before .before .before .before .before .before .args .sheet .now) (r .result) =
-        record { sheet = r .ensures .0; code = r .ensures .1 } in
+    let h = c .before .before .before .before .read .ensures in
     let e = c .before .before .answer .given .1 in
     let o = c .read-refused .result in
     let q = c .read-refused .ensures in (
@@ -42,9 +39,7 @@ enum-told c = search needs
 
 returns-2 : tie.Need-returns-2
 returns-2 c =
-    let r = c .before .before .before .before .before .before .read in
-    let h : ReadAs (c .before .before .before .before .before .before .before .before .args .sheet .now) (r .result) =
-        record { sheet = r .ensures .0; code = r .ensures .1 } in
+    let h = c .before .before .before .before .before .before .read .ensures in
     let e = c .before .before .before .before .enum-told .given .1 in
     let w = whole _ _ h e in (
       (

@@ -25,8 +25,7 @@ same-length c = search needs
 returns : tie.Need-returns
 returns c =
     let b = c .before .before .before .before .before in
-    let e = b .write .ensures in
-    let w = written-by _ _ _ _ _ _ (b .before .before .before .split-from .ensures) (e .0) (e .1 .0) (e .1 .1) in
+    let w = written-by _ _ _ _ _ _ (b .before .before .before .split-from .ensures) (b .write .ensures) in
     written-done _ _ _ _ _ w _ (c .before .written .given .1) _
 
 same-length-2 : tie.Need-same-length-2
@@ -35,8 +34,7 @@ same-length-2 c = search needs
 returns-2 : tie.Need-returns-2
 returns-2 c =
     let b = c .before .before .before .before .before .before in
-    let e = b .write .ensures in
-    let w = written-by _ _ _ _ _ _ (b .before .before .before .split-from .ensures) (e .0) (e .1 .0) (e .1 .1) in
+    let w = written-by _ _ _ _ _ _ (b .before .before .before .split-from .ensures) (b .write .ensures) in
     written-refused _ _ _ _ _ w _ _ (c .before .before .written2 .given .1) _ (c .refused .ensures) _
 
 pub write-sheet-spec : {M : Type 1} → statement M

@@ -4,6 +4,7 @@ use mathlib.Core.Path.{_≡_, refl}
 use native.Mathlib.Omega.{arith}
 use Rattle.systems.specs.Systems.{COMPONENTS}
 use Rattle.systems.specs.Choice.{allTo}
+use Rattle.choice.specs.Inner.Keys.{MOST_WEIGHTED}
 use Rattle.choice.proofs.Keying.{all-next}
 use borrow.Author.Needs.{needs}
 use Rattle.choice.proofs.above.Statement.{statement}
@@ -11,7 +12,7 @@ use Rattle.choice.proofs.above.Tie as tie
 use Rattle.choice.proofs.weigh.Reads as weigh-reads
 
 abbrev Inv-loop : tie.InvT-loop
-Inv-loop m k₀ c₀ k c = (c ≤ COMPONENTS) × (k ≤ 429496729500 * c + 1) × (k ≡ allTo m c + 1)
+Inv-loop m k₀ c₀ k c = (c ≤ COMPONENTS) × (k ≤ MOST_WEIGHTED * c + 1) × (k ≡ allTo m c + 1)
 
 abbrev μ-loop : tie.MeasureT-loop
 μ-loop m k₀ c₀ k c = COMPONENTS - c
@@ -39,9 +40,12 @@ loop-less : tie.Need-loop-less Inv-loop μ-loop
 loop-less c = search needs
 
 loop-again : tie.Need-loop-again Inv-loop μ-loop
-loop-again c =
-    (omega arith, omega (arith, c .weigh .ensures .1), all-next _ _ _ _ (c .before .before .loop .inv .2)
-    (c .weigh .ensures .0))
+loop-again c = (
+  omega arith,
+  omega (arith, c .weigh .ensures .1),
+  all-next _ _ _ _ (c .before .before .loop .inv .2)
+      (c .weigh .ensures .0),
+)
 
 returns : tie.Need-returns Inv-loop μ-loop
 returns c =

@@ -5,15 +5,14 @@ use native.Mathlib.Omega.{arith}
 use borrow.Author.Needs.{needs}
 use lib.ListN.{getD}
 use Rattle.systems.specs.Systems.{COMPONENTS}
-use Rattle.systems.specs.Choice.{candidatesFor}
-use Rattle.choice.specs.Inner.Keys.{keyWeights}
+use Rattle.choice.specs.Inner.Keys.{candidateAt, MOST_WEIGHTED, keyWeights}
 use Rattle.choice.proofs.Keying.{weighed-next}
 use Rattle.choice.proofs.fitness.Statement.{statement}
 use Rattle.choice.proofs.fitness.Tie as tie
 
 abbrev Inv-loop : tie.InvT-loop
 Inv-loop hydrogen i m k₀ c₀ k c =
-    (c ≤ COMPONENTS) × (k ≤ 429496729500 * c + 1) × (k ≡ keyWeights m (getD (candidatesFor hydrogen) i 0) c + 1)
+    (c ≤ COMPONENTS) × (k ≤ MOST_WEIGHTED * c + 1) × (k ≡ keyWeights m (candidateAt hydrogen i) c + 1)
 
 abbrev μ-loop : tie.MeasureT-loop
 μ-loop hydrogen i m k₀ c₀ k c = COMPONENTS - c
@@ -41,9 +40,12 @@ loop-less : tie.Need-loop-less Inv-loop μ-loop
 loop-less c = search needs
 
 loop-again : tie.Need-loop-again Inv-loop μ-loop
-loop-again c =
-    (omega arith, omega (arith, c .weighted .ensures .1), weighed-next _ _ _ _ _ (c .before .before .loop .inv .2)
-    (c .weighted .ensures .0))
+loop-again c = (
+  omega arith,
+  omega (arith, c .weighted .ensures .1),
+  weighed-next _ _ _ _ _ (c .before .before .loop .inv .2)
+      (c .weighted .ensures .0),
+)
 
 returns : tie.Need-returns Inv-loop μ-loop
 returns c =

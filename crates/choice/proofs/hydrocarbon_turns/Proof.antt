@@ -34,8 +34,14 @@ ordered-requires c κs = omega arith
 
 cast-if1 : tie.Need-cast-if1 Inv-loop μ-loop
 cast-if1 c =
-    record { fits = omega (arith, c .ordered .ensures, order-lt (c .before .before .loop .i % HYDROCARBONS + 1)
-    (omega arith)) }
+    record {
+      fits = omega (
+        arith,
+        c .ordered .ensures,
+        order-lt (c .before .before .loop .i % HYDROCARBONS + 1)
+            (omega arith),
+      );
+    }
 
 shr-if1 : tie.Need-shr-if1 Inv-loop μ-loop
 shr-if1 c = omega (arith, c .ordered .ensures, order-lt (c .before .before .loop .i % HYDROCARBONS + 1) (omega arith))
@@ -55,16 +61,15 @@ loop-less : tie.Need-loop-less Inv-loop μ-loop
 loop-less c = search needs
 
 loop-again : tie.Need-loop-again Inv-loop μ-loop
-loop-again c = (
-  omega arith,
-  ⊎-elim
-      (λ w. rw (w .3) (turns-next false wantedAt turnAt _ _ _ _ _ _ (c .before .before .before .loop .inv .1)
-      (c .before .ordered .ensures ∙ order-next (c .before .before .before .loop .i % HYDROCARBONS)) (w .0 .taken)
-      (w .2 .ensures)))
-      (λ w. rw (w .1) (turns-over false wantedAt turnAt _ _ _ _ _ (c .before .before .before .loop .inv .1)
-      (c .before .ordered .ensures ∙ order-next (c .before .before .before .loop .i % HYDROCARBONS)) (w .0 .left)))
-      (c .if1 .came),
-)
+loop-again c =
+    let l = c .before .before .before .loop in
+    let e = c .before .ordered .ensures ∙ order-next (l .i % HYDROCARBONS) in (
+      omega arith,
+      ⊎-elim
+          (λ w. rw (w .3) (turns-next false wantedAt turnAt _ _ _ _ _ _ (l .inv .1) e (w .0 .taken) (w .2 .ensures)))
+          (λ w. rw (w .1) (turns-over false wantedAt turnAt _ _ _ _ _ (l .inv .1) e (w .0 .left)))
+          (c .if1 .came),
+    )
 
 returns : tie.Need-returns Inv-loop μ-loop
 returns c = turns-all _ _ _ _ (c .before .loop .inv .1) (c .before .loop .inv .0) (c .loop-test .left)

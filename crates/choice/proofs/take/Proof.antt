@@ -40,21 +40,22 @@ loop-less : tie.Need-loop-less Inv-loop μ-loop
 loop-less c = search needs
 
 loop-again : tie.Need-loop-again Inv-loop μ-loop
-loop-again c = ⊎-elim
-    (λ w. tally-chosen _ _ _ _ _ _ _ (c .before .before .before .loop .inv)
-    (omega (arith, c .before .before .loop-test .taken, c .before .before .before .before .candidates .ensures .0)) _
-    _ _ (sym (c .before .contains .ensures) ∙ w .0 .taken) (w .2 .taken) (w .3) (w .4) (w .5))
+loop-again c =
+    let b = c .before .before in
+    let t = b .loop-test .taken in
+    let l = b .before .loop in
+    let n = b .before .before .candidates .ensures in
+    let e = sym (c .before .contains .ensures) in
+    ⊎-elim
+    (λ w. tally-chosen _ _ _ _ _ _ _ (l .inv) (omega (arith, t, n .0)) _ _ _ (e ∙ w .0 .taken) (w .2 .taken) (w .3)
+    (w .4) (w .5))
     (⊎-elim
-    (λ w. tally-more _ _ _ _ _ _ _ (c .before .before .before .loop .inv)
-    (omega (arith, c .before .before .loop-test .taken, c .before .before .before .before .candidates .ensures .0)) _
-    _ _ (sym (c .before .contains .ensures) ∙ w .0 .taken) (w .2 .left) (w .4) (w .3 .taken) (w .5) (w .6))
+    (λ w. tally-more _ _ _ _ _ _ _ (l .inv) (omega (arith, t, n .0)) _ _ _ (e ∙ w .0 .taken) (w .2 .left) (w .4)
+    (w .3 .taken) (w .5) (w .6))
     (⊎-elim
-    (λ w. tally-less _ _ _ _ _ _ _ (c .before .before .before .loop .inv)
-    (omega (arith, c .before .before .loop-test .taken, c .before .before .before .before .candidates .ensures .0)) _
-    _ _ (sym (c .before .contains .ensures) ∙ w .0 .taken) (w .2 .left) (w .4) (w .3 .left) (w .5) (w .6))
-    (λ w. tally-lacks _ _ _ _ _ _ _ (c .before .before .before .loop .inv)
-    (omega (arith, c .before .before .loop-test .taken, c .before .before .before .before .candidates .ensures .0)) _
-    _ _ (sym (c .before .contains .ensures) ∙ w .0 .left) (w .1) (w .2) (w .3))))
+    (λ w. tally-less _ _ _ _ _ _ _ (l .inv) (omega (arith, t, n .0)) _ _ _ (e ∙ w .0 .taken) (w .2 .left) (w .4)
+    (w .3 .left) (w .5) (w .6))
+    (λ w. tally-lacks _ _ _ _ _ _ _ (l .inv) (omega (arith, t, n .0)) _ _ _ (e ∙ w .0 .left) (w .1) (w .2) (w .3))))
     (c .if1 .came)
 
 mul-keys : tie.Need-mul-keys Inv-loop μ-loop

@@ -8,6 +8,14 @@ use lib.ListN.{getD, length}
 use Rattle.systems.specs.Systems.{hasOf}
 use Rattle.systems.specs.Choice.{NUMBERS, weightedParts, candidatesFor, isChosen}
 
+-- the candidate in place i, where hydrogen is present or not
+abbrev pub candidateAt : Bool → ℕ → ℕ
+candidateAt hydrogen i = getD (candidatesFor hydrogen) i 0
+
+-- the greatest weight, 100, times the greatest amount
+abbrev pub MOST_WEIGHTED : ℕ
+MOST_WEIGHTED = 429496729500
+
 -- the weighted parts of the components below c that a system contains
 unfoldable pub keyWeights : List ℕ → ℕ → ℕ → ℕ
 keyWeights mix system zero = 0
@@ -26,4 +34,4 @@ pub record Keyed (hydrogen : Bool) (standing : ℕ → ℕ) (marks : List Bool) 
   pub marked : length marks ≡ NUMBERS
   pub long : length keys ≡ KEYS
   pub at : (i : ℕ) → i < length (candidatesFor hydrogen)
-      → getD keys i 0 ≡ keyOf standing marks (getD (candidatesFor hydrogen) i 0)
+      → getD keys i 0 ≡ keyOf standing marks (candidateAt hydrogen i)

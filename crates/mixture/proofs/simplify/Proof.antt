@@ -2,7 +2,6 @@
 use mathlib.Core.Path.{_≡_, sym, _∙_}
 use lib.ListN.{length}
 use Rattle.analysis.specs.Register.{CODES}
-use Rattle.analysis.specs.Check.{Checking}
 use Rattle.mixture.specs.Laws.Bounds.{tenths-positive}
 use Rattle.mixture.proofs.Answered.{refusal-none, refusal-some, same-answer, mixture-in-range}
 use Rattle.mixture.proofs.Answered.{inert-in-range, mixture-refused, inert-refused}
@@ -19,10 +18,9 @@ enum-told c = search needs
 in-range-requires : tie.Need-in-range-requires
 in-range-requires c κs =
     let k = c .before .before .before in
-    let a = k .before .before .args .a .amounts in
+    let a = k .before .before .args .analysis .amounts in
     let l : length a ≡ CODES = search needs in
-    tenths-positive a l (refusal-none a _ (record { answer = k .check .ensures .0; code = k .check .ensures .1 })
-        (c .before .enum-told .given .1))
+    tenths-positive a l (refusal-none a _ (k .check .ensures) (c .before .enum-told .given .1))
 
 enum-known-answer : tie.Need-enum-known-answer
 enum-known-answer c = search needs
@@ -33,24 +31,22 @@ refused-requires c κs = search needs
 returns : tie.Need-returns
 returns c =
     let k = c .before .before .before .before in
-    let a = k .before .before .args .a .amounts in
+    let a = k .before .before .args .analysis .amounts in
     let e = c .before .before .enum-told .given .1 in
-    let h : Checking a (k .check .result) = record { answer = k .check .ensures .0; code = k .check .ensures .1 } in
+    let h = k .check .ensures in
     let n = refusal-none a _ h e in
-    let s = same-answer a _ _ h (c .in-range .ensures .0 ∙ sym e) in
-    (s .answer, (s .code, (mixture-in-range a n _ (c .in-range .ensures .1),
-    inert-in-range a n _ (c .in-range .ensures .2))))
+    let r = c .in-range .ensures in
+    (same-answer a _ _ h (r .0 ∙ sym e), (mixture-in-range a n _ (r .1), inert-in-range a n _ (r .2)))
 
 returns-2 : tie.Need-returns-2
 returns-2 c =
     let k = c .before .before .before .before in
-    let a = k .before .before .args .a .amounts in
+    let a = k .before .before .args .analysis .amounts in
     let e = c .before .before .answer .given .1 in
-    let h : Checking a (k .check .result) = record { answer = k .check .ensures .0; code = k .check .ensures .1 } in
+    let h = k .check .ensures in
     let n = refusal-some a _ _ _ h e in
-    let s = same-answer a _ _ h (c .refused .ensures .0 ∙ sym e) in
-    (s .answer, (s .code, (mixture-refused a n _ (c .refused .ensures .1),
-    inert-refused a n _ (c .refused .ensures .2))))
+    let r = c .refused .ensures in
+    (same-answer a _ _ h (r .0 ∙ sym e), (mixture-refused a n _ (r .1), inert-refused a n _ (r .2)))
 
 pub simplify-spec : {M : Type 1} → statement M
 simplify-spec =

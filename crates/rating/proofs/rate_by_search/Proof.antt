@@ -9,6 +9,10 @@ use borrow.Author.Needs.{needs}
 use Rattle.rating.proofs.rate_by_search.Statement.{statement}
 use Rattle.rating.proofs.rate_by_search.Tie as tie
 
+-- the analysis has an amount for each code
+long : (b : tie.After-simplify) → length (b .before .args .analysis .amounts) ≡ CODES
+long b = search needs
+
 simplify-requires : tie.Need-simplify-requires
 simplify-requires c κs = search needs
 
@@ -28,13 +32,17 @@ refused-requires-2 : tie.Need-refused-requires-2
 refused-requires-2 c κs = search needs
 
 returns : tie.Need-returns
-returns c = let b = c .before .before .before .before .before .before .before in
-    let a = b .before .args .a .amounts in
-    let l : length a ≡ CODES = search needs in
+returns c =
+    let n = c .before .before in
+    let t = n .before in
+    let b = t .before .before .before .before in
+    let a = b .before .args .analysis .amounts in
+    let l = long b in
     let s = b .simplify .ensures in
-    let p = in-range _ _ (record { answer = s .0; code = s .1 .0 }) (c .before .before .before .enum-told .given .1) in
-    search-away-is _ _ _ _ _ (count-few a l p _ _ (s .1 .1 .0) (c .before .before .present-count .ensures)
-        (omega (arith, c .before .if1 .taken))) (c .refused2 .ensures)
+    let p = in-range _ _ (s .0) (t .enum-told .given .1) in
+    search-away-is _ _ _ _ _
+    (count-few a l p _ _ (s .1 .0) (n .present-count .ensures) (omega (arith, c .before .if1 .taken)))
+    (c .refused2 .ensures)
 
 choose-requires : tie.Need-choose-requires
 choose-requires c κs = search needs
@@ -46,37 +54,41 @@ find-requires : tie.Need-find-requires
 find-requires c κs = search needs
 
 found-outcome-requires : tie.Need-found-outcome-requires
-found-outcome-requires c κs = let b = c .before .before .before .before .before .before .before .before .before in
-    let a = b .before .args .a .amounts in
-    let l : length a ≡ CODES = search needs in
+found-outcome-requires c κs =
+    let h = c .before .before in
+    let n = h .before .before in
+    let t = n .before in
+    let b = t .before .before .before .before in
+    let a = b .before .args .analysis .amounts in
+    let l = long b in
     let s = b .simplify .ensures in
-    let p = in-range _ _ (record { answer = s .0; code = s .1 .0 })
-        (c .before .before .before .before .before .enum-told .given .1) in
-    let on = count-enough a l p _ _ (s .1 .1 .0) (c .before .before .before .before .present-count .ensures)
-        (omega (arith, c .before .before .before .if1 .left)) in (
-      given-proposal a l p on _ _ _ (s .1 .1 .0) (c .before .before .choose .ensures) (s .1 .1 .1),
-      found-fit a l p on _ _ _ (s .1 .1 .0) (c .before .before .choose .ensures) (s .1 .1 .1)
+    let p = in-range _ _ (s .0) (t .enum-told .given .1) in
+    let on = count-enough a l p _ _ (s .1 .0) (n .present-count .ensures) (omega (arith, h .before .if1 .left)) in (
+      given-proposal a l p on _ _ _ (s .1 .0) (h .choose .ensures) (s .1 .1),
+      found-fit a l p on _ _ _ (s .1 .0) (h .choose .ensures) (s .1 .1)
           (b .before .args .allowance) _ (c .before .at-most .ensures) _ (c .find .ensures),
     )
 
 returns-2 : tie.Need-returns-2
-returns-2 c = let b = c .before .before .before .before .before .before in
-    search-away-is _ _ _ _ _ (turned-away _ _
-        (record { answer = b .simplify .ensures .0; code = b .simplify .ensures .1 .0 }) _ _
-        (c .before .before .answer .given .1)) (c .refused .ensures)
+returns-2 c =
+    let k = c .before .before in
+    let s = k .before .before .before .before .simplify .ensures in
+    search-away-is _ _ _ _ _ (turned-away _ _ (s .0) _ _ (k .answer .given .1)) (c .refused .ensures)
 
 returns-3 : tie.Need-returns-3
-returns-3 c = let b = c .before .before .before .before .before .before .before .before .before .before in
-    let a = b .before .args .a .amounts in
-    let l : length a ≡ CODES = search needs in
+returns-3 c =
+    let f = c .before in
+    let h = f .before .before in
+    let n = h .before .before in
+    let t = n .before in
+    let b = t .before .before .before .before in
+    let a = b .before .args .analysis .amounts in
+    let l = long b in
     let s = b .simplify .ensures in
-    let p = in-range _ _ (record { answer = s .0; code = s .1 .0 })
-        (c .before .before .before .before .before .before .enum-told .given .1) in
-    let on = count-enough a l p _ _ (s .1 .1 .0) (c .before .before .before .before .before .present-count .ensures)
-        (omega (arith, c .before .before .before .before .if1 .left)) in
-    let e = search-in a l p on _ _ _ (s .1 .1 .0) (c .before .before .before .choose .ensures) (s .1 .1 .1)
-        (b .before .args .allowance) _ (c .before .before .at-most .ensures) _ (c .before .find .ensures) _
-        (c .found-outcome .ensures) in
+    let p = in-range _ _ (s .0) (t .enum-told .given .1) in
+    let on = count-enough a l p _ _ (s .1 .0) (n .present-count .ensures) (omega (arith, h .before .if1 .left)) in
+    let e = search-in a l p on _ _ _ (s .1 .0) (h .choose .ensures) (s .1 .1)
+    (b .before .args .allowance) _ (f .before .at-most .ensures) _ (f .find .ensures) _ (c .found-outcome .ensures) in
     (e, λ z. absurd (search-not-five a l p _ _ _ e z))
 
 pub rate-by-search-spec : {M : Type 1} → statement M

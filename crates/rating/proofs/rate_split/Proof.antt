@@ -9,6 +9,10 @@ use borrow.Author.Needs.{needs}
 use Rattle.rating.proofs.rate_split.Statement.{statement}
 use Rattle.rating.proofs.rate_split.Tie as tie
 
+-- the analysis has an amount for each code
+long : (b : tie.After-simplify) → length (b .before .args .analysis .amounts) ≡ CODES
+long b = search needs
+
 simplify-requires : tie.Need-simplify-requires
 simplify-requires c κs = search needs
 
@@ -22,44 +26,52 @@ present-count-requires : tie.Need-present-count-requires
 present-count-requires c κs = search needs
 
 returns : tie.Need-returns
-returns c = let b = c .before .before .before .before .before .before in
-    let a = b .before .args .a .amounts in
-    let l : length a ≡ CODES = search needs in
+returns c =
+    let t = c .before .before in
+    let b = t .before .before .before .before in
+    let a = b .before .args .analysis .amounts in
+    let l = long b in
     let s = b .simplify .ensures in
-    let p = in-range _ _ (record { answer = s .0; code = s .1 .0 }) (c .before .before .enum-told .given .1) in
-    let t = count-few a l p _ _ (s .1 .1 .0) (c .before .present-count .ensures) (omega (arith, c .if1 .taken)) in
-    (split-away _ _ _ _ t, t .fault)
+    let p = in-range _ _ (s .0) (t .enum-told .given .1) in
+    let w = count-few a l p _ _ (s .1 .0) (c .before .present-count .ensures) (omega (arith, c .if1 .taken)) in
+    (split-away _ _ _ _ w, w .fault)
 
 choose-requires : tie.Need-choose-requires
 choose-requires c κs = search needs
 
 split-by-requires : tie.Need-split-by-requires
-split-by-requires c κs = let b = c .before .before .before .before .before .before .before in
-    let a = b .before .args .a .amounts in
-    let l : length a ≡ CODES = search needs in
+split-by-requires c κs =
+    let n = c .before .before in
+    let t = n .before in
+    let b = t .before .before .before .before in
+    let a = b .before .args .analysis .amounts in
+    let l = long b in
     let s = b .simplify .ensures in
-    let p = in-range _ _ (record { answer = s .0; code = s .1 .0 }) (c .before .before .before .enum-told .given .1) in
-    let on = count-enough a l p _ _ (s .1 .1 .0) (c .before .before .present-count .ensures)
-        (omega (arith, c .before .if1 .left)) in (
-      given-proposal a l p on _ _ _ (s .1 .1 .0) (c .choose .ensures) (s .1 .1 .1),
-      given-room a l p on _ _ _ (s .1 .1 .0) (c .choose .ensures) (s .1 .1 .1),
+    let p = in-range _ _ (s .0) (t .enum-told .given .1) in
+    let on = count-enough a l p _ _ (s .1 .0) (n .present-count .ensures) (omega (arith, c .before .if1 .left)) in (
+      given-proposal a l p on _ _ _ (s .1 .0) (c .choose .ensures) (s .1 .1),
+      given-room a l p on _ _ _ (s .1 .0) (c .choose .ensures) (s .1 .1),
     )
 
 returns-2 : tie.Need-returns-2
-returns-2 c = let s = c .before .before .before .before .before .simplify .ensures in
-    let t = turned-away _ _ (record { answer = s .0; code = s .1 .0 }) _ _ (c .before .answer .given .1) in
-    (split-away _ _ _ _ t, t .fault)
+returns-2 c =
+    let k = c .before in
+    let s = k .before .before .before .before .simplify .ensures in
+    let w = turned-away _ _ (s .0) _ _ (k .answer .given .1) in
+    (split-away _ _ _ _ w, w .fault)
 
 returns-3 : tie.Need-returns-3
-returns-3 c = let b = c .before .before .before .before .before .before .before .before in
-    let a = b .before .args .a .amounts in
-    let l : length a ≡ CODES = search needs in
+returns-3 c =
+    let h = c .before in
+    let n = h .before .before in
+    let t = n .before in
+    let b = t .before .before .before .before in
+    let a = b .before .args .analysis .amounts in
+    let l = long b in
     let s = b .simplify .ensures in
-    let p = in-range _ _ (record { answer = s .0; code = s .1 .0 })
-        (c .before .before .before .before .enum-told .given .1) in
-    let on = count-enough a l p _ _ (s .1 .1 .0) (c .before .before .before .present-count .ensures)
-        (omega (arith, c .before .before .if1 .left)) in
-    let e = split-in a l p on _ _ _ (s .1 .1 .0) (c .before .choose .ensures) (s .1 .1 .1) _ _ (c .split-by .ensures) in
+    let p = in-range _ _ (s .0) (t .enum-told .given .1) in
+    let on = count-enough a l p _ _ (s .1 .0) (n .present-count .ensures) (omega (arith, h .before .if1 .left)) in
+    let e = split-in a l p on _ _ _ (s .1 .0) (h .choose .ensures) (s .1 .1) _ _ (c .split-by .ensures) in
     (e, λ z. absurd (split-not-five a l p _ _ _ e z))
 
 pub rate-split-spec : {M : Type 1} → statement M

@@ -10,7 +10,7 @@ fits-requires c κs = search needs
 
 returns : tie.Need-returns
 returns c =
-    split-misfit _ _ _ _ (c .before .before .before .before .before .before .args .p) _ (c .before .fits2 .ensures)
+    split-misfit _ _ _ _ (c .before .before .before .before .before .before .args .split) _ (c .before .fits2 .ensures)
     (c .if1 .taken)
 
 cells-of-requires : tie.Need-cells-of-requires
@@ -22,14 +22,15 @@ proposed-requires c κs = search needs
 answer-of-requires : tie.Need-answer-of-requires
 answer-of-requires c κs =
     answered-not-unfit _ _ _ _ _ _ (c .before .before .before .before .before .before .before .before .pre .0) _
-        (c .proposed .ensures)
+    (c .proposed .ensures)
 
 returns-2 : tie.Need-returns-2
 returns-2 c =
-    let b = c .before .before .before .before .before .before .before .before .before in
-    split-fitting _ _ _ _ (b .args .p) _ (c .before .before .before .before .fits2 .ensures) _ _ _ (b .pre .0)
-    (c .before .before .before .if1 .left) (c .before .before .cells-of .ensures) (c .before .proposed .ensures)
-    (c .answer-of .ensures)
+    let t = c .before .before .before in
+    let f = t .before in
+    let b = f .before .before .before .before .before in
+    split-fitting _ _ _ _ (b .args .split) _ (f .fits2 .ensures) _ _ _ (b .pre .0) (t .if1 .left)
+    (c .before .before .cells-of .ensures) (c .before .proposed .ensures) (c .answer-of .ensures)
 
 pub split-by-spec : {M : Type 1} → statement M
 split-by-spec =

@@ -33,7 +33,7 @@ returns c =
     let b = c .before .before .before in
     let l = b .before .loop .inv in
     zero-found _ _ _ _ (l .there) (looked-zero _ _ _ _ l (b .loop-test .taken) _
-        (c .before .before .amount-at .ensures) (c .before .if1 .taken)) (b .loop-test .taken)
+    (c .before .before .amount-at .ensures) (c .before .if1 .taken)) (b .loop-test .taken)
 
 add-i : tie.Need-add-i Inv-loop μ-loop
 add-i c = omega arith
@@ -56,7 +56,7 @@ returns-2 : tie.Need-returns-2 Inv-loop μ-loop
 returns-2 c =
     let b = c .before in
     checked-found _ _ _ (looked-all _ _ _ _ (b .before .loop .inv) (b .loop-test .left)) (b .loop-test .left) _
-        (b .before .before .before .pre .1) _ (record { answer = c .check .ensures .0; code = c .check .ensures .1 })
+    (b .before .before .before .pre .1) _ (c .check .ensures)
 
 pub amounts-refused-spec : {M : Type 1} → statement M
 amounts-refused-spec =

@@ -30,11 +30,12 @@ code-refusal-requires c κs = omega arith
 
 returns : tie.Need-returns Inv-loop μ-loop
 returns c =
-    let a = c .before .before .before .before .before .before .args in
-    let l = c .before .before .before .before .loop in
-    let t = c .before .before .before .loop-test .taken in
+    let b = c .before .before .before in
+    let l = b .before .loop in
+    let a = b .before .before .before .args in
     let f = c .before .code-refusal .ensures in
-    let stop = codes-stop (a .n) (l .i) (a .s .now) (l .at) (l .p) t (λ z. c .if1 .taken (f ∙ z)) in
+    let stop = codes-stop (a .n) (l .i) (a .s .now) (l .at) (l .p) (b .loop-test .taken)
+    (λ z. c .if1 .taken (f ∙ z)) in
     ap (λ (x : ℕ). Refused x (l .place) 0) f
     ∙ ap (λ (x : ℕ). Refused (codeRefusal (getD (a .s .now) (l .at) 0) (l .p)) x 0) (l .inv .2)
     ∙ sym stop
@@ -54,11 +55,11 @@ loop-less c = omega arith
 
 loop-again : tie.Need-loop-again Inv-loop μ-loop
 loop-again c =
-    let a = c .before .before .before .before .before .before .args in
-    let l = c .before .before .before .before .loop in
-    let t = c .before .before .before .loop-test .taken in
+    let b = c .before .before .before in
+    let l = b .before .loop in
+    let a = b .before .before .before .args in
     let f = c .before .code-refusal .ensures in
-    let go = codes-go (a .n) (l .i) (a .s .now) (l .at) (l .p) t (sym f ∙ c .if1 .left) in
+    let go = codes-go (a .n) (l .i) (a .s .now) (l .at) (l .p) (b .loop-test .taken) (sym f ∙ c .if1 .left) in
     (search needs, search needs, search needs, sym go ∙ l .inv .3)
 
 returns-2 : tie.Need-returns-2 Inv-loop μ-loop

@@ -30,9 +30,8 @@ refused-with-requires c κs = search needs
 
 returns : tie.Need-returns
 returns c =
-    let h = answer-torn _ _ (sym (c .before .before .before .sections .ensures) ∙ c .before .enum-told .given .1)
-        (c .refused-with .ensures) in
-    (h .sheet, h .code)
+    answer-torn _ _ (sym (c .before .before .before .sections .ensures) ∙ c .before .enum-told .given .1)
+    (c .refused-with .ensures)
 
 codes-requires : tie.Need-codes-requires
 codes-requires c κs =
@@ -51,9 +50,9 @@ refused-requires c κs = search needs
 returns-2 : tie.Need-returns-2
 returns-2 c =
     let t = c .before .enum-told3 .given .1 in
-    let h = answer-codes _ _ _ _ _ (both (c .before .before .before .before)) _ _ _
-        (sym (c .before .before .before .codes .ensures) ∙ t) (c .refused .ensures ∙ ap refusedSheet t) in
-    (h .sheet, h .code)
+    let k = c .before .before .before in
+    answer-codes _ _ _ _ _ (both (k .before)) _ _ _ (sym (k .codes .ensures) ∙ t)
+    (c .refused .ensures ∙ ap refusedSheet t)
 
 amounts-requires : tie.Need-amounts-requires
 amounts-requires c κs =
@@ -81,22 +80,23 @@ split-at-requires c κs =
 
 returns-3 : tie.Need-returns-3
 returns-3 c =
-    let t = c .before .before .checked .given .1 in
-    let d = sym (c .before .before .before .before .before .before .before .before .codes .ensures)
-        ∙ c .before .before .before .before .before .before .enum-told2 .given .1 in
-    let h = answer-amounts _ _ _ _ _
-        (both (c .before .before .before .before .before .before .before .before .before)) d _ _ _
-        (c .before .before .before .before .amounts-refused .ensures) t (c .refused-with2 .ensures) in
-    (h .sheet, h .code)
+    let a = c .before .before .before .before in
+    let l = a .before .before in
+    let k = l .before .before in
+    answer-amounts _ _ _ _ _ (both (k .before)) (sym (k .codes .ensures) ∙ l .enum-told2 .given .1) _ _ _
+    (a .amounts-refused .ensures) (c .before .before .checked .given .1) (c .refused-with2 .ensures)
 
 returns-4 : tie.Need-returns-4
 returns-4 c =
-    let t = c .before .enum-told4 .given .1 in
-    let d = sym (c .before .before .before .before .before .before .before .codes .ensures) ∙ c .before .before .before .before .before .enum-told2 .given .1 in
-    let f = c .before .before .before .before .amounts .ensures in
+    let t = c .before in
+    let a = t .before .before in
+    let l = a .before .before in
+    let k = l .before .before in
+    let f = a .before .amounts .ensures in
     let p = c .split-at .ensures in
-    let h = answer-good _ _ _ _ _ (both (c .before .before .before .before .before .before .before .before)) d _ (c .before .before .before .amounts-refused .ensures) t (λ i. record { answer = Read; analysis = record { amounts = f i }; split = p i }) in
-    (h .sheet, h .code)
+    answer-good _ _ _ _ _ (both (k .before)) (sym (k .codes .ensures) ∙ l .enum-told2 .given .1) _
+    (a .amounts-refused .ensures) (t .enum-told4 .given .1)
+    (λ i. record { answer = Read; analysis = record { amounts = f i }; split = p i })
 
 pub read-spec : {M : Type 1} → statement M
 read-spec =

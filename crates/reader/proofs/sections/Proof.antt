@@ -27,8 +27,8 @@ returns c = sym (first-torn _ _ (c .before .before .walk .ensures) (c .enum-told
 
 returns-2 : tie.Need-returns-2
 returns-2 c =
-    sym (too-many _ _ (c .before .before .before .before .walk .ensures) _ _ _
-    (c .before .before .components .given .1) (omega (arith, c .if1 .taken)))
+    let n = c .before .before in
+    sym (too-many _ _ (n .before .before .walk .ensures) _ _ _ (n .components .given .1) (omega (arith, c .if1 .taken)))
 
 enum-known-split : tie.Need-enum-known-split
 enum-known-split c = search needs
@@ -38,38 +38,40 @@ enum-told-2 c = search needs
 
 returns-3 : tie.Need-returns-3
 returns-3 c =
-    let few = c .before .before .if1 .left in
-    sym (second-torn _ _ (c .before .before .before .before .before .before .walk .ensures) _ _ _
-        (c .before .before .before .before .components .given .1) (omega (arith, few)) (c .enum-told2 .given .1))
+    let few = c .before .before in
+    let n = few .before .before in
+    sym (second-torn _ _ (n .before .before .walk .ensures) _ _ _ (n .components .given .1)
+    (omega (arith, few .if1 .left)) (c .enum-told2 .given .1))
 
 allowed-count-requires : tie.Need-allowed-count-requires
 allowed-count-requires c κs = search needs
 
 returns-4 : tie.Need-returns-4
 returns-4 c =
-    let few = c .before .before .before .before .before .if1 .left in
+    let m = c .before .before .before in
+    let few = m .before .before in
+    let n = few .before .before in
     let other = sym (c .before .allowed-count .ensures) ∙ not-true _ (c .if2 .taken) in
-    sym (not-allowed _ _ (c .before .before .before .before .before .before .before .before .before .walk .ensures) _
-        _ _ (c .before .before .before .before .before .before .before .components .given .1)
-        (omega (arith, few)) _ _ _ (c .before .before .before .split .given .1) other)
+    sym (not-allowed _ _ (n .before .before .walk .ensures) _ _ _ (n .components .given .1)
+    (omega (arith, few .if1 .left)) _ _ _ (m .split .given .1) other)
 
 returns-5 : tie.Need-returns-5
 returns-5 c =
-    let few = c .before .before .before .before .before .before .if1 .left in
+    let m = c .before .before .before .before in
+    let few = m .before .before in
+    let n = few .before .before in
     let allowed = sym (c .before .before .allowed-count .ensures) ∙ not-false _ (c .before .if2 .left) in
-    sym (left-over _ _
-        (c .before .before .before .before .before .before .before .before .before .before .walk .ensures) _ _ _
-        (c .before .before .before .before .before .before .before .before .components .given .1)
-        (omega (arith, few)) _ _ _ (c .before .before .before .before .split .given .1) allowed (c .if3 .taken))
+    sym (left-over _ _ (n .before .before .walk .ensures) _ _ _ (n .components .given .1)
+    (omega (arith, few .if1 .left)) _ _ _ (m .split .given .1) allowed (c .if3 .taken))
 
 returns-6 : tie.Need-returns-6
 returns-6 c =
-    let few = c .before .before .before .before .before .before .if1 .left in
+    let m = c .before .before .before .before in
+    let few = m .before .before in
+    let n = few .before .before in
     let allowed = sym (c .before .before .allowed-count .ensures) ∙ not-false _ (c .before .if2 .left) in
-    sym (two-sections _ _
-        (c .before .before .before .before .before .before .before .before .before .before .walk .ensures) _ _ _
-        (c .before .before .before .before .before .before .before .before .components .given .1)
-        (omega (arith, few)) _ _ _ (c .before .before .before .before .split .given .1) allowed (c .if3 .left))
+    sym (two-sections _ _ (n .before .before .walk .ensures) _ _ _ (n .components .given .1)
+    (omega (arith, few .if1 .left)) _ _ _ (m .split .given .1) allowed (c .if3 .left))
 
 pub sections-spec : {M : Type 1} → statement M
 sections-spec =

@@ -46,11 +46,12 @@ share-in-requires-2 c κs = search needs
 
 returns-3 : tie.Need-returns-3
 returns-3 c =
-    let a = c .before .before .before .before .before .before .before .args in
-    let r = c .before .before .before .before .before .ranges-of in
-    second-out (a .system) (a .n1) (a .n2) (a .n3) (r .result) (r .ensures) _
-        (c .before .before .before .before .sum .ensures)
-    (sym (c .before .before .before .share-in .ensures) ∙ not-false _ (c .before .before .if2 .left))
+    let b = c .before .before .before in
+    let d = b .before in
+    let r = d .before .ranges-of in
+    let a = d .before .before .before .args in
+    second-out (a .system) (a .n1) (a .n2) (a .n3) (r .result) (r .ensures) _ (d .sum .ensures)
+    (sym (b .share-in .ensures) ∙ not-false _ (c .before .before .if2 .left))
     (sym (c .before .share-in2 .ensures) ∙ not-true _ (c .if3 .taken))
 
 array-read-share-in-5 : tie.Need-array-read-share-in-5
@@ -64,12 +65,14 @@ share-in-requires-3 c κs = search needs
 
 returns-4 : tie.Need-returns-4
 returns-4 c =
-    let a = c .before .before .before .before .before .before .before .before .args in
-    let r = c .before .before .before .before .before .before .ranges-of in
-    c .share-in3 .ensures ∙ third-is (a .system) (a .n1) (a .n2) (a .n3) (r .result) (r .ensures) _
-        (c .before .before .before .before .before .sum .ensures)
-    (sym (c .before .before .before .before .share-in .ensures) ∙ not-false _ (c .before .before .before .if2 .left))
-    (sym (c .before .before .share-in2 .ensures) ∙ not-false _ (c .before .if3 .left))
+    let e = c .before .before in
+    let b = e .before .before in
+    let d = b .before in
+    let r = d .before .ranges-of in
+    let a = d .before .before .before .args in
+    c .share-in3 .ensures ∙ third-is (a .system) (a .n1) (a .n2) (a .n3) (r .result) (r .ensures) _ (d .sum .ensures)
+    (sym (b .share-in .ensures) ∙ not-false _ (e .before .if2 .left))
+    (sym (e .share-in2 .ensures) ∙ not-false _ (c .before .if3 .left))
 
 pub in-range-spec : {M : Type 1} → statement M
 in-range-spec =

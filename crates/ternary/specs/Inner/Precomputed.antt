@@ -2,6 +2,7 @@
 use mathlib.Core.Path.{_≡_}
 use Prim.Native.Nat.{ℕ, _*_, _/_, _%_, _≤_, _<_}
 use Rattle.integer.specs.Figures.{MILLION}
+use Rattle.ternary.specs.declared.ratio.Ratio.{Ratio}
 
 -- nearly 2^43 * n / d
 abbrev pub scaledOf : ℕ → ℕ → ℕ
@@ -14,3 +15,7 @@ pub record Precomputed (n d high low : ℕ) : Type 0 where
   pub d-le : d ≤ MILLION
   pub high-is : high ≡ scaledOf n d / 4194304
   pub low-is : low ≡ scaledOf n d % 4194304
+
+-- a ratio has its digits precomputed
+abbrev pub Digits : Ratio → Type 0
+Digits w = Precomputed (w .n) (w .d) (w .high) (w .low)

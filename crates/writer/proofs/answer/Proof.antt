@@ -1,11 +1,17 @@
 -- `writer::answer` meets its contract. Assumes nothing.
-use mathlib.Core.Path.{refl, sym, _∙_}
+use mathlib.Core.Path.{_≡_, refl, sym, _∙_}
+use mathlib.Core.Bool.{true}
 use borrow.Author.Tests.{not-true, not-false}
+use Rattle.sheet.specs.Split.{allowedCount}
 use Rattle.sheet.specs.Laws.Cases.{allowed-room}
 use Rattle.writer.proofs.Answers.{answer-count, answer-check, answer-room}
 use borrow.Author.Needs.{needs}
 use Rattle.writer.proofs.answer.Statement.{statement}
 use Rattle.writer.proofs.answer.Tie as tie
+
+-- the count is one that a sheet may have
+allowed : (b : tie.Else1) → allowedCount (b .before .before .args .split .count) ≡ true
+allowed b = sym (b .before .allowed-count .ensures) ∙ not-false _ (b .if1 .left)
 
 allowed-count-requires : tie.Need-allowed-count-requires
 allowed-count-requires c κs = search needs
@@ -20,16 +26,22 @@ enum-known-checked : tie.Need-enum-known-checked
 enum-known-checked c = search needs
 
 returns-2 : tie.Need-returns-2
-returns-2 c = answer-check _ _ _ (sym (c .before .before .before .before .before .allowed-count .ensures) ∙ not-false _ (c .before .before .before .before .if1 .left)) _ _ _ (record { answer = c .before .before .before .check .ensures .0; code = c .before .before .before .check .ensures .1 }) (c .before .checked .given .1)
+returns-2 c =
+    let k = c .before .before .before in
+    answer-check _ _ _ (allowed (k .before)) _ _ _ (k .check .ensures) (c .before .checked .given .1)
 
 enum-told : tie.Need-enum-told
 enum-told c = search needs
 
 length-in-requires : tie.Need-length-in-requires
-length-in-requires c κs = allowed-room _ (sym (c .before .before .before .before .before .allowed-count .ensures) ∙ not-false _ (c .before .before .before .before .if1 .left))
+length-in-requires c κs = allowed-room _ (allowed (c .before .before .before .before))
 
 returns-3 : tie.Need-returns-3
-returns-3 c = answer-room _ _ _ (sym (c .before .before .before .before .before .before .allowed-count .ensures) ∙ not-false _ (c .before .before .before .before .before .if1 .left)) _ (record { answer = c .before .before .before .before .check .ensures .0; code = c .before .before .before .before .check .ensures .1 }) (c .before .before .enum-told .given .1) _ _ refl refl _ (c .length-in .ensures)
+returns-3 c =
+    let t = c .before .before in
+    let k = t .before .before in
+    answer-room _ _ _ (allowed (k .before)) _ (k .check .ensures) (t .enum-told .given .1) _ _ refl refl _
+    (c .length-in .ensures)
 
 pub answer-spec : {M : Type 1} → statement M
 answer-spec =

@@ -49,14 +49,14 @@ loop-less c = search needs
 
 loop-again : tie.Need-loop-again Inv-loop μ-loop
 loop-again c =
-    let l = c .before .before .before .before .before .loop in
-    let a = c .before .before .before .before .before .before .before .before .before .before .args in
-    let t = c .before .before .before .before .loop-test .taken in
-    let r : List ℕ = getD (a .p .systems) (l .i) 0 ∷ getD (a .p .codes) (l .i) 0
-        ∷ bytesOf (getD (a .p .amounts) (l .i) 0) in
-    let rest : List ℕ = recordBytes (a .p .count - (l .i + 1)) (l .i + 1) (a .p .systems) (a .p .codes)
-        (a .p .amounts) in
-    let g = record-go (a .p .count) (l .i) (a .p .systems) (a .p .codes) (a .p .amounts) t in
+    let b = c .before .before .before .before in
+    let t = b .loop-test .taken in
+    let l = b .before .loop in
+    let p = b .before .before .before .before .before .before .args .split in
+    let r : List ℕ =
+    getD (p .systems) (l .i) 0 ∷ getD (p .codes) (l .i) 0 ∷ bytesOf (getD (p .amounts) (l .i) 0) in
+    let rest : List ℕ = recordBytes (p .count - (l .i + 1)) (l .i + 1) (p .systems) (p .codes) (p .amounts) in
+    let g = record-go (p .count) (l .i) (p .systems) (p .codes) (p .amounts) t in
     let f : c .before .before .put-record .last .0 ≡ sets (l .b) (l .w) r = c .before .before .put-record .ensures in (
       search needs,
       search needs,
@@ -70,8 +70,8 @@ same-length c = search needs
 returns : tie.Need-returns Inv-loop μ-loop
 returns c =
     let l = c .before .loop in
-    let a = c .before .before .before .before .before .before .args in
-    let e = record-end (a .p .count) (l .i) (a .p .systems) (a .p .codes) (a .p .amounts) (c .loop-test .left) in
+    let p = c .before .before .before .before .before .before .args .split in
+    let e = record-end (p .count) (l .i) (p .systems) (p .codes) (p .amounts) (c .loop-test .left) in
     ap (λ (v : List ℕ). sets (l .b) (l .w) v) (sym e) ∙ l .inv .3
 
 pub put-split-spec : {M : Type 1} → statement M

@@ -16,14 +16,13 @@ enum-told-2 : tie.Need-enum-told-2
 enum-told-2 c = search needs
 
 returns : tie.Need-returns
-returns c =
-    let h = left-alone _ _ _ _ (c .before .before .answer .ensures) _ _ (c .enum-told2 .given .1) in
-    (h .answer, (h .buffer, h .code))
+returns c = left-alone _ _ _ _ (c .before .before .answer .ensures) _ _ (c .enum-told2 .given .1)
 
 put-sheet-requires : tie.Need-put-sheet-requires
 put-sheet-requires c κs =
-    let g = room _ _ (c .before .before .before .before .before .before .args .b .now) _
-        (c .before .before .before .before .answer .ensures) _ (c .before .before .enum-told .given .1) in
+    let t = c .before .before in
+    let k = t .before .before in
+    let g = room _ _ (k .before .before .args .buffer .now) _ (k .answer .ensures) _ (t .enum-told .given .1) in
     (allowed-room _ (g .0), g .1)
 
 same-length : tie.Need-same-length
@@ -31,9 +30,9 @@ same-length c = search needs
 
 returns-2 : tie.Need-returns-2
 returns-2 c =
-    let h = wrote _ _ _ _ (c .before .before .before .before .before .before .before .answer .ensures) _
-        (c .before .before .before .before .before .enum-told .given .1) _ (c .before .before .put-sheet .ensures) in
-    (h .answer, (h .buffer, h .code))
+    let p = c .before .before in
+    let t = p .before .before .before in
+    wrote _ _ _ _ (t .before .before .answer .ensures) _ (t .enum-told .given .1) _ (p .put-sheet .ensures)
 
 pub write-spec : {M : Type 1} → statement M
 write-spec =

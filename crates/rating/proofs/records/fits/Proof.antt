@@ -39,78 +39,115 @@ array-read-matches-2 c =
     omega (arith, c .before .loop .inv .most, c .before .before .before .pre .1, c .loop-test .taken)
 
 matches-requires : tie.Need-matches-requires Inv-loop μ-loop
-matches-requires c κs =
-    (c .before .before .before .pre .0 .known _ (omega (arith, c .before .loop .inv .most, c .loop-test .taken)),
-    omega arith)
+matches-requires c κs = (
+  c .before .before .before .pre .0 .known _ (omega (arith, c .before .loop .inv .most, c .loop-test .taken)),
+  omega arith,
+)
 
 add-matches : tie.Need-add-matches Inv-loop μ-loop
 add-matches c =
-    omega (arith, c .before .before .loop .inv .most, c .before .before .before .before .pre .1,
-    c .before .loop-test .taken)
+    omega (
+      arith,
+      c .before .before .loop .inv .most,
+      c .before .before .before .before .pre .1,
+      c .before .loop-test .taken,
+    )
 
 array-read-matches-3 : tie.Need-array-read-matches-3 Inv-loop μ-loop
 array-read-matches-3 c =
-    omega (arith, c .before .before .loop .inv .most, c .before .before .before .before .pre .1,
-    c .before .loop-test .taken)
+    omega (
+      arith,
+      c .before .before .loop .inv .most,
+      c .before .before .before .before .pre .1,
+      c .before .loop-test .taken,
+    )
 
 add-matches-2 : tie.Need-add-matches-2 Inv-loop μ-loop
 add-matches-2 c =
-    omega (arith, c .before .before .loop .inv .most, c .before .before .before .before .pre .1,
-    c .before .loop-test .taken)
+    omega (
+      arith,
+      c .before .before .loop .inv .most,
+      c .before .before .before .before .pre .1,
+      c .before .loop-test .taken,
+    )
 
 array-read-matches-4 : tie.Need-array-read-matches-4 Inv-loop μ-loop
 array-read-matches-4 c =
-    omega (arith, c .before .before .loop .inv .most, c .before .before .before .before .pre .1,
-    c .before .loop-test .taken)
+    omega (
+      arith,
+      c .before .before .loop .inv .most,
+      c .before .before .before .before .pre .1,
+      c .before .loop-test .taken,
+    )
 
 matches-requires-2 : tie.Need-matches-requires-2 Inv-loop μ-loop
-matches-requires-2 c κs =
-    (c .before .before .before .before .pre .0 .known _
-    (omega (arith, c .before .before .loop .inv .most, c .before .loop-test .taken)), omega arith)
+matches-requires-2 c κs = (
+  c .before .before .before .before .pre .0 .known _
+      (omega (arith, c .before .before .loop .inv .most, c .before .loop-test .taken)),
+  omega arith,
+)
 
 add-matches-3 : tie.Need-add-matches-3 Inv-loop μ-loop
 add-matches-3 c =
-    omega (arith, c .before .before .before .loop .inv .most, c .before .before .before .before .before .pre .1,
-    c .before .before .loop-test .taken)
+    omega (
+      arith,
+      c .before .before .before .loop .inv .most,
+      c .before .before .before .before .before .pre .1,
+      c .before .before .loop-test .taken,
+    )
 
 array-read-matches-5 : tie.Need-array-read-matches-5 Inv-loop μ-loop
 array-read-matches-5 c =
-    omega (arith, c .before .before .before .loop .inv .most, c .before .before .before .before .before .pre .1,
-    c .before .before .loop-test .taken)
+    omega (
+      arith,
+      c .before .before .before .loop .inv .most,
+      c .before .before .before .before .before .pre .1,
+      c .before .before .loop-test .taken,
+    )
 
 add-matches-4 : tie.Need-add-matches-4 Inv-loop μ-loop
 add-matches-4 c =
-    omega (arith, c .before .before .before .loop .inv .most, c .before .before .before .before .before .pre .1,
-    c .before .before .loop-test .taken)
+    omega (
+      arith,
+      c .before .before .before .loop .inv .most,
+      c .before .before .before .before .before .pre .1,
+      c .before .before .loop-test .taken,
+    )
 
 array-read-matches-6 : tie.Need-array-read-matches-6 Inv-loop μ-loop
 array-read-matches-6 c =
-    omega (arith, c .before .before .before .loop .inv .most, c .before .before .before .before .before .pre .1,
-    c .before .before .loop-test .taken)
+    omega (
+      arith,
+      c .before .before .before .loop .inv .most,
+      c .before .before .before .before .before .pre .1,
+      c .before .before .loop-test .taken,
+    )
 
 matches-requires-3 : tie.Need-matches-requires-3 Inv-loop μ-loop
-matches-requires-3 c κs =
-    (c .before .before .before .before .before .pre .0 .known _
-    (omega (arith, c .before .before .before .loop .inv .most, c .before .before .loop-test .taken)), omega arith)
+matches-requires-3 c κs = (
+  c .before .before .before .before .before .pre .0 .known _
+      (omega (arith, c .before .before .before .loop .inv .most, c .before .before .loop-test .taken)),
+  omega arith,
+)
 
 returns-2 : tie.Need-returns-2 Inv-loop μ-loop
 returns-2 c =
-    let l = c .before .before .before .before .before in
-    row-fails _ _ _ _ _ (l .loop .s) _ (l .loop .inv)
-        (omega (arith, c .before .before .before .before .loop-test .taken)) _ _ _
-    (c .before .before .before .matches .ensures) (c .before .before .matches2 .ensures)
-    (c .before .matches3 .ensures) (c .if2 .taken)
+    let m = c .before .before .before in
+    let t = m .before in
+    let l = t .before .loop in
+    row-fails _ _ _ _ _ (l .s) _ (l .inv) (omega (arith, t .loop-test .taken)) _ _ _
+    (m .matches .ensures) (c .before .before .matches2 .ensures) (c .before .matches3 .ensures) (c .if2 .taken)
 
 loop-less : tie.Need-loop-less Inv-loop μ-loop
 loop-less c = omega (arith, c .before .before .before .before .loop-test .taken)
 
 loop-again : tie.Need-loop-again Inv-loop μ-loop
 loop-again c =
-    let l = c .before .before .before .before .before in
-    row-fits _ _ _ _ _ (l .loop .s) _ (l .loop .inv)
-        (omega (arith, c .before .before .before .before .loop-test .taken)) _ _ _
-    (c .before .before .before .matches .ensures) (c .before .before .matches2 .ensures)
-    (c .before .matches3 .ensures) (c .if2 .left)
+    let m = c .before .before .before in
+    let t = m .before in
+    let l = t .before .loop in
+    row-fits _ _ _ _ _ (l .s) _ (l .inv) (omega (arith, t .loop-test .taken)) _ _ _
+    (m .matches .ensures) (c .before .before .matches2 .ensures) (c .before .matches3 .ensures) (c .if2 .left)
 
 returns-3 : tie.Need-returns-3 Inv-loop μ-loop
 returns-3 c = fitting-all _ _ _ _ _ _ (c .before .loop .inv) (omega (arith, c .loop-test .left))

@@ -24,13 +24,17 @@ row-requires-5 c κs = search needs
 
 combined-requires : tie.Need-combined-requires
 combined-requires c κs =
-    let s = c .before .before .before .before .before in
+    let r4 = c .before in
+    let r3 = r4 .before in
+    let r2 = r3 .before in
+    let r1 = r2 .before in
+    let s = r1 .before in
     let a = s .args in (
       rows-room (inTable (a .t .now)) (a .v .n) (a .w .n) (a .v .d) (a .w .d)
-          (result-back (c .before .before .before .before .row .ok) (c .before .before .before .before .row .ensures))
-          (result-back (c .before .before .before .row2 .ok) (c .before .before .before .row2 .ensures))
-          (result-back (c .before .before .row3 .ok) (c .before .before .row3 .ensures))
-          (result-back (c .before .row4 .ok) (c .before .row4 .ensures))
+          (result-back (r1 .row .ok) (r1 .row .ensures))
+          (result-back (r2 .row2 .ok) (r2 .row2 .ensures))
+          (result-back (r3 .row3 .ok) (r3 .row3 .ensures))
+          (result-back (r4 .row4 .ok) (r4 .row4 .ensures))
           (result-back (c .row5 .ok) (c .row5 .ensures))
           (s .pre .2 .n-le)
           (s .pre .3 .n-le)
@@ -40,16 +44,20 @@ combined-requires c κs =
 
 returns : tie.Need-returns
 returns c =
-    let s = c .before .before .before .before .before .before in
+    let r5 = c .before in
+    let r4 = r5 .before in
+    let r3 = r4 .before in
+    let r2 = r3 .before in
+    let r1 = r2 .before in
+    let s = r1 .before in
     let a = s .args in
     result-back (c .combined .ok) (c .combined .ensures)
     ∙ rows-worked (inTable (a .t .now)) (a .v .n) (a .w .n) (a .v .d) (a .w .d)
-    (result-back (c .before .before .before .before .before .row .ok)
-    (c .before .before .before .before .before .row .ensures))
-    (result-back (c .before .before .before .before .row2 .ok) (c .before .before .before .before .row2 .ensures))
-    (result-back (c .before .before .before .row3 .ok) (c .before .before .before .row3 .ensures))
-    (result-back (c .before .before .row4 .ok) (c .before .before .row4 .ensures))
-    (result-back (c .before .row5 .ok) (c .before .row5 .ensures))
+    (result-back (r1 .row .ok) (r1 .row .ensures))
+    (result-back (r2 .row2 .ok) (r2 .row2 .ensures))
+    (result-back (r3 .row3 .ok) (r3 .row3 .ensures))
+    (result-back (r4 .row4 .ok) (r4 .row4 .ensures))
+    (result-back (r5 .row5 .ok) (r5 .row5 .ensures))
     (s .pre .1)
 
 pub rows-spec : {M : Type 1} → statement M
