@@ -73,8 +73,7 @@ fn put_outcome(
     parts: &mut [u32; RECORDS],
 ) -> Reply
     requires { ⌜ SmallFigures (x .answer) ⌝ }
-    ensures { λ r. let answer = x .answer in
-        let split = x .split in ⌜ (r ≡ replyOf answer)
+    ensures { λ r. let answer = x .answer in let split = x .split in ⌜ (r ≡ replyOf answer)
         × (now (figures .exit) ≡ figuresOf answer (now (figures .entry)))
         × (now (count .exit) ≡ bufferOf answer (split .count) (now (count .entry)))
         × (now (systems .exit) ≡ bufferOf answer (split .systems) (now (systems .entry)))
@@ -98,8 +97,7 @@ pub fn rate_sheet(
     parts: &mut [u32; RECORDS],
 ) -> Reply
     ensures { λ r. let x = sheetOutcome (now (sheet .entry)) (codeIn r) in
-        let answer = x .answer in
-        let split = x .split in ⌜ (r ≡ replyOf answer)
+        let answer = x .answer in let split = x .split in ⌜ (r ≡ replyOf answer)
         × (now (figures .exit) ≡ figuresOf answer (now (figures .entry)))
         × (now (count .exit) ≡ bufferOf answer (split .count) (now (count .entry)))
         × (now (systems .exit) ≡ bufferOf answer (split .systems) (now (systems .entry)))
@@ -122,8 +120,7 @@ pub fn rate_by_search(
     parts: &mut [u32; RECORDS],
 ) -> Reply
     ensures { λ r. let x = searchOutcome (now (amounts .entry)) allowance (codeIn r) in
-        let answer = x .answer in
-        let split = x .split in ⌜ (r ≡ replyOf answer)
+        let answer = x .answer in let split = x .split in ⌜ (r ≡ replyOf answer)
         × (now (figures .exit) ≡ figuresOf answer (now (figures .entry)))
         × (now (count .exit) ≡ bufferOf answer (split .count) (now (count .entry)))
         × (now (systems .exit) ≡ bufferOf answer (split .systems) (now (systems .entry)))

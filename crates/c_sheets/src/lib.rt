@@ -28,8 +28,7 @@ pub fn read_sheet(
     parts: &mut [u32; RECORDS],
 ) -> Reply
     ensures { λ r. let x = readOf (now (sheet .entry)) (codeIn r) in
-        let answer = x .answer in
-        let split = x .split in ⌜ (r ≡ readReply answer)
+        let answer = x .answer in let split = x .split in ⌜ (r ≡ readReply answer)
         × (now (amounts .exit) ≡ readOr answer (x .analysis .amounts) (now (amounts .entry)))
         × (now (count .exit) ≡ readOr answer (split .count) (now (count .entry)))
         × (now (systems .exit) ≡ readOr answer (split .systems) (now (systems .entry)))

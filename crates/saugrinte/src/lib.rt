@@ -43,8 +43,7 @@ pub extern "C" fn saugrinte_rate(
     parts: &mut [u32; RECORDS],
 ) -> Reply
     ensures { λ r. let x = sheetOutcome (now (sheet .entry)) (codeIn r) in
-        let answer = x .answer in
-        let split = x .split in ⌜ (r ≡ replyOf answer)
+        let answer = x .answer in let split = x .split in ⌜ (r ≡ replyOf answer)
         × (now (figures .exit) ≡ figuresOf answer (now (figures .entry)))
         × (now (count .exit) ≡ bufferOf answer (split .count) (now (count .entry)))
         × (now (systems .exit) ≡ bufferOf answer (split .systems) (now (systems .entry)))
@@ -67,8 +66,7 @@ pub extern "C" fn saugrinte_search(
     parts: &mut [u32; RECORDS],
 ) -> Reply
     ensures { λ r. let x = searchOutcome (now (amounts .entry)) allowance (codeIn r) in
-        let answer = x .answer in
-        let split = x .split in ⌜ (r ≡ replyOf answer)
+        let answer = x .answer in let split = x .split in ⌜ (r ≡ replyOf answer)
         × (now (figures .exit) ≡ figuresOf answer (now (figures .entry)))
         × (now (count .exit) ≡ bufferOf answer (split .count) (now (count .entry)))
         × (now (systems .exit) ≡ bufferOf answer (split .systems) (now (systems .entry)))
@@ -123,8 +121,7 @@ pub extern "C" fn saugrinte_read(
     parts: &mut [u32; RECORDS],
 ) -> Reply
     ensures { λ r. let x = readOf (now (sheet .entry)) (codeIn r) in
-        let answer = x .answer in
-        let split = x .split in ⌜ (r ≡ readReply answer)
+        let answer = x .answer in let split = x .split in ⌜ (r ≡ readReply answer)
         × (now (amounts .exit) ≡ readOr answer (x .analysis .amounts) (now (amounts .entry)))
         × (now (count .exit) ≡ readOr answer (split .count) (now (count .entry)))
         × (now (systems .exit) ≡ readOr answer (split .systems) (now (systems .entry)))
