@@ -19,7 +19,7 @@ use systems::SYSTEMS;
 use turn::Before;
 
 // The stride of a level.
-fn stride_of(level: usize) -> u32
+fn stride(level: usize) -> u32
     requires { ⌜ level ≤ FIRST_LEVEL ⌝ }
     ensures { λ r. ⌜ r ≡ 2 ^ level ⌝ }
 {
@@ -50,7 +50,7 @@ fn next_turn(
         Before::Within => Turn::Rate(s),
         Before::Spent => Turn::Refuse,
         Before::Open => {
-            let stride = stride_of(level);
+            let stride = stride(level);
             let found = first_move(systems, count, cells, numbers, tried, stride);
             turn::go_on(level, found)
         }
@@ -103,7 +103,7 @@ pub(crate) fn search(
         );
         match turn {
             Turn::Move(m) => {
-                let stride = stride_of(level);
+                let stride = stride(level);
                 renumber(systems, count, &cells, &mut numbers, &mut tried, stride, m);
                 moved(&mut cells, m, stride);
                 rounds += 1;

@@ -21,13 +21,13 @@ enum-told-2 c = search needs
 enum-told-3 : tie.Need-enum-told-3
 enum-told-3 c = search needs
 
-stride-of-requires : tie.Need-stride-of-requires
-stride-of-requires c κs = c .before .before .before .before .pre .1
+stride-requires : tie.Need-stride-requires
+stride-requires c κs = c .before .before .before .before .pre .1
 
 first-move-requires : tie.Need-first-move-requires
 first-move-requires c κs =
     let pre = c .before .before .before .before .before .before .pre in
-    (pre .0, tried-as (c .before .stride-of .ensures) (pre .2))
+    (pre .0, tried-as (c .before .stride .ensures) (pre .2))
 
 go-on-requires : tie.Need-go-on-requires
 go-on-requires c κs = tt
@@ -53,8 +53,8 @@ returns-3 c =
     let b = d .before .before .before in
     let s = b .before in (
       code-on (s .before .pre .0) _ _ _ _ (s .spread .ensures) (b .before-round .ensures)
-          (d .before .enum-told3 .given .1) (d .stride-of .ensures) (m .0) (c .go-on .ensures),
-      tried-as (sym (d .stride-of .ensures)) (m .1),
+          (d .before .enum-told3 .given .1) (d .stride .ensures) (m .0) (c .go-on .ensures),
+      tried-as (sym (d .stride .ensures)) (m .1),
     )
 
 pub next-turn-spec : {M : Type 1} → statement M
@@ -66,7 +66,7 @@ next-turn-spec =
     enum-told
     enum-told-2
     enum-told-3
-    stride-of-requires
+    stride-requires
     first-move-requires
     go-on-requires
     returns

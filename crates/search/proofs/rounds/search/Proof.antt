@@ -37,8 +37,8 @@ next-turn-requires c κs = let g = c .before .before .before .loop .inv in (g .0
 enum-known-turn : tie.Need-enum-known-turn Inv-loop μ-loop
 enum-known-turn c = c .match .keys1
 
-stride-of-requires : tie.Need-stride-of-requires Inv-loop μ-loop
-stride-of-requires c κs = c .before .before .before .before .before .before .before .loop .inv .1
+stride-requires : tie.Need-stride-requires Inv-loop μ-loop
+stride-requires c κs = c .before .before .before .before .before .before .before .loop .inv .1
 
 renumber-requires : tie.Need-renumber-requires Inv-loop μ-loop
 renumber-requires c κs =
@@ -46,7 +46,7 @@ renumber-requires c κs =
     let n = d .before .before .before .before in
     let inv = n .before .before .before .before .loop .inv in
     let m = d .before .before .turn .given .1 in
-    may-renumber _ inv (n .next-turn .ensures .0) m (d .stride-of .ensures) (n .next-turn .ensures .1)
+    may-renumber _ inv (n .next-turn .ensures .0) m (d .stride .ensures) (n .next-turn .ensures .1)
 
 moved-requires : tie.Need-moved-requires Inv-loop μ-loop
 moved-requires c κs =
@@ -54,7 +54,7 @@ moved-requires c κs =
     let n = d .before .before .before .before in
     let inv = n .before .before .before .before .loop .inv in
     let m = d .before .before .turn .given .1 in
-    may-go _ inv (n .next-turn .ensures .0) m (d .stride-of .ensures)
+    may-go _ inv (n .next-turn .ensures .0) m (d .stride .ensures)
 
 add-rounds : tie.Need-add-rounds Inv-loop μ-loop
 add-rounds c =
@@ -78,7 +78,7 @@ loop-again c =
     let n = d .before .before .before .before in
     let inv = n .before .before .before .before .loop .inv in
     let m = d .before .before .turn .given .1 in
-    move-on _ inv (n .next-turn .ensures .0) m (d .stride-of .ensures) (c .moved .ensures)
+    move-on _ inv (n .next-turn .ensures .0) m (d .stride .ensures) (c .moved .ensures)
     (c .before .before .renumber .ensures)
 
 enum-told : tie.Need-enum-told Inv-loop μ-loop
@@ -129,7 +129,7 @@ search-spec =
     loop-holds
     next-turn-requires
     enum-known-turn
-    stride-of-requires
+    stride-requires
     renumber-requires
     moved-requires
     add-rounds
