@@ -1,8 +1,10 @@
 -- `proposal::rated` meets its contract. Assumes nothing.
 use Rattle.integer.specs.Laws.Bits.{read-back}
 use Rattle.proposal.proofs.Weights.{wide-answer, rated-answer}
-use mathlib.Core.Path.{_∙_}
-use Prim.Native.Nat.{_-_}
+use Rattle.split.specs.Rating.{spreadOf}
+use Rattle.split_rows.specs.Rows.{listed}
+use Rattle.split_rows.specs.Laws.Rows.{spread-few}
+use mathlib.Core.Path.{_≡_, _∙_}
 use borrow.Author.Needs.{needs}
 use Rattle.proposal.proofs.rated.Statement.{statement}
 use Rattle.proposal.proofs.rated.Tie as tie
@@ -13,8 +15,12 @@ spread-requires c κs = search needs
 refused-requires : tie.Need-refused-requires
 refused-requires c κs = search needs
 
+-- the spread of so many rows
+spread-is : (c : tie.After-spread) → c .spread .result ≡ spreadOf (listed (c .before .args .numbers .now)) (c .before .args .count)
+spread-is c = spread-few _ _ _ (c .before .pre .0 .small .most) (c .spread .ensures)
+
 returns : tie.Need-returns
-returns c = c .refused .ensures ∙ wide-answer _ _ _ _ _ _ (c .before .before .spread .ensures) (c .before .if1 .taken)
+returns c = c .refused .ensures ∙ wide-answer _ _ _ _ _ _ (spread-is (c .before .before)) (c .before .if1 .taken)
 
 weighted-requires : tie.Need-weighted-requires
 weighted-requires c κs = search needs
@@ -27,12 +33,12 @@ rating-of-requires c κs = search needs
 
 returns-2 : tie.Need-returns-2
 returns-2 c =
-    rated-answer _ _ _ _ _ _ (c .before .before .before .before .spread .ensures)
-    (c .before .before .before .if1 .left) _ _ _
-    (read-back (c .before .before .weighted .result) (c .before .before .weighted .ok)
-    ∙ c .before .before .weighted .ensures .0)
-    (read-back (c .before .inert-number .result) (c .before .inert-number .ok) ∙ c .before .inert-number .ensures .0)
-    (read-back (c .rating-of .result) (c .rating-of .ok) ∙ c .rating-of .ensures)
+    let weighted = c .before .before .weighted in
+    let inert = c .before .inert-number in
+    rated-answer _ _ _ _ _ _ (spread-is (c .before .before .before .before)) (c .before .before .before .if1 .left) _ _ _
+        (read-back (weighted .result) (weighted .ok) ∙ weighted .ensures .0)
+        (read-back (inert .result) (inert .ok) ∙ inert .ensures .0)
+        (read-back (c .rating-of .result) (c .rating-of .ok) ∙ c .rating-of .ensures)
 
 pub rated-spec : {M : Type 1} → statement M
 rated-spec =

@@ -1,5 +1,5 @@
 -- What the rows' evaluation says, by its cases. Assumes nothing.
-use Prim.Native.Nat.{ℕ, zero, suc, _+_, _-_, _≤_, _<_}
+use Prim.Native.Nat.{ℕ, zero, suc, _+_, _-_, _≤_, _<_, min}
 use mathlib.Core.Path.{_≡_, refl, sym, ap, _∙_}
 use mathlib.Core.Bool.{Bool, true, false, _&&_, cond}
 use mathlib.Core.List.{List}
@@ -30,7 +30,7 @@ use Rattle.split.specs.Fold.{allTo}
 use Rattle.split.specs.Laws.Folds.{all-each, all-of}
 use Rattle.split.specs.Split.{SYSTEMS, cellOf, systemOf, partsOf, rowNumber, Stock, Sound}
 use Rattle.split.specs.Laws.Members.{both-right}
-use Rattle.split.specs.Rating.{someEmpty}
+use Rattle.split.specs.Rating.{someEmpty, spreadOf}
 use Rattle.split.specs.Laws.Rows.{parts-few}
 use Rattle.split.specs.Laws.Fits.{empty-no}
 use Rattle.split_rows.specs.Rows.{listed, partsIn, answerIn, rowFit, rowsFit, upTo, none, rowsOf}
@@ -297,3 +297,9 @@ module _ (ch : List ℕ) (k : ℕ) (a : List ℕ) where
         fit-held =
             record { sound = fit-sound; carried = record { long = numbers-long; are = number-of };
             small = numbers-small }
+
+-- ---- the spread of rows that there is room for
+
+pub spread-few : (numbers : ℕ → ℤ) (count spread : ℕ) → count ≤ SYSTEMS
+    → spread ≡ spreadOf numbers (min count SYSTEMS) → spread ≡ spreadOf numbers count
+spread-few numbers count spread h e = let q : min count SYSTEMS ≡ count = omega arith in e ∙ ap (spreadOf numbers) q
