@@ -2,12 +2,13 @@
 use mathlib.Core.Path.{sym}
 use Rattle.search.proofs.Tries.{tried-as}
 use Rattle.search.proofs.Loop.{code-rate, code-refuse, code-on}
+use Rattle.split_rows.specs.Laws.Rows.{spread-few}
 use borrow.Author.Needs.{needs}
 use Rattle.search.proofs.rounds.next_turn.Statement.{statement}
 use Rattle.search.proofs.rounds.next_turn.Tie as tie
 
 spread-requires : tie.Need-spread-requires
-spread-requires c κs = (c .pre .0 .small, c .pre .0 .sound .stock .chosen .some)
+spread-requires c κs = search needs
 
 before-round-requires : tie.Need-before-round-requires
 before-round-requires c κs = search needs
@@ -36,22 +37,25 @@ returns : tie.Need-returns
 returns c =
     let b = c .before .before in
     let s = b .before in
-    (code-rate _ _ _ _ _ _ _ _ _ (s .spread .ensures) (s .before .pre .0) _ (b .before-round .ensures)
+    let is = spread-few _ _ _ (s .before .pre .0 .small .most) (s .spread .ensures) in
+    (code-rate _ _ _ _ _ _ _ _ _ is (s .before .pre .0) _ (b .before-round .ensures)
     (c .enum-told .given .1), s .before .pre .2)
 
 returns-2 : tie.Need-returns-2
 returns-2 c =
     let b = c .before .before in
     let s = b .before in
-    (code-refuse _ _ _ _ _ _ _ _ _ (s .spread .ensures) (s .before .pre .0) _ (b .before-round .ensures)
+    let is = spread-few _ _ _ (s .before .pre .0 .small .most) (s .spread .ensures) in
+    (code-refuse _ _ _ _ _ _ _ _ _ is (s .before .pre .0) _ (b .before-round .ensures)
     (c .enum-told2 .given .1), s .before .pre .2)
 
 returns-3 : tie.Need-returns-3
 returns-3 c =
     let d = c .before .before .before in
     let b = d .before .before .before in
-    let s = b .before in (
-      code-on _ _ _ _ _ _ _ _ _ (s .spread .ensures) (s .before .pre .0) _ (b .before-round .ensures)
+    let s = b .before in
+    let is = spread-few _ _ _ (s .before .pre .0 .small .most) (s .spread .ensures) in (
+      code-on _ _ _ _ _ _ _ _ _ is (s .before .pre .0) _ (b .before-round .ensures)
           (d .before .enum-told3 .given .1) _ _ _ (d .stride .ensures) (c .before .first-move .ensures .0)
           (c .go-on .ensures),
       tried-as _ _ _ _ _ _ (sym (d .stride .ensures)) (c .before .first-move .ensures .1),
