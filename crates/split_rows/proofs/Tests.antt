@@ -29,8 +29,12 @@ module _ (mix : List ℕ) where
   pub added-more : (sum c x : ℕ) → c < COMPONENTS → Added mix sum c → (x ≡ getD mix c 0) × (x ≤ 4294967295)
       → Added mix (sum + x) (c + 1)
   added-more sum c x h z e =
-      record { most = omega arith; all = sum-more (λ e. getD mix e 0) c sum x (z .all) (e .0); few = omega
-      (arith, z .few, e .1) }
+      record {
+        most = omega arith;
+        all = sum-more (λ e. getD mix e 0) c sum x (z .all) (e .0);
+        few = omega
+            (arith, z .few, e .1);
+      }
 
   pub added-fit : (sum c : ℕ) → COMPONENTS ≤ c → Added mix sum c → leb sum MILLION ≡ mixtureFit mix
   unfolding mixtureFit

@@ -1,4 +1,5 @@
-// The rows of a split: whether they can be worked on, their partial numbers, parts and spread. No public function has a `requires`.
+// The rows of a split: whether they can be worked on, their partial numbers, parts and spread. No public function has a
+// `requires`.
 ghost use mathlib.Core.Bool.{_&&_, cond};
 ghost use mathlib.Core.Path.{_≡_};
 ghost use Prim.Native.Nat.{_+_, _<_, _≤_, min};
@@ -78,8 +79,8 @@ fn chosen_fit(systems: &[u8; SYSTEMS], count: usize) -> bool
     true
 }
 
-// Whether the rows of a split can be worked on: those of a mixture of a million parts at most, among chosen systems that
-// are candidates and that there is room for.
+// Whether the rows of a split can be worked on: of a mixture of a million parts at most, among chosen systems that are
+// candidates and that there is room for.
 pub fn fit(mix: [u32; COMPONENTS], choice: Choice) -> bool
     ensures { λ r. ⌜ r ≡ (mixtureFit mix && chosenFit (choice .systems) (choice .count)) ⌝ }
 {

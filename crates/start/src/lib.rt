@@ -22,8 +22,8 @@ fn contains(systems: &[u8; SYSTEMS], s: usize, c: usize) -> u32
     0
 }
 
-// Among how many systems of the cells before the end component c is shared: those that contain it, or 1 where none does.
-// The component's cells then hold 1 where their system contains it, else 0.
+// Among how many systems of the cells before the end component c is shared: those that contain it, or 1 where none
+// does. The component's cells then hold 1 where their system contains it, else 0.
 fn sharers(cells: &mut [u32; CELLS], systems: &[u8; SYSTEMS], end: usize, c: usize) -> u32
     requires { ⌜ Cells end c ⌝ }
     ensures { λ r. ⌜ (r ≡ max 1 (sharersOf (now (systems .entry)) c (end / COMPONENTS))) × (1 ≤ r)
@@ -57,7 +57,14 @@ fn part(here: u32, share: u32, odd: u32, rank: u32) -> u32
 }
 
 // The cells of component c before the end, which hold 1 where their system contains it, else 0.
-fn column(cells: &mut [u32; CELLS], systems: &[u8; SYSTEMS], end: usize, c: usize, share: u32, odd: u32)
+fn column(
+    cells: &mut [u32; CELLS],
+    systems: &[u8; SYSTEMS],
+    end: usize,
+    c: usize,
+    share: u32,
+    odd: u32,
+)
     requires { ⌜ Cells end c × (share + odd ≤ 4294967295) × Marked (now systems) end c (now cells) ⌝ }
     ensures { λ _. ⌜ now (cells .exit)
         ≡ columnTo (now (systems .entry)) c share odd (now (cells .entry)) (end / COMPONENTS) ⌝ }

@@ -49,7 +49,9 @@ loop-again c =
     )
 
 returns : tie.Need-returns Inv-loop μ-loop
-returns c = let q : c .before .loop .s ≡ c .before .before .args .count = omega arith in rw q at (c .before .loop .inv .1)
+returns c =
+    let q : c .before .loop .s ≡ c .before .before .args .count = omega arith in
+    rw q at (c .before .loop .inv .1)
 
 pub column-spec : {M : Type 1} → statement M
 column-spec =

@@ -16,7 +16,8 @@ refused-requires : tie.Need-refused-requires
 refused-requires c κs = search needs
 
 -- the spread of so many rows
-spread-is : (c : tie.After-spread) → c .spread .result ≡ spreadOf (listed (c .before .args .numbers .now)) (c .before .args .count)
+spread-is : (c : tie.After-spread)
+    → c .spread .result ≡ spreadOf (listed (c .before .args .numbers .now)) (c .before .args .count)
 spread-is c = spread-few _ _ _ (c .before .pre .0 .small .most) (c .spread .ensures)
 
 returns : tie.Need-returns
@@ -35,10 +36,11 @@ returns-2 : tie.Need-returns-2
 returns-2 c =
     let weighted = c .before .before .weighted in
     let inert = c .before .inert-number in
-    rated-answer _ _ _ _ _ _ (spread-is (c .before .before .before .before)) (c .before .before .before .if1 .left) _ _ _
-        (read-back (weighted .result) (weighted .ok) ∙ weighted .ensures .0)
-        (read-back (inert .result) (inert .ok) ∙ inert .ensures .0)
-        (read-back (c .rating-of .result) (c .rating-of .ok) ∙ c .rating-of .ensures)
+    let left = c .before .before .before in
+    rated-answer _ _ _ _ _ _ (spread-is (left .before)) (left .if1 .left) _ _ _
+    (read-back (weighted .result) (weighted .ok) ∙ weighted .ensures .0)
+    (read-back (inert .result) (inert .ok) ∙ inert .ensures .0)
+    (read-back (c .rating-of .result) (c .rating-of .ok) ∙ c .rating-of .ensures)
 
 pub rated-spec : {M : Type 1} → statement M
 rated-spec =

@@ -43,9 +43,11 @@ loop-less c = omega arith
 
 loop-again : tie.Need-loop-again Inv-loop μ-loop
 loop-again c =
-    let called = c .before .before .before in
-    (omega arith, summed-more _ _ _ _ _ _ (omega arith) (called .column .ensures)
-    (c .before .added .ensures .0 ∙ zero-add _) (called .before .before .loop .inv .1) (c .if1 .left))
+    let called = c .before .before .before in (
+      omega arith,
+      summed-more _ _ _ _ _ _ (omega arith) (called .column .ensures)
+          (c .before .added .ensures .0 ∙ zero-add _) (called .before .before .loop .inv .1) (c .if1 .left),
+    )
 
 returns-2 : tie.Need-returns-2 Inv-loop μ-loop
 returns-2 c = summed-all _ _ _ _ (omega arith) (c .before .loop .inv .1)

@@ -36,15 +36,15 @@ loop-again c =
     let turn = c .before .before .before in
     let s = turn .before .before in
     weighed-more _ _ _ (s .pre) _ _ _ _ (turn .before .loop .inv) (turn .loop-test .taken)
-        (at-back _ _ _ (s .pre .small) (turn .loop-test .taken)) refl _
-        (read-back (c .weigh .result) (c .weigh .ok) ∙ c .weigh .ensures)
+    (at-back _ _ _ (s .pre .small) (turn .loop-test .taken)) refl _
+    (read-back (c .weigh .result) (c .weigh .ok) ∙ c .weigh .ensures)
 
 weigh-requires : tie.Need-weigh-requires Inv-loop μ-loop
 weigh-requires c κs =
     let turn = c .before .before in
     let s = turn .before .before in
     weigh-asks _ _ _ (s .pre) _ _ _ _ (turn .before .loop .inv) (turn .loop-test .taken)
-        (at-back _ _ _ (s .pre .small) (turn .loop-test .taken)) refl
+    (at-back _ _ _ (s .pre .small) (turn .loop-test .taken)) refl
 
 add-s : tie.Need-add-s Inv-loop μ-loop
 add-s c = omega arith

@@ -21,7 +21,6 @@ returns c = no-candidate _ _ _ (sym (c .before .is-candidate .ensures) ∙ not-t
 candidate : (c : tie.Else1) → isIn (c .before .before .args .system) candidates ≡ true
 candidate c = sym (c .before .is-candidate .ensures) ∙ not-false _ (c .if1 .left)
 
-
 amount-requires : tie.Need-amount-requires
 amount-requires c κs = (record { listed = candidate c }, c .before .before .pre, omega arith)
 

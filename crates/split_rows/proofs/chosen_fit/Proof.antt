@@ -35,8 +35,8 @@ returns-3 : tie.Need-returns-3 Inv-loop μ-loop
 returns-3 c =
     let at = c .before .before .before .before in
     tested-off _ _ _ (at .loop .inv) (at .before .before .if1 .left) (at .before .if2 .left)
-        (c .before .before .before .loop-test .taken)
-        (sym (c .before .is-candidate .ensures) ∙ not-true _ (c .if3 .taken))
+    (c .before .before .before .loop-test .taken)
+    (sym (c .before .is-candidate .ensures) ∙ not-true _ (c .if3 .taken))
 
 loop-less : tie.Need-loop-less Inv-loop μ-loop
 loop-less c = search needs

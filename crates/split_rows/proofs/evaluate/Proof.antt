@@ -81,7 +81,7 @@ returns-2 : tie.Need-returns-2 Inv-loop μ-loop
 returns-2 c =
     let t = c .before .before .before in
     c .unfit2 .ensures ∙ rows-unfit _ _ _ _ (t .before .loop-test .taken)
-        (row-unfit _ _ _ _ (t .answer .ensures) _ (c .before .enum-told .given .1))
+    (row-unfit _ _ _ _ (t .answer .ensures) _ (c .before .enum-told .given .1))
 
 add-s : tie.Need-add-s Inv-loop μ-loop
 add-s c = omega (arith, room (c .before .before .before .before))
@@ -110,9 +110,9 @@ returns-3 : tie.Need-returns-3 Inv-loop μ-loop
 returns-3 c =
     let so = c .before .loop in
     let q : so .s ≡ c .before .before .before .before .args .choice .count =
-        omega (arith, so .inv .2, c .loop-test .left) in
+    omega (arith, so .inv .2, c .loop-test .left) in
     rows-fit _ _ _ (c .before .before .if1 .left) (rw q at (so .inv .3)) _ _
-        (front-all (pos 0) _ _ SYSTEMS _ _ q (so .inv .0)) (front-all 0 _ _ SYSTEMS _ _ q (so .inv .1))
+    (front-all (pos 0) _ _ SYSTEMS _ _ q (so .inv .0)) (front-all 0 _ _ SYSTEMS _ _ q (so .inv .1))
 
 pub evaluate-spec : {M : Type 1} → statement M
 evaluate-spec =

@@ -250,7 +250,7 @@ module _ (ch : List ℕ) (k : ℕ) (a : List ℕ) where
           go true f = f
           go false f =
               let y : rowsFit ch k a ≡ true = rw (le-leb k SYSTEMS (st .chosen .most), rowsFit)
-                  (all-of (rowFit ch a) k (each f)) in
+              (all-of (rowFit ch a) k (each f)) in
               absurd (let w : 0 ≡ 1 = clash (sym e ∙ fit-is ∙ y) in omega arith)
 
       module _ (e : r .fit ≡ true) where
@@ -289,14 +289,20 @@ module _ (ch : List ℕ) (k : ℕ) (a : List ℕ) where
         pub numbers-small : Small (r .numbers) k
         unfolding rowNumber
         numbers-small =
-            record { most = st .chosen .most; each = λ s l. rw (number-of s l)
-            (partial-small (systemOf ch s) (cellOf a s (memberOf (systemOf ch s) 0))
-            (cellOf a s (memberOf (systemOf ch s) 1)) (cellOf a s (memberOf (systemOf ch s) 2))) }
+            record {
+              most = st .chosen .most;
+              each = λ s l. rw (number-of s l)
+                  (partial-small (systemOf ch s) (cellOf a s (memberOf (systemOf ch s) 0))
+                  (cellOf a s (memberOf (systemOf ch s) 1)) (cellOf a s (memberOf (systemOf ch s) 2)));
+            }
 
         pub fit-held : Held ch k a (r .numbers)
         fit-held =
-            record { sound = fit-sound; carried = record { long = numbers-long; are = number-of };
-            small = numbers-small }
+            record {
+              sound = fit-sound;
+              carried = record { long = numbers-long; are = number-of };
+              small = numbers-small;
+            }
 
 -- ---- the spread of rows that there is room for
 

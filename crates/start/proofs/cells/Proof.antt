@@ -26,8 +26,11 @@ element-copy-out-t c = search needs
 shared-requires : tie.Need-shared-requires Inv-loop μ-loop
 shared-requires c κs =
     let b = c .before .before .before .before in (
-      record { room = b .before .pre .room; whole = b .before .pre .whole;
-          low = c .before .before .before .loop-test .taken },
+      record {
+        room = b .before .pre .room;
+        whole = b .before .pre .whole;
+        low = c .before .before .before .loop-test .taken;
+      },
       done-length _ _ _ _ _ (b .loop .inv),
     )
 

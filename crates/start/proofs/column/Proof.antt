@@ -30,7 +30,8 @@ mul-cells : tie.Need-mul-cells Inv-loop μ-loop
 mul-cells c = omega (arith, c .before .before .before .before .pre .0 .room, c .before .before .loop-test .taken)
 
 element-write-cells : tie.Need-element-write-cells Inv-loop μ-loop
-element-write-cells c = omega (arith, c .before .before .before .before .pre .0 .room, c .before .before .loop-test .taken)
+element-write-cells c =
+    omega (arith, c .before .before .before .before .pre .0 .room, c .before .before .loop-test .taken)
 
 add-rank : tie.Need-add-rank Inv-loop μ-loop
 add-rank c =
@@ -49,7 +50,7 @@ loop-less c = search needs
 loop-again : tie.Need-loop-again Inv-loop μ-loop
 loop-again c =
     rewritten-more _ _ _ _ _ _ (c .before .before .before .before .pre .0) _ _ _
-        (c .before .before .before .loop .inv) _ _ (c .before .before .loop-test .taken) refl (c .part .ensures)
+    (c .before .before .before .loop .inv) _ _ (c .before .before .loop-test .taken) refl (c .part .ensures)
 
 returns : tie.Need-returns Inv-loop μ-loop
 returns c = rewritten-all _ _ _ _ _ _ (c .before .before .pre .0) _ _ _ (c .before .loop .inv) (c .loop-test .left)

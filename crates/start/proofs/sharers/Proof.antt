@@ -21,9 +21,10 @@ loop-holds : tie.Need-loop-holds Inv-loop μ-loop
 loop-holds c = (written-none _ _ _ _ _ _ (c .pre), omega arith)
 
 contains-requires : tie.Need-contains-requires Inv-loop μ-loop
-contains-requires c κs =
-    (omega (arith, c .before .before .pre .room, c .before .loop .inv .1, c .loop-test .taken),
-    c .before .before .pre .low)
+contains-requires c κs = (
+  omega (arith, c .before .before .pre .room, c .before .loop .inv .1, c .loop-test .taken),
+  c .before .before .pre .low,
+)
 
 mul-cells : tie.Need-mul-cells Inv-loop μ-loop
 mul-cells c = omega (arith, c .before .before .before .pre .room, c .before .loop-test .taken)
@@ -33,8 +34,12 @@ element-write-cells c = omega (arith, c .before .before .before .pre .room, c .b
 
 add-r : tie.Need-add-r Inv-loop μ-loop
 add-r c =
-    omega (arith, counted-few _ _ _ (c .before .before .before .pre) _ _ (c .before .before .loop .inv .0 .counted)
-    (c .before .loop-test .taken), c .contains .ensures .1)
+    omega (
+      arith,
+      counted-few _ _ _ (c .before .before .before .pre) _ _ (c .before .before .loop .inv .0 .counted)
+          (c .before .loop-test .taken),
+      c .contains .ensures .1,
+    )
 
 add-s : tie.Need-add-s Inv-loop μ-loop
 add-s c =
@@ -59,14 +64,14 @@ returns : tie.Need-returns Inv-loop μ-loop
 returns c =
     let w = c .before .before .loop .inv .0 in
     let n = counted-zero _ _ _ (c .before .before .before .pre) _ _ (w .counted) (c .before .loop-test .left)
-        (c .if1 .taken) in
+    (c .if1 .taken) in
     (n .0, n .1, written-all _ _ _ _ _ _ (c .before .before .before .pre) _ _ _ w (c .before .loop-test .left))
 
 returns-2 : tie.Need-returns-2 Inv-loop μ-loop
 returns-2 c =
     let w = c .before .before .loop .inv .0 in
     let n = counted-some _ _ _ (c .before .before .before .pre) _ _ (w .counted) (c .before .loop-test .left)
-        (c .if1 .left) in
+    (c .if1 .left) in
     (n .0, n .1, written-all _ _ _ _ _ _ (c .before .before .before .pre) _ _ _ w (c .before .loop-test .left))
 
 pub sharers-spec : {M : Type 1} → statement M
