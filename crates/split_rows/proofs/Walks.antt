@@ -1,5 +1,5 @@
 -- The least and the greatest of some numbers, found by a walk, and how far one number is above another.
-use Prim.Native.Nat.{ℕ, zero, suc, _+_, _-_, _≤_, _<_}
+use Prim.Native.Nat.{ℕ, zero, suc, _+_, _-_, _≤_, _<_, min}
 use mathlib.Core.Path.{_≡_, refl, sym, ap, ap₂, _∙_}
 use mathlib.Core.Bool.{true, false, cond}
 use mathlib.Core.List.{[], _∷_}
@@ -16,6 +16,7 @@ use mir.ValLaws.{toZ-ofZ, toZ-pos}
 use Rattle.integer.specs.Laws.Normal.{X, _⊕_, ⊖, solve, env}
 use Rattle.integer.specs.Laws.Order.{sub-ge, ≤ℤ-+, ≤ℤ-trans}
 use Rattle.split.specs.Fold.{greatestTo, leastTo}
+use Rattle.split.specs.Split.{SYSTEMS}
 use Rattle.split.specs.Rating.{spreadOf}
 use Rattle.split.specs.Laws.Spread.{at-most, at-least}
 
@@ -165,3 +166,12 @@ module _ (v : ℕ → ℤ) where
     pub walk-spread : (r k : ℕ) → r ≡ natAbs (high -ℤ low) → i ≡ k → r ≡ spreadOf v k
     unfolding spreadOf
     walk-spread r k g h = g ∙ ap₂ (λ x y. natAbs (x -ℤ y)) f e ∙ ap (spreadOf v) h
+
+-- ---- of so many numbers as there are
+
+module _ (v : ℕ → ℤ) (count r : ℕ) where
+  pub spread-all : SYSTEMS < count → r ≡ spreadOf v SYSTEMS → r ≡ spreadOf v (min count SYSTEMS)
+  spread-all h e = let q : SYSTEMS ≡ min count SYSTEMS = omega arith in e ∙ ap (spreadOf v) q
+
+  pub spread-some : count ≤ SYSTEMS → r ≡ spreadOf v count → r ≡ spreadOf v (min count SYSTEMS)
+  spread-some h e = let q : count ≡ min count SYSTEMS = omega arith in e ∙ ap (spreadOf v) q

@@ -205,26 +205,29 @@ fn above(low: i64, high: i64) -> u64
     height(high) - height(low)
 }
 
-// So many of the numbers as there are.
-fn at_most(count: usize) -> usize
-    ensures { λ r. ⌜ r ≡ min count SYSTEMS ⌝ }
+// The greatest less the least of the first numbers.
+fn spread_of(numbers: &[i64; SYSTEMS], count: usize) -> u64
+    requires { ⌜ count ≤ SYSTEMS ⌝ }
+    ensures { λ r. ⌜ r ≡ spreadOf (listed (now (numbers .entry))) count ⌝ }
 {
-    if SYSTEMS < count { SYSTEMS } else { count }
-}
-
-// The spread of the first numbers, any numbers: the greatest less the least.
-pub fn spread(numbers: &[i64; SYSTEMS], count: usize) -> u64
-    ensures { λ r. ⌜ r ≡ spreadOf (listed (now (numbers .entry))) (min count SYSTEMS) ⌝ }
-{
-    let end = at_most(count);
     let mut low = number(numbers, 0);
     let mut high = low;
     let mut i = 0;
-    while i < end {
+    while i < count {
         let x = number(numbers, i);
         low = lower(x, low);
         high = higher(x, high);
         i += 1;
     }
     above(low, high)
+}
+
+// The spread of the first numbers, any numbers, or of all where there are no more: the greatest less the least.
+pub fn spread(numbers: &[i64; SYSTEMS], count: usize) -> u64
+    ensures { λ r. ⌜ r ≡ spreadOf (listed (now (numbers .entry))) (min count SYSTEMS) ⌝ }
+{
+    if SYSTEMS < count {
+        return spread_of(numbers, SYSTEMS);
+    }
+    spread_of(numbers, count)
 }
