@@ -2,13 +2,15 @@
 ghost use mathlib.Core.Path.{_≡_};
 ghost use Prim.Native.Nat.{_+_, _*_, _<_, _≤_};
 ghost use lib.IntN.{ℤ, pos, negsuc, natAbs, _+ℤ_, _*ℤ_};
+ghost use lib.ListN.{length};
 ghost use lib.Signed.{quotZ};
 ghost use Rattle.integer.specs.Figures.{neg, MILLION};
 ghost use Rattle.formula.specs.WorkingRule.{LARGEST};
 ghost use Rattle.systems.specs.Systems.{COMPONENTS};
 ghost use Rattle.split.specs.Split.{SYSTEMS, columnOf, Stock};
-ghost use Rattle.split.specs.Rating.{resums, inertNumber, PURE_METHANE};
+ghost use Rattle.split.specs.Rating.{resums, spreadOf, inertNumber, PURE_METHANE};
 ghost use Rattle.split.specs.Proposed.{proposalFit, proposedAnswer};
+ghost use Rattle.split_rows.specs.Rows.{listed};
 ghost use Rattle.proposal.specs.Inner.Weighing.{Weighable, weighedTo, ratedBy, weighedOf};
 use refusal::EMPTY_SYSTEM;
 use refusal::UNSUMMED;
@@ -85,6 +87,14 @@ fn weighted(numbers: &[i64; SYSTEMS], parts: &[u32; SYSTEMS], count: usize) -> i
     sum
 }
 
+// The spread of the first numbers: the greatest less the least.
+fn spread(numbers: &[i64], count: usize) -> u64
+    requires { ⌜ (0 < count) × (count ≤ length (now numbers)) ⌝ }
+    ensures { λ r. ⌜ r ≡ spreadOf (listed (now (numbers .entry))) count ⌝ }
+{
+    split_rows::spread(&numbers[..count])
+}
+
 // The inert number: system 20 at n1 and the rest.
 fn inert_number(n1: u32) -> i64
     requires { ⌜ n1 ≤ MILLION ⌝ }
@@ -122,7 +132,7 @@ fn rated(
     requires { ⌜ Weighable (now numbers) (now parts) count × (n1 ≤ MILLION) ⌝ }
     ensures { λ r. ⌜ r ≡ ratedBy limit (now (numbers .entry)) (now (parts .entry)) count n1 ⌝ }
 {
-    let spread = split_rows::spread(numbers, count);
+    let spread = spread(numbers, count);
     if limit < spread {
         return refused(WIDE);
     }

@@ -8,6 +8,7 @@ ghost use Rattle.search.specs.Inner.Rounds.{endOf};
 use super::moves::first_move;
 use super::moves::moved;
 use super::moves::renumber;
+use super::state::spread;
 use super::tried::TRIES;
 use super::tried::none_known;
 use split::CELLS;
@@ -40,7 +41,7 @@ fn next_turn(
     requires { ⌜ Held (now ch) k (now a) (now v) × (level ≤ FIRST_LEVEL) × Tried (now ch) k (now a) (2 ^ level) (now tried) ⌝ }
     ensures { λ r. ⌜ (r ≡ turnOf (now (ch .entry)) k limit allowance (now (a .entry)) level rounds) × Tried (now (ch .entry)) k (now (a .entry)) (2 ^ level) (now (tried .exit)) ⌝ }
 {
-    let s = split_rows::spread(v, k);
+    let s = spread(v, k);
     match turn::before_round(s, limit, rounds, allowance) {
         Before::Within => Turn::Rate(s),
         Before::Spent => Turn::Refuse,

@@ -1,11 +1,22 @@
-// A row's amounts.
+// A row's amounts, and the spread of some numbers.
 ghost use mathlib.Core.Path.{_≡_};
-ghost use Prim.Native.Nat.{_<_};
+ghost use Prim.Native.Nat.{_<_, _≤_};
+ghost use lib.ListN.{length};
 ghost use Rattle.systems.specs.Systems.{memberOf, Candidate};
 ghost use Rattle.split.specs.Split.{SYSTEMS, cellOf};
+ghost use Rattle.split.specs.Rating.{spreadOf};
+ghost use Rattle.split_rows.specs.Rows.{listed};
 use split::CELLS;
 use systems::COMPONENTS;
 use systems::SYSTEMS;
+
+// The spread of the first numbers: the greatest less the least.
+pub(crate) fn spread(numbers: &[i64], count: usize) -> u64
+    requires { ⌜ (0 < count) × (count ≤ length (now numbers)) ⌝ }
+    ensures { λ r. ⌜ r ≡ spreadOf (listed (now (numbers .entry))) count ⌝ }
+{
+    split_rows::spread(&numbers[..count])
+}
 
 // The amount in row s, of the given system, of the system's component j.
 pub(crate) fn amount(a: &[u32; CELLS], system: u8, s: usize, j: usize) -> u32

@@ -1,5 +1,5 @@
 -- The least and the greatest of some numbers, found by a walk, and how far one number is above another.
-use Prim.Native.Nat.{ℕ, zero, suc, _+_, _-_, _≤_, _<_, min}
+use Prim.Native.Nat.{ℕ, zero, suc, _+_, _-_, _≤_, _<_}
 use mathlib.Core.Path.{_≡_, refl, sym, ap, ap₂, _∙_}
 use mathlib.Core.Bool.{true, false, cond}
 use mathlib.Core.List.{[], _∷_}
@@ -8,7 +8,7 @@ use native.Mathlib.Numerals.{add-one}
 use native.Mathlib.Omega.{arith}
 use borrow.Author.Tests.{ltb-true}
 use lib.Dec.{T, leb→le}
-use lib.IntN.{ℤ, pos, negsuc, natAbs, _+ℤ_, _-ℤ_}
+use lib.IntN.{ℤ, pos, negsuc, natAbs, _+ℤ_, _-ℤ_, +ℤ-invr}
 use lib.Signed.{ltZ, nonNeg, _≤ℤ_, ≤ℤ-refl}
 use mir.Syntax.{w64}
 use mir.Val.{SFits, Fits, toZ, ofZ}
@@ -16,7 +16,6 @@ use mir.ValLaws.{toZ-ofZ, toZ-pos}
 use Rattle.integer.specs.Laws.Normal.{X, _⊕_, ⊖, solve, env}
 use Rattle.integer.specs.Laws.Order.{sub-ge, ≤ℤ-+, ≤ℤ-trans}
 use Rattle.split.specs.Fold.{greatestTo, leastTo}
-use Rattle.split.specs.Split.{SYSTEMS}
 use Rattle.split.specs.Rating.{spreadOf}
 use Rattle.split.specs.Laws.Spread.{at-most, at-least}
 
@@ -167,11 +166,8 @@ module _ (v : ℕ → ℤ) where
     unfolding spreadOf
     walk-spread r k g h = g ∙ ap₂ (λ x y. natAbs (x -ℤ y)) f e ∙ ap (spreadOf v) h
 
--- ---- of so many numbers as there are
+-- ---- of none
 
-module _ (v : ℕ → ℤ) (count r : ℕ) where
-  pub spread-all : SYSTEMS < count → r ≡ spreadOf v SYSTEMS → r ≡ spreadOf v (min count SYSTEMS)
-  spread-all h e = let q : SYSTEMS ≡ min count SYSTEMS = omega arith in e ∙ ap (spreadOf v) q
-
-  pub spread-some : count ≤ SYSTEMS → r ≡ spreadOf v count → r ≡ spreadOf v (min count SYSTEMS)
-  spread-some h e = let q : count ≡ min count SYSTEMS = omega arith in e ∙ ap (spreadOf v) q
+pub spread-none : (v : ℕ → ℤ) (n : ℕ) → n ≡ 0 → 0 ≡ spreadOf v n
+unfolding spreadOf greatestTo leastTo
+spread-none v n e = sym (ap (spreadOf v) e ∙ ap natAbs (+ℤ-invr (v 0)))

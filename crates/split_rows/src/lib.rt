@@ -2,8 +2,9 @@
 // `requires`.
 ghost use mathlib.Core.Bool.{_&&_, cond};
 ghost use mathlib.Core.Path.{_≡_};
-ghost use Prim.Native.Nat.{_+_, _<_, _≤_, min};
+ghost use Prim.Native.Nat.{_+_, _<_, _≤_};
 ghost use lib.IntN.{pos, natAbs, _+ℤ_, _-ℤ_};
+ghost use lib.ListN.{length};
 ghost use lib.Signed.{ltZ, _≤ℤ_};
 ghost use Rattle.integer.specs.Figures.{MILLION};
 ghost use Rattle.refusal.specs.Keys.{isIn};
@@ -168,8 +169,8 @@ pub fn evaluate(choice: Choice, cells: &[u32; CELLS]) -> Rows
 }
 
 // Number i.
-fn number(numbers: &[i64; SYSTEMS], i: usize) -> i64
-    requires { ⌜ i < SYSTEMS ⌝ }
+fn number(numbers: &[i64], i: usize) -> i64
+    requires { ⌜ i < length (now numbers) ⌝ }
     ensures { λ r. ⌜ r ≡ listed (now (numbers .entry)) i ⌝ }
 {
     numbers[i]
@@ -205,29 +206,21 @@ fn above(low: i64, high: i64) -> u64
     height(high) - height(low)
 }
 
-// The greatest less the least of the first numbers.
-fn spread_of(numbers: &[i64; SYSTEMS], count: usize) -> u64
-    requires { ⌜ count ≤ SYSTEMS ⌝ }
-    ensures { λ r. ⌜ r ≡ spreadOf (listed (now (numbers .entry))) count ⌝ }
+// The spread of some numbers, any numbers: the greatest less the least.
+pub fn spread(numbers: &[i64]) -> u64
+    ensures { λ r. ⌜ r ≡ spreadOf (listed (now (numbers .entry))) (length (now (numbers .entry))) ⌝ }
 {
+    if numbers.len() == 0 {
+        return 0;
+    }
     let mut low = number(numbers, 0);
     let mut high = low;
     let mut i = 0;
-    while i < count {
+    while i < numbers.len() {
         let x = number(numbers, i);
         low = lower(x, low);
         high = higher(x, high);
         i += 1;
     }
     above(low, high)
-}
-
-// The spread of the first numbers, any numbers, or of all where there are no more: the greatest less the least.
-pub fn spread(numbers: &[i64; SYSTEMS], count: usize) -> u64
-    ensures { λ r. ⌜ r ≡ spreadOf (listed (now (numbers .entry))) (min count SYSTEMS) ⌝ }
-{
-    if SYSTEMS < count {
-        return spread_of(numbers, SYSTEMS);
-    }
-    spread_of(numbers, count)
 }

@@ -1,27 +1,25 @@
 -- `proposal::rated` meets its contract. Assumes nothing.
 use Rattle.integer.specs.Laws.Bits.{read-back}
 use Rattle.proposal.proofs.Weights.{wide-answer, rated-answer}
-use Rattle.split.specs.Rating.{spreadOf}
-use Rattle.split_rows.specs.Rows.{listed}
-use Rattle.split_rows.specs.Laws.Rows.{spread-few}
+use Rattle.split.specs.Split.{SYSTEMS}
+use lib.ListN.{length}
+use native.Mathlib.Omega.{arith}
 use mathlib.Core.Path.{_≡_, _∙_}
 use borrow.Author.Needs.{needs}
 use Rattle.proposal.proofs.rated.Statement.{statement}
 use Rattle.proposal.proofs.rated.Tie as tie
 
 spread-requires : tie.Need-spread-requires
-spread-requires c κs = search needs
+spread-requires c κs =
+    let s = c .before in
+    let long : length (s .args .numbers .now) ≡ SYSTEMS = search needs in
+    (s .pre .0 .some, omega (arith, long, s .pre .0 .small .most))
 
 refused-requires : tie.Need-refused-requires
 refused-requires c κs = search needs
 
--- the spread of so many rows
-spread-is : (c : tie.After-spread)
-    → c .spread .result ≡ spreadOf (listed (c .before .args .numbers .now)) (c .before .args .count)
-spread-is c = spread-few _ _ _ (c .before .pre .0 .small .most) (c .spread .ensures)
-
 returns : tie.Need-returns
-returns c = c .refused .ensures ∙ wide-answer _ _ _ _ _ _ (spread-is (c .before .before)) (c .before .if1 .taken)
+returns c = c .refused .ensures ∙ wide-answer _ _ _ _ _ _ (c .before .before .spread .ensures) (c .before .if1 .taken)
 
 weighted-requires : tie.Need-weighted-requires
 weighted-requires c κs = search needs
@@ -37,7 +35,7 @@ returns-2 c =
     let weighted = c .before .before .weighted in
     let inert = c .before .inert-number in
     let left = c .before .before .before in
-    rated-answer _ _ _ _ _ _ (spread-is (left .before)) (left .if1 .left) _ _ _
+    rated-answer _ _ _ _ _ _ (left .before .spread .ensures) (left .if1 .left) _ _ _
     (read-back (weighted .result) (weighted .ok) ∙ weighted .ensures .0)
     (read-back (inert .result) (inert .ok) ∙ inert .ensures .0)
     (read-back (c .rating-of .result) (c .rating-of .ok) ∙ c .rating-of .ensures)

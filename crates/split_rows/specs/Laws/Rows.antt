@@ -1,6 +1,6 @@
 -- What the rows' evaluation says, by its cases. Assumes nothing.
-use Prim.Native.Nat.{ℕ, zero, suc, _+_, _-_, _≤_, _<_, min}
-use mathlib.Core.Path.{_≡_, refl, sym, ap, _∙_}
+use Prim.Native.Nat.{ℕ, zero, suc, _+_, _-_, _≤_, _<_}
+use mathlib.Core.Path.{_≡_, refl, sym, ap, ap₂, _∙_}
 use mathlib.Core.Bool.{Bool, true, false, _&&_, cond}
 use mathlib.Core.List.{List}
 use native.Mathlib.Nat as N
@@ -12,9 +12,9 @@ use lib.Dec.{ltb, leb, lit≤}
 use Rattle.integer.specs.Figures.{MILLION}
 use Rattle.refusal.specs.Keys.{isIn}
 use Rattle.integer.specs.Laws.Bits.{back}
-use lib.IntN.{ℤ, pos}
-use lib.ListN.{length, getD, set, length-set, replicate, length-replicate, getD-replicate}
-use lib.Seq.{getD-set-same, getD-set-other, ext-getD}
+use lib.IntN.{ℤ, pos, natAbs, _-ℤ_}
+use lib.ListN.{length, getD, set, length-set, replicate, length-replicate, getD-replicate, take}
+use lib.Seq.{length-take-le, getD-take, getD-set-same, getD-set-other, ext-getD}
 use borrow.Author.Tests.{ltb-true, ltb-false, lt-ltb, le-leb, lt-leb}
 use borrow.Author.Count.{below-more}
 use Rattle.formula.specs.Coefficients.{isSystem}
@@ -27,7 +27,7 @@ use Rattle.ternary.specs.declared.Partial.the-variants.{Number, Refused}
 use Rattle.systems.specs.Systems.{candidates, memberOf, Candidate}
 use Rattle.split.specs.Laws.Candidates.{known-system}
 use Rattle.split.specs.Fold.{allTo}
-use Rattle.split.specs.Laws.Folds.{all-each, all-of}
+use Rattle.split.specs.Laws.Folds.{all-each, all-of, greatest-same, least-same}
 use Rattle.split.specs.Split.{SYSTEMS, cellOf, systemOf, partsOf, rowNumber, Stock, Sound}
 use Rattle.split.specs.Laws.Members.{both-right}
 use Rattle.split.specs.Rating.{someEmpty, spreadOf}
@@ -304,8 +304,16 @@ module _ (ch : List ℕ) (k : ℕ) (a : List ℕ) where
               small = numbers-small;
             }
 
--- ---- the spread of rows that there is room for
+-- ---- the spread of the first of some numbers
 
-pub spread-few : (numbers : ℕ → ℤ) (count spread : ℕ) → count ≤ SYSTEMS
-    → spread ≡ spreadOf numbers (min count SYSTEMS) → spread ≡ spreadOf numbers count
-spread-few numbers count spread h e = let q : min count SYSTEMS ≡ count = omega arith in e ∙ ap (spreadOf numbers) q
+module _ (v : List ℤ) (k s : ℕ) (some : 0 < k) (most : k ≤ length v) where
+  taken-at : (i : ℕ) → i < k → listed (take k v) i ≡ listed v i
+  taken-at i l = getD-take k v i (pos 0) l
+
+  pub spread-taken : s ≡ spreadOf (listed (take k v)) (length (take k v)) → s ≡ spreadOf (listed v) k
+  unfolding spreadOf
+  spread-taken e =
+      e ∙ ap (spreadOf (listed (take k v))) (length-take-le k v most)
+      ∙ ap₂ (λ (x y : ℤ). natAbs (x -ℤ y))
+      (greatest-same (listed (take k v)) (listed v) k k some (N.le-refl k) taken-at)
+      (least-same (listed (take k v)) (listed v) k k some (N.le-refl k) taken-at)
