@@ -112,8 +112,12 @@ module _ (mix ch : List ℕ) (k n1 : ℕ) (b : Bool) (p : b ≡ proposalFit mix 
 
         pub stock : length a ≡ CELLS → Stock ch k a
         stock long =
-            record { chosen = proposal .chosen; long = long; few = rw (resummed mix k a (resums-yes mix k a yes))
-            (proposal .few) }
+            record {
+              chosen = proposal .chosen;
+              long = long;
+              few = rw (resummed mix k a (resums-yes mix k a yes))
+                  (proposal .few);
+            }
 
         pub answered : (limit : ℕ) (x : Answer) → x ≡ weighedOf limit ch k a n1
             → Answered x ≡ proposedAnswer limit ch k mix a n1

@@ -97,5 +97,5 @@ module _ (limit : ℕ) (v : List ℤ) (p : List ℕ) (k n1 s : ℕ) (e : s ≡ s
   unfolding ratedBy
   rated-answer h sum inert r es ei er =
       ap₂ (λ (x : ℤ) (y : ℕ). Rated x y 0)
-          (er ∙ ap₂ (λ (x y : ℤ). quotZ x (pos MILLION) +ℤ y +ℤ neg PURE_METHANE) es ei) e
+      (er ∙ ap₂ (λ (x y : ℤ). quotZ x (pos MILLION) +ℤ y +ℤ neg PURE_METHANE) es ei) e
       ∙ sym (rw (width false (le-ltb limit s h), ratedBy))

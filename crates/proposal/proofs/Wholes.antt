@@ -127,7 +127,7 @@ module _ (n1 : ℕ) (p : Partial) (q : p ≡ formulaOf 20 n1 (MILLION - n1) 0) (
       let t : p ≡ Number (inertNumber n1) = answer-is in
       let v : x ≡ inertNumber n1 = cc in
       rw (v, toZ-ofZ w64 (inertNumber n1) (sfits-small (inertNumber n1) (omega (arith, inert-small n1))))
-          (refl, inert-small n1)
+      (refl, inert-small n1)
 
   pub inert-never : (n : ℕ) → p ≡ Refused n → (pos 0 ≡ inertNumber n1) × (0 ≤ LARGEST)
   inert-never n u =

@@ -2,6 +2,7 @@
 ghost use mathlib.Core.Path.{_≡_};
 ghost use Prim.Native.Nat.{_+_, _*_, _<_, _≤_};
 ghost use lib.IntN.{ℤ, pos, negsuc, natAbs, _+ℤ_, _*ℤ_};
+ghost use lib.ListN.{length};
 ghost use lib.Signed.{quotZ};
 ghost use Rattle.integer.specs.Figures.{neg, MILLION};
 ghost use Rattle.formula.specs.WorkingRule.{LARGEST};
@@ -10,7 +11,6 @@ ghost use Rattle.split.specs.Split.{SYSTEMS, columnOf, Stock};
 ghost use Rattle.split.specs.Rating.{resums, spreadOf, inertNumber, PURE_METHANE};
 ghost use Rattle.split.specs.Proposed.{proposalFit, proposedAnswer};
 ghost use Rattle.split_rows.specs.Rows.{listed};
-ghost use Rattle.split_rows.specs.Inner.Small.{Small};
 ghost use Rattle.proposal.specs.Inner.Weighing.{Weighable, weighedTo, ratedBy, weighedOf};
 use refusal::EMPTY_SYSTEM;
 use refusal::UNSUMMED;
@@ -27,42 +27,36 @@ const MILLION: u32 = 1000000;
 // The system of the inert mixture.
 const INERT: u32 = 20;
 
-fn wide(x: u32) -> u64
-    ensures { λ r. ⌜ r ≡ x ⌝ }
-{
-    x as u64
-}
-
 // One more amount, added as a whole number: nothing wraps.
 fn added(sum: u64, x: u32) -> u64
     requires { ⌜ sum ≤ 34359738360 ⌝ }
     ensures { λ r. ⌜ (r ≡ sum + x) × (r ≤ sum + 4294967295) ⌝ }
 {
-    sum + wide(x)
+    sum + x as u64
 }
 
-// The amounts of component c in the k rows, added.
-fn column(a: &[u32; CELLS], k: usize, c: usize) -> u64
-    requires { ⌜ (k ≤ SYSTEMS) × (c < COMPONENTS) ⌝ }
-    ensures { λ r. ⌜ r ≡ columnOf k (now (a .entry)) c ⌝ }
+// The amounts of component c in the rows, added.
+fn column(cells: &[u32; CELLS], count: usize, c: usize) -> u64
+    requires { ⌜ (count ≤ SYSTEMS) × (c < COMPONENTS) ⌝ }
+    ensures { λ r. ⌜ r ≡ columnOf count (now (cells .entry)) c ⌝ }
 {
     let mut sum: u64 = 0;
     let mut s = 0;
-    while s < k {
-        sum = added(sum, a[s * COMPONENTS + c]);
+    while s < count {
+        sum = added(sum, cells[s * COMPONENTS + c]);
         s += 1;
     }
     sum
 }
 
 // Whether each component's amounts add up to the mixture's.
-fn resums(mix: &[u32; COMPONENTS], k: usize, a: &[u32; CELLS]) -> bool
-    requires { ⌜ k ≤ SYSTEMS ⌝ }
-    ensures { λ r. ⌜ r ≡ resums (now (mix .entry)) k (now (a .entry)) ⌝ }
+fn resums(mix: &[u32; COMPONENTS], count: usize, cells: &[u32; CELLS]) -> bool
+    requires { ⌜ count ≤ SYSTEMS ⌝ }
+    ensures { λ r. ⌜ r ≡ resums (now (mix .entry)) count (now (cells .entry)) ⌝ }
 {
     let mut c = 0;
     while c < COMPONENTS {
-        if column(a, k, c) != wide(mix[c]) {
+        if column(cells, count, c) != added(0, mix[c]) {
             return false;
         }
         c += 1;
@@ -71,46 +65,34 @@ fn resums(mix: &[u32; COMPONENTS], k: usize, a: &[u32; CELLS]) -> bool
 }
 
 // One more partial number, times its system's parts.
-fn weigh(sum: i64, v: i64, p: u32) -> i64
-    requires { ⌜ (natAbs v ≤ LARGEST) × (natAbs sum + LARGEST * p ≤ LARGEST * MILLION) ⌝ }
-    ensures { λ r. ⌜ r ≡ sum +ℤ v *ℤ pos p ⌝ }
+fn weigh(sum: i64, number: i64, parts: u32) -> i64
+    requires { ⌜ (natAbs number ≤ LARGEST) × (natAbs sum + LARGEST * parts ≤ LARGEST * MILLION) ⌝ }
+    ensures { λ r. ⌜ r ≡ sum +ℤ number *ℤ pos parts ⌝ }
 {
-    sum + v * (p as i64)
+    sum + number * (parts as i64)
 }
 
 // Each number times its system's parts, added.
-fn weighted(v: &[i64; SYSTEMS], p: &[u32; SYSTEMS], k: usize) -> i64
-    requires { ⌜ Weighable (now v) (now p) k ⌝ }
-    ensures { λ r. ⌜ (r ≡ weighedTo (now (v .entry)) (now (p .entry)) k) × (natAbs r ≤ LARGEST * MILLION) ⌝ }
+fn weighted(numbers: &[i64; SYSTEMS], parts: &[u32; SYSTEMS], count: usize) -> i64
+    requires { ⌜ Weighable (now numbers) (now parts) count ⌝ }
+    ensures { λ r. ⌜ (r ≡ weighedTo (now (numbers .entry)) (now (parts .entry)) count)
+        × (natAbs r ≤ LARGEST * MILLION) ⌝ }
 {
     let mut sum: i64 = 0;
     let mut s = 0;
-    while s < k {
-        sum = weigh(sum, v[s], p[s]);
+    while s < count {
+        sum = weigh(sum, numbers[s], parts[s]);
         s += 1;
     }
     sum
 }
 
-// The spread of k numbers: the greatest less the least.
-fn spread(v: &[i64; SYSTEMS], k: usize) -> u64
-    requires { ⌜ Small (now v) k × (0 < k) ⌝ }
-    ensures { λ r. ⌜ r ≡ spreadOf (listed (now (v .entry))) k ⌝ }
+// The spread of the first numbers: the greatest less the least.
+fn spread(numbers: &[i64], count: usize) -> u64
+    requires { ⌜ (0 < count) × (count ≤ length (now numbers)) ⌝ }
+    ensures { λ r. ⌜ r ≡ spreadOf (listed (now (numbers .entry))) count ⌝ }
 {
-    let mut low = v[0];
-    let mut high = low;
-    let mut i = 0;
-    while i < k {
-        let x = v[i];
-        if x < low {
-            low = x;
-        }
-        if high < x {
-            high = x;
-        }
-        i += 1;
-    }
-    (high - low) as u64
+    split_rows::spread(&numbers[..count])
 }
 
 // The inert number: system 20 at n1 and the rest.
@@ -139,16 +121,22 @@ fn refused(number: u32) -> Answer
     Answer::Refused { number, place: 0 }
 }
 
-// The answer to the numbers and parts of k rows: refused 10 where the spread is above the limit, else rated.
-fn rated(limit: u64, v: &[i64; SYSTEMS], p: &[u32; SYSTEMS], k: usize, n1: u32) -> Answer
-    requires { ⌜ Weighable (now v) (now p) k × (n1 ≤ MILLION) ⌝ }
-    ensures { λ r. ⌜ r ≡ ratedBy limit (now (v .entry)) (now (p .entry)) k n1 ⌝ }
+// The answer to the numbers and parts of rows: refused 10 where the spread is above the limit, else rated.
+fn rated(
+    limit: u64,
+    numbers: &[i64; SYSTEMS],
+    parts: &[u32; SYSTEMS],
+    count: usize,
+    n1: u32,
+) -> Answer
+    requires { ⌜ Weighable (now numbers) (now parts) count × (n1 ≤ MILLION) ⌝ }
+    ensures { λ r. ⌜ r ≡ ratedBy limit (now (numbers .entry)) (now (parts .entry)) count n1 ⌝ }
 {
-    let spread = spread(v, k);
+    let spread = spread(numbers, count);
     if limit < spread {
         return refused(WIDE);
     }
-    let rating = rating_of(weighted(v, p, k), inert_number(n1));
+    let rating = rating_of(weighted(numbers, parts, count), inert_number(n1));
     Answer::Rated {
         rating,
         spread,
@@ -166,9 +154,9 @@ fn weighed(limit: u64, choice: Choice, cells: &[u32; CELLS], n1: u32) -> Answer
     if !fit {
         return refused(EMPTY_SYSTEM);
     }
-    let v = rows.numbers;
-    let p = rows.parts;
-    rated(limit, &v, &p, choice.count, n1)
+    let numbers = rows.numbers;
+    let parts = rows.parts;
+    rated(limit, &numbers, &parts, choice.count, n1)
 }
 
 // Whether n1 and the mixture's parts are at most a million, and the chosen systems candidates that there is room for.
@@ -178,7 +166,7 @@ fn fits(mix: [u32; COMPONENTS], choice: Choice, n1: u32) -> bool
     if MILLION < n1 {
         return false;
     }
-    start::fit(mix, choice)
+    split_rows::fit(mix, choice)
 }
 
 // The answer to cells proposed as a split of a mixture among its chosen systems: refused 8 where they do not re-sum,

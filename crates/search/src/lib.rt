@@ -39,7 +39,7 @@ pub fn find(
 ) -> Found
     ensures { λ r. ⌜ r ≡ findOf mix (choice .systems) (choice .count) limit level allowance ⌝ }
 {
-    if (LEVEL < level) | !start::fit(mix, choice) {
+    if (LEVEL < level) | !split_rows::fit(mix, choice) {
         return nothing();
     }
     let cells = start::start(mix, choice);

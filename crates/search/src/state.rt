@@ -1,34 +1,21 @@
 // A row's amounts, and the spread of some numbers.
 ghost use mathlib.Core.Path.{_≡_};
-ghost use Prim.Native.Nat.{_<_};
+ghost use Prim.Native.Nat.{_<_, _≤_};
+ghost use lib.ListN.{length};
 ghost use Rattle.systems.specs.Systems.{memberOf, Candidate};
 ghost use Rattle.split.specs.Split.{SYSTEMS, cellOf};
 ghost use Rattle.split.specs.Rating.{spreadOf};
 ghost use Rattle.split_rows.specs.Rows.{listed};
-ghost use Rattle.split_rows.specs.Inner.Small.{Small};
 use split::CELLS;
 use systems::COMPONENTS;
 use systems::SYSTEMS;
 
-// The spread of k numbers: the greatest less the least.
-pub(crate) fn spread(v: &[i64; SYSTEMS], k: usize) -> u64
-    requires { ⌜ Small (now v) k × (0 < k) ⌝ }
-    ensures { λ r. ⌜ r ≡ spreadOf (listed (now (v .entry))) k ⌝ }
+// The spread of the first numbers: the greatest less the least.
+pub(crate) fn spread(numbers: &[i64], count: usize) -> u64
+    requires { ⌜ (0 < count) × (count ≤ length (now numbers)) ⌝ }
+    ensures { λ r. ⌜ r ≡ spreadOf (listed (now (numbers .entry))) count ⌝ }
 {
-    let mut low = v[0];
-    let mut high = low;
-    let mut i = 0;
-    while i < k {
-        let x = v[i];
-        if x < low {
-            low = x;
-        }
-        if high < x {
-            high = x;
-        }
-        i += 1;
-    }
-    (high - low) as u64
+    split_rows::spread(&numbers[..count])
 }
 
 // The amount in row s, of the given system, of the system's component j.

@@ -52,6 +52,10 @@ none = record { fit = false; numbers = replicate SYSTEMS (pos 0); parts = replic
 unfoldable pub rowsOf : List ℕ → ℕ → List ℕ → Rows
 rowsOf systems count cells =
     cond (rowsFit systems count cells)
-    (record { fit = true; numbers = upTo (pos 0) count (rowNumber systems cells) SYSTEMS 0; parts = upTo 0 count
-    (partsOf systems cells) SYSTEMS 0 })
+    (record {
+      fit = true;
+      numbers = upTo (pos 0) count (rowNumber systems cells) SYSTEMS 0;
+      parts = upTo 0 count
+          (partsOf systems cells) SYSTEMS 0;
+    })
     none

@@ -35,7 +35,7 @@ module _ (ch : List ℕ) (c share odd : ℕ) (a : List ℕ) where
   column-other zero j h = refl
   column-other (suc n) j h =
       getD-set-other (columnTo ch c share odd a n) (n * COMPONENTS + c) j (sharedRow ch c share odd n) 0
-          (h n (omega arith))
+      (h n (omega arith))
       ∙ column-other n j (λ i l. h i (omega arith))
 
   -- each of the rows has its part
@@ -50,11 +50,11 @@ module _ (ch : List ℕ) (c share odd : ℕ) (a : List ℕ) where
           → getD (columnTo ch c share odd a (suc n)) (s * COMPONENTS + c) 0 ≡ sharedRow ch c share odd s
       go true e next =
           rw (eqb-true s n e) (getD-set-same (columnTo ch c share odd a n) (n * COMPONENTS + c)
-              (sharedRow ch c share odd n) 0 (omega (arith, column-length n)))
+          (sharedRow ch c share odd n) 0 (omega (arith, column-length n)))
       go false e next =
           let d = eqb-false s n e in
           getD-set-other (columnTo ch c share odd a n) (n * COMPONENTS + c) (s * COMPONENTS + c)
-              (sharedRow ch c share odd n) 0 (λ q. d (omega arith)) ∙ next (omega arith)
+          (sharedRow ch c share odd n) 0 (λ q. d (omega arith)) ∙ next (omega arith)
 
 -- ---- a column of marks: shares of 1
 
@@ -125,7 +125,7 @@ module _ (mix ch : List ℕ) (k : ℕ) (a : List ℕ) where
     shared-other zero m h = refl
     shared-other (suc n) m h =
         column-other ch n _ _ (sharedTo mix ch k a n) k (s * COMPONENTS + c)
-            (λ i l. h i n l (omega arith) (omega arith))
+        (λ i l. h i n l (omega arith) (omega arith))
         ∙ shared-other n (omega arith) (λ i d l u. h i d l (omega arith))
 
     shared-past : (n : ℕ) → n ≤ COMPONENTS → k ≤ s → getD (sharedTo mix ch k a n) (s * COMPONENTS + c) 0 ≡ getD a
@@ -143,11 +143,11 @@ module _ (mix ch : List ℕ) (k : ℕ) (a : List ℕ) where
             → getD (sharedTo mix ch k a (suc n)) (s * COMPONENTS + c) 0 ≡ share-of mix ch k c s
         go true e next =
             rw (eqb-true c n e) (column-row ch n _ _ (sharedTo mix ch k a n) k s h (omega arith)
-                (omega (arith, shared-length n)))
+            (omega (arith, shared-length n)))
         go false e next =
             let d = eqb-false c n e in
             column-other ch n _ _ (sharedTo mix ch k a n) k (s * COMPONENTS + c) (λ i u q. d (omega arith))
-                ∙ next (omega arith)
+            ∙ next (omega arith)
 
 -- ---- rows beyond those that there is room for hold system 0, which contains no component
 
@@ -185,11 +185,11 @@ module _ (mix ch : List ℕ) (k : ℕ) (long : length ch ≤ SYSTEMS) where
       go false e = rw e (cell-off mix ch k s c h (systemOf ch s) false refl (sym e) refl)
       go true e =
           let some : 0 < sharersOf ch c k = some-sharer mix ch k s c h (systemOf ch s) true refl (sym e)
-              (sharersOf ch c k) refl refl in
+          (sharersOf ch c k) refl refl in
           let n : max 1 (sharersOf ch c (min SYSTEMS k)) ≡ sharersOf ch c k =
-              omega (arith, sharers-room ch long c l k) in
+          omega (arith, sharers-room ch long c l k) in
           rw (e, n) (cell-on mix ch k s c h (systemOf ch s) true refl (sym e) _ (sharersOf ch c k)
-              (sharersOf ch c s) refl refl refl refl)
+          (sharersOf ch c s) refl refl refl refl)
 
   abbrev zeros : List ℕ
   zeros = replicate CELLS 0
@@ -203,7 +203,7 @@ module _ (mix ch : List ℕ) (k : ℕ) (long : length ch ≤ SYSTEMS) where
       go true e =
           let u = ltb-true s k e in
           shared-row mix ch (min SYSTEMS k) zeros s c l COMPONENTS (omega arith) l (omega arith)
-              (omega (arith, length-replicate {A = ℕ} CELLS 0)) ∙ given-is s c u l
+          (omega (arith, length-replicate {A = ℕ} CELLS 0)) ∙ given-is s c u l
       go false e =
           let u = ltb-false s k e in
           shared-past mix ch (min SYSTEMS k) zeros s c l COMPONENTS (omega arith) (omega arith)
@@ -264,7 +264,7 @@ shared-none : (ch : List ℕ) (k c : ℕ) (a : List ℕ) → ((s : ℕ) → s < 
 unfolding sharedOf
 shared-none ch k c a h =
     ap₂ (λ (share odd : ℕ). columnTo ch c share odd a k) (zero-div (max 1 (sharersOf ch c k)))
-        (zero-mod (max 1 (sharersOf ch c k)))
+    (zero-mod (max 1 (sharersOf ch c k)))
     ∙ column-none ch c a k h
 
 pub done-skip : (mix ch : List ℕ) (k : ℕ) (a : List ℕ) (n : ℕ) → n < COMPONENTS → k ≤ SYSTEMS → getD mix n 0 ≡ 0

@@ -53,8 +53,14 @@ module _ (ch : List ℕ) (end c : ℕ) (z : Cells end c) where
   pub counted-none : Counted ch end c 0 c
   unfolding sharersOf
   counted-none =
-      record { row = 0; at = omega arith; past = omega arith; count = sum-none
-      (λ s. cond (hasOf (systemOf ch s) c) 1 0); few = omega arith }
+      record {
+        row = 0;
+        at = omega arith;
+        past = omega arith;
+        count = sum-none
+            (λ s. cond (hasOf (systemOf ch s) c) 1 0);
+        few = omega arith;
+      }
 
   -- a cell's system and component
   here-is : (i row y : ℕ) → i ≡ row * COMPONENTS + c → y ≡ containedAt ch i → y ≡ cond (hasOf (systemOf ch row) c) 1 0
@@ -142,9 +148,10 @@ module _ (ch : List ℕ) (end c share odd : ℕ) (a : List ℕ) (z : Cells end c
         let row : i / COMPONENTS ≡ n .row = omega (arith, n .at, z .low) in
         let d : i % COMPONENTS ≡ c = omega (arith, n .at, z .low) in
         let m = w .rest (n .row) (omega arith) (omega (arith, n .at, z .whole, z .low)) in
-        let is : here ≡ cond (hasOf (systemOf ch (n .row)) c) 1 0 = e ∙ ap (λ x. getD b x 0) (n .at) ∙ m in
-        (is ∙ sym (ap₂ (λ x u. cond (hasOf (systemOf ch x) u) 1 0) row d),
-        subst⁻¹ (λ (x : ℕ). x ≤ 1) is (one-most (hasOf (systemOf ch (n .row)) c)))
+        let is : here ≡ cond (hasOf (systemOf ch (n .row)) c) 1 0 = e ∙ ap (λ x. getD b x 0) (n .at) ∙ m in (
+          is ∙ sym (ap₂ (λ x u. cond (hasOf (systemOf ch x) u) 1 0) row d),
+          subst⁻¹ (λ (x : ℕ). x ≤ 1) is (one-most (hasOf (systemOf ch (n .row)) c)),
+        )
 
     pub rewritten-more : (here v : ℕ) → i < end → here ≡ getD b i 0 → v ≡ partOf here share odd rank
         → Rewritten ch end c share odd a (set b i v) (rank + here) (i + COMPONENTS)

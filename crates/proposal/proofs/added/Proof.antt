@@ -4,9 +4,6 @@ use borrow.Author.Needs.{needs}
 use Rattle.proposal.proofs.added.Statement.{statement}
 use Rattle.proposal.proofs.added.Tie as tie
 
-wide-requires : tie.Need-wide-requires
-wide-requires c κs = search needs
-
 add-result : tie.Need-add-result
 add-result c = search needs
 
@@ -14,4 +11,4 @@ returns : tie.Need-returns
 returns c = (omega arith, omega arith)
 
 pub added-spec : {M : Type 1} → statement M
-added-spec = tie.close (tie.spec wide-requires add-result returns)
+added-spec = tie.close (tie.spec add-result returns)

@@ -8,14 +8,14 @@ use Rattle.proposal.proofs.column.Statement.{statement}
 use Rattle.proposal.proofs.column.Tie as tie
 
 abbrev Inv-loop : tie.InvT-loop
-Inv-loop a k c sum₀ s₀ sum s = (s ≤ k) × (sum ≡ columnOf s a c) × (sum ≤ 4294967295 * s)
+Inv-loop cells count c sum₀ s₀ sum s = (s ≤ count) × (sum ≡ columnOf s cells c) × (sum ≤ 4294967295 * s)
 
 abbrev μ-loop : tie.MeasureT-loop
-μ-loop a k c sum₀ s₀ sum s = k - s
+μ-loop cells count c sum₀ s₀ sum s = count - s
 
 loop-holds : tie.Need-loop-holds Inv-loop μ-loop
 unfolding columnOf
-loop-holds c = (omega arith, sum-none (λ s. cellOf (c .args .a .now) s (c .args .c)), omega arith)
+loop-holds c = (omega arith, sum-none (λ s. cellOf (c .args .cells .now) s (c .args .c)), omega arith)
 
 mul-added : tie.Need-mul-added Inv-loop μ-loop
 mul-added c = omega arith
@@ -43,13 +43,15 @@ unfolding columnOf
 loop-again c =
     let a = c .before .before .before .before .args in (
       omega arith,
-      c .added .ensures .0 ∙ sum-more (λ s. cellOf (a .a .now) s (a .c)) _ _ _
+      c .added .ensures .0 ∙ sum-more (λ s. cellOf (a .cells .now) s (a .c)) _ _ _
           (c .before .before .before .loop .inv .1) refl,
       omega arith,
     )
 
 returns : tie.Need-returns Inv-loop μ-loop
-returns c = let q : c .before .loop .s ≡ c .before .before .args .k = omega arith in rw q at (c .before .loop .inv .1)
+returns c =
+    let q : c .before .loop .s ≡ c .before .before .args .count = omega arith in
+    rw q at (c .before .loop .inv .1)
 
 pub column-spec : {M : Type 1} → statement M
 column-spec =

@@ -17,10 +17,14 @@ enum-told : tie.Need-enum-told
 enum-told c = search needs
 
 returns : tie.Need-returns
-returns c = inert-ok (c .before .before .before .before .args .n1) _ (c .before .before .before .formula-number .ensures .0) (c .before .before .before .before .pre) _ (c .before .p .given .1)
+returns c =
+    let s = c .before .before .before in
+    inert-ok (s .before .args .n1) _ (s .formula-number .ensures .0) (s .before .pre) _ (c .before .p .given .1)
 
 returns-2 : tie.Need-returns-2
-returns-2 c = inert-never (c .before .before .before .args .n1) _ (c .before .before .formula-number .ensures .0) (c .before .before .before .pre) _ (c .enum-told .given .1)
+returns-2 c =
+    let s = c .before .before in
+    inert-never (s .before .args .n1) _ (s .formula-number .ensures .0) (s .before .pre) _ (c .enum-told .given .1)
 
 pub inert-number-spec : {M : Type 1} → statement M
 inert-number-spec =

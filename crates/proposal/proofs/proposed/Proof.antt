@@ -24,21 +24,23 @@ returns-2 : tie.Need-returns-2
 returns-2 c =
     let b = c .before .before .before .before .before in
     unsummed _ _ _ _ _ (b .before .fits2 .ensures) (b .if1 .left) _ _ (c .before .before .resums .ensures) _
-        (c .before .if2 .taken) _ (c .refused .ensures)
+    (c .before .if2 .taken) _ (c .refused .ensures)
 
 weighed-requires : tie.Need-weighed-requires
 weighed-requires c κs =
     let b = c .before .before .before .before .before in
     let p = proposal _ _ _ _ _ (b .before .fits2 .ensures) (b .if1 .left) in
-    let long : length (b .before .before .args .t4) ≡ CELLS = search needs in
-    (stock _ _ _ _ _ (b .before .fits2 .ensures) (b .if1 .left) _ _ (c .before .before .resums .ensures)
-    (c .before .if2 .left) long, p .inert)
+    let long : length (b .before .before .args .t4) ≡ CELLS = search needs in (
+      stock _ _ _ _ _ (b .before .fits2 .ensures) (b .if1 .left) _ _ (c .before .before .resums .ensures)
+          (c .before .if2 .left) long,
+      p .inert,
+    )
 
 returns-3 : tie.Need-returns-3
 returns-3 c =
     let b = c .before .before .before .before .before .before in
     answered _ _ _ _ _ (b .before .fits2 .ensures) (b .if1 .left) _ _ (c .before .before .before .resums .ensures)
-        (c .before .before .if2 .left) _ _ (c .weighed .ensures)
+    (c .before .before .if2 .left) _ _ (c .weighed .ensures)
 
 pub proposed-spec : {M : Type 1} → statement M
 proposed-spec =

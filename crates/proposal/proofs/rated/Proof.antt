@@ -1,14 +1,19 @@
 -- `proposal::rated` meets its contract. Assumes nothing.
 use Rattle.integer.specs.Laws.Bits.{read-back}
 use Rattle.proposal.proofs.Weights.{wide-answer, rated-answer}
-use mathlib.Core.Path.{_∙_}
-use Prim.Native.Nat.{_-_}
+use Rattle.split.specs.Split.{SYSTEMS}
+use lib.ListN.{length}
+use native.Mathlib.Omega.{arith}
+use mathlib.Core.Path.{_≡_, _∙_}
 use borrow.Author.Needs.{needs}
 use Rattle.proposal.proofs.rated.Statement.{statement}
 use Rattle.proposal.proofs.rated.Tie as tie
 
 spread-requires : tie.Need-spread-requires
-spread-requires c κs = search needs
+spread-requires c κs =
+    let s = c .before in
+    let long : length (s .args .numbers .now) ≡ SYSTEMS = search needs in
+    (s .pre .0 .some, omega (arith, long, s .pre .0 .small .most))
 
 refused-requires : tie.Need-refused-requires
 refused-requires c κs = search needs
@@ -27,11 +32,12 @@ rating-of-requires c κs = search needs
 
 returns-2 : tie.Need-returns-2
 returns-2 c =
-    rated-answer _ _ _ _ _ _ (c .before .before .before .before .spread .ensures)
-    (c .before .before .before .if1 .left) _ _ _
-    (read-back (c .before .before .weighted .result) (c .before .before .weighted .ok)
-    ∙ c .before .before .weighted .ensures .0)
-    (read-back (c .before .inert-number .result) (c .before .inert-number .ok) ∙ c .before .inert-number .ensures .0)
+    let weighted = c .before .before .weighted in
+    let inert = c .before .inert-number in
+    let left = c .before .before .before in
+    rated-answer _ _ _ _ _ _ (left .before .spread .ensures) (left .if1 .left) _ _ _
+    (read-back (weighted .result) (weighted .ok) ∙ weighted .ensures .0)
+    (read-back (inert .result) (inert .ok) ∙ inert .ensures .0)
     (read-back (c .rating-of .result) (c .rating-of .ok) ∙ c .rating-of .ensures)
 
 pub rated-spec : {M : Type 1} → statement M

@@ -1,5 +1,7 @@
 -- `proposal::resums` meets its contract: the columns before c add up. Assumes nothing.
 use Prim.Native.Nat.{_-_, _≤_}
+use mathlib.Core.Path.{_∙_}
+use native.Mathlib.Nat.{zero-add}
 use native.Mathlib.Omega.{arith}
 use borrow.Author.Needs.{needs}
 use Rattle.systems.specs.Systems.{COMPONENTS}
@@ -8,10 +10,10 @@ use Rattle.proposal.proofs.resums.Statement.{statement}
 use Rattle.proposal.proofs.resums.Tie as tie
 
 abbrev Inv-loop : tie.InvT-loop
-Inv-loop mix k a c₀ c = (c ≤ COMPONENTS) × Summed mix k a c
+Inv-loop mix count cells c₀ c = (c ≤ COMPONENTS) × Summed mix count cells c
 
 abbrev μ-loop : tie.MeasureT-loop
-μ-loop mix k a c₀ c = COMPONENTS - c
+μ-loop mix count cells c₀ c = COMPONENTS - c
 
 loop-holds : tie.Need-loop-holds Inv-loop μ-loop
 loop-holds c = (omega arith, summed-none _ _ _)
@@ -19,19 +21,19 @@ loop-holds c = (omega arith, summed-none _ _ _)
 column-requires : tie.Need-column-requires Inv-loop μ-loop
 column-requires c κs = search needs
 
-mul-wide : tie.Need-mul-wide Inv-loop μ-loop
-mul-wide c = omega arith
+mul-added : tie.Need-mul-added Inv-loop μ-loop
+mul-added c = omega arith
 
-element-copy-out-wide : tie.Need-element-copy-out-wide Inv-loop μ-loop
-element-copy-out-wide c = omega arith
+element-copy-out-added : tie.Need-element-copy-out-added Inv-loop μ-loop
+element-copy-out-added c = omega arith
 
-wide-requires : tie.Need-wide-requires Inv-loop μ-loop
-wide-requires c κs = search needs
+added-requires : tie.Need-added-requires Inv-loop μ-loop
+added-requires c κs = search needs
 
 returns : tie.Need-returns Inv-loop μ-loop
 returns c =
-    unsummed _ _ _ _ _ _ (omega arith) (c .before .before .before .column .ensures) (c .before .wide .ensures)
-    (c .if1 .taken)
+    unsummed _ _ _ _ _ _ (omega arith) (c .before .before .before .column .ensures)
+    (c .before .added .ensures .0 ∙ zero-add _) (c .if1 .taken)
 
 add-c : tie.Need-add-c Inv-loop μ-loop
 add-c c = omega arith
@@ -41,8 +43,11 @@ loop-less c = omega arith
 
 loop-again : tie.Need-loop-again Inv-loop μ-loop
 loop-again c =
-    (omega arith, summed-more _ _ _ _ _ _ (omega arith) (c .before .before .before .column .ensures)
-    (c .before .wide .ensures) (c .before .before .before .before .before .loop .inv .1) (c .if1 .left))
+    let called = c .before .before .before in (
+      omega arith,
+      summed-more _ _ _ _ _ _ (omega arith) (called .column .ensures)
+          (c .before .added .ensures .0 ∙ zero-add _) (called .before .before .loop .inv .1) (c .if1 .left),
+    )
 
 returns-2 : tie.Need-returns-2 Inv-loop μ-loop
 returns-2 c = summed-all _ _ _ _ (omega arith) (c .before .loop .inv .1)
@@ -55,9 +60,9 @@ resums-spec =
     μ-loop
     loop-holds
     column-requires
-    mul-wide
-    element-copy-out-wide
-    wide-requires
+    mul-added
+    element-copy-out-added
+    added-requires
     returns
     add-c
     loop-less

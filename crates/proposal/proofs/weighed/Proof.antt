@@ -15,25 +15,25 @@ refused-requires c κs = search needs
 
 returns : tie.Need-returns
 returns c =
-    c .refused .ensures ∙ empty-weighed _ _ _ _ _ (c .before .before .before .pre .0)
-    (c .before .before .evaluate .result) (c .before .before .evaluate .ensures) (not-true _ (c .before .if1 .taken))
+    let s = c .before .before in
+    c .refused .ensures ∙ empty-weighed _ _ _ _ _ (s .before .pre .0) (s .evaluate .result) (s .evaluate .ensures)
+    (not-true _ (c .before .if1 .taken))
 
 rated-requires : tie.Need-rated-requires
 rated-requires c κs =
-    (weighable (c .before .before .before .before .before .before .args .limit) _ _ _
-    (c .before .before .before .before .before .before .args .n1)
-    (c .before .before .before .before .before .before .pre .0)
-    (c .before .before .before .before .before .evaluate .result)
-    (c .before .before .before .before .before .evaluate .ensures)
-    (not-false _ (c .before .before .before .before .if1 .left)),
-    c .before .before .before .before .before .before .pre .1)
+    let left = c .before .before .before .before in
+    let s = left .before in (
+      weighable (s .before .args .limit) _ _ _ (s .before .args .n1) (s .before .pre .0) (s .evaluate .result)
+          (s .evaluate .ensures) (not-false _ (left .if1 .left)),
+      s .before .pre .1,
+    )
 
 returns-2 : tie.Need-returns-2
 returns-2 c =
-    rated-weighed _ _ _ _ _ (c .before .before .before .before .before .before .before .pre .0)
-    (c .before .before .before .before .before .before .evaluate .result)
-    (c .before .before .before .before .before .before .evaluate .ensures)
-    (not-false _ (c .before .before .before .before .before .if1 .left)) _ (c .rated .ensures)
+    let left = c .before .before .before .before .before in
+    let s = left .before in
+    rated-weighed _ _ _ _ _ (s .before .pre .0) (s .evaluate .result) (s .evaluate .ensures)
+    (not-false _ (left .if1 .left)) _ (c .rated .ensures)
 
 pub weighed-spec : {M : Type 1} → statement M
 weighed-spec =

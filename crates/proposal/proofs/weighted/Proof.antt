@@ -11,10 +11,10 @@ use Rattle.proposal.proofs.weighted.Statement.{statement}
 use Rattle.proposal.proofs.weighted.Tie as tie
 
 abbrev Inv-loop : tie.InvT-loop
-Inv-loop v p k sum₀ s₀ sum s = WeighedTo v p k s (toZ w64 sum)
+Inv-loop numbers parts count sum₀ s₀ sum s = WeighedTo numbers parts count s (toZ w64 sum)
 
 abbrev μ-loop : tie.MeasureT-loop
-μ-loop v p k sum₀ s₀ sum s = k - s
+μ-loop numbers parts count sum₀ s₀ sum s = count - s
 
 loop-holds : tie.Need-loop-holds Inv-loop μ-loop
 loop-holds c = weighed-none _ _ _
@@ -33,17 +33,18 @@ element-copy-out-weigh-2 c = omega (arith, c .before .before .before .pre .small
 
 loop-again : tie.Need-loop-again Inv-loop μ-loop
 loop-again c =
-    weighed-more _ _ _ (c .before .before .before .before .before .pre) _ _ _ _
-    (c .before .before .before .before .loop .inv) (c .before .before .before .loop-test .taken)
-    (at-back _ _ _ (c .before .before .before .before .before .pre .small)
-    (c .before .before .before .loop-test .taken)) refl _ (read-back (c .weigh .result) (c .weigh .ok)
-    ∙ c .weigh .ensures)
+    let turn = c .before .before .before in
+    let s = turn .before .before in
+    weighed-more _ _ _ (s .pre) _ _ _ _ (turn .before .loop .inv) (turn .loop-test .taken)
+    (at-back _ _ _ (s .pre .small) (turn .loop-test .taken)) refl _
+    (read-back (c .weigh .result) (c .weigh .ok) ∙ c .weigh .ensures)
 
 weigh-requires : tie.Need-weigh-requires Inv-loop μ-loop
 weigh-requires c κs =
-    weigh-asks _ _ _ (c .before .before .before .before .pre) _ _ _ _ (c .before .before .before .loop .inv)
-    (c .before .before .loop-test .taken)
-    (at-back _ _ _ (c .before .before .before .before .pre .small) (c .before .before .loop-test .taken)) refl
+    let turn = c .before .before in
+    let s = turn .before .before in
+    weigh-asks _ _ _ (s .pre) _ _ _ _ (turn .before .loop .inv) (turn .loop-test .taken)
+    (at-back _ _ _ (s .pre .small) (turn .loop-test .taken)) refl
 
 add-s : tie.Need-add-s Inv-loop μ-loop
 add-s c = omega arith

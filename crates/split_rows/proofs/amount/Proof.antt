@@ -24,7 +24,7 @@ element-copy-out-result : tie.Need-element-copy-out-result
 element-copy-out-result c = omega (arith, c .member .ensures, member-lt _ (c .before .pre .0) _ (c .before .pre .2))
 
 returns : tie.Need-returns
-returns c = ap (cellOf (c .before .before .args .a .now) (c .before .before .args .s)) (c .before .member .ensures)
+returns c = ap (cellOf (c .before .before .args .cells .now) (c .before .before .args .s)) (c .before .member .ensures)
 
 pub amount-spec : {M : Type 1} → statement M
 amount-spec =

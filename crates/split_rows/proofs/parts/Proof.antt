@@ -23,8 +23,13 @@ amount-requires-3 c κs = search needs
 add-result-2 : tie.Need-add-result-2
 unfolding partsIn
 add-result-2 c =
-    omega (arith, c .before .before .amount .ensures, c .before .amount2 .ensures, c .amount3 .ensures,
-    c .before .before .before .pre .2)
+    omega (
+      arith,
+      c .before .before .amount .ensures,
+      c .before .amount2 .ensures,
+      c .amount3 .ensures,
+      c .before .before .before .pre .2,
+    )
 
 returns : tie.Need-returns
 unfolding partsIn

@@ -1,6 +1,6 @@
 -- What the rows' evaluation says, by its cases. Assumes nothing.
 use Prim.Native.Nat.{ℕ, zero, suc, _+_, _-_, _≤_, _<_}
-use mathlib.Core.Path.{_≡_, refl, sym, ap, _∙_}
+use mathlib.Core.Path.{_≡_, refl, sym, ap, ap₂, _∙_}
 use mathlib.Core.Bool.{Bool, true, false, _&&_, cond}
 use mathlib.Core.List.{List}
 use native.Mathlib.Nat as N
@@ -12,9 +12,9 @@ use lib.Dec.{ltb, leb, lit≤}
 use Rattle.integer.specs.Figures.{MILLION}
 use Rattle.refusal.specs.Keys.{isIn}
 use Rattle.integer.specs.Laws.Bits.{back}
-use lib.IntN.{ℤ, pos}
-use lib.ListN.{length, getD, set, length-set, replicate, length-replicate, getD-replicate}
-use lib.Seq.{getD-set-same, getD-set-other, ext-getD}
+use lib.IntN.{ℤ, pos, natAbs, _-ℤ_}
+use lib.ListN.{length, getD, set, length-set, replicate, length-replicate, getD-replicate, take}
+use lib.Seq.{length-take-le, getD-take, getD-set-same, getD-set-other, ext-getD}
 use borrow.Author.Tests.{ltb-true, ltb-false, lt-ltb, le-leb, lt-leb}
 use borrow.Author.Count.{below-more}
 use Rattle.formula.specs.Coefficients.{isSystem}
@@ -27,10 +27,10 @@ use Rattle.ternary.specs.declared.Partial.the-variants.{Number, Refused}
 use Rattle.systems.specs.Systems.{candidates, memberOf, Candidate}
 use Rattle.split.specs.Laws.Candidates.{known-system}
 use Rattle.split.specs.Fold.{allTo}
-use Rattle.split.specs.Laws.Folds.{all-each, all-of}
+use Rattle.split.specs.Laws.Folds.{all-each, all-of, greatest-same, least-same}
 use Rattle.split.specs.Split.{SYSTEMS, cellOf, systemOf, partsOf, rowNumber, Stock, Sound}
 use Rattle.split.specs.Laws.Members.{both-right}
-use Rattle.split.specs.Rating.{someEmpty}
+use Rattle.split.specs.Rating.{someEmpty, spreadOf}
 use Rattle.split.specs.Laws.Rows.{parts-few}
 use Rattle.split.specs.Laws.Fits.{empty-no}
 use Rattle.split_rows.specs.Rows.{listed, partsIn, answerIn, rowFit, rowsFit, upTo, none, rowsOf}
@@ -250,7 +250,7 @@ module _ (ch : List ℕ) (k : ℕ) (a : List ℕ) where
           go true f = f
           go false f =
               let y : rowsFit ch k a ≡ true = rw (le-leb k SYSTEMS (st .chosen .most), rowsFit)
-                  (all-of (rowFit ch a) k (each f)) in
+              (all-of (rowFit ch a) k (each f)) in
               absurd (let w : 0 ≡ 1 = clash (sym e ∙ fit-is ∙ y) in omega arith)
 
       module _ (e : r .fit ≡ true) where
@@ -289,11 +289,31 @@ module _ (ch : List ℕ) (k : ℕ) (a : List ℕ) where
         pub numbers-small : Small (r .numbers) k
         unfolding rowNumber
         numbers-small =
-            record { most = st .chosen .most; each = λ s l. rw (number-of s l)
-            (partial-small (systemOf ch s) (cellOf a s (memberOf (systemOf ch s) 0))
-            (cellOf a s (memberOf (systemOf ch s) 1)) (cellOf a s (memberOf (systemOf ch s) 2))) }
+            record {
+              most = st .chosen .most;
+              each = λ s l. rw (number-of s l)
+                  (partial-small (systemOf ch s) (cellOf a s (memberOf (systemOf ch s) 0))
+                  (cellOf a s (memberOf (systemOf ch s) 1)) (cellOf a s (memberOf (systemOf ch s) 2)));
+            }
 
         pub fit-held : Held ch k a (r .numbers)
         fit-held =
-            record { sound = fit-sound; carried = record { long = numbers-long; are = number-of };
-            small = numbers-small }
+            record {
+              sound = fit-sound;
+              carried = record { long = numbers-long; are = number-of };
+              small = numbers-small;
+            }
+
+-- ---- the spread of the first of some numbers
+
+module _ (v : List ℤ) (k s : ℕ) (some : 0 < k) (most : k ≤ length v) where
+  taken-at : (i : ℕ) → i < k → listed (take k v) i ≡ listed v i
+  taken-at i l = getD-take k v i (pos 0) l
+
+  pub spread-taken : s ≡ spreadOf (listed (take k v)) (length (take k v)) → s ≡ spreadOf (listed v) k
+  unfolding spreadOf
+  spread-taken e =
+      e ∙ ap (spreadOf (listed (take k v))) (length-take-le k v most)
+      ∙ ap₂ (λ (x y : ℤ). natAbs (x -ℤ y))
+      (greatest-same (listed (take k v)) (listed v) k k some (N.le-refl k) taken-at)
+      (least-same (listed (take k v)) (listed v) k k some (N.le-refl k) taken-at)

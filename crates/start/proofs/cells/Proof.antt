@@ -9,10 +9,10 @@ use Rattle.start.proofs.cells.Statement.{statement}
 use Rattle.start.proofs.cells.Tie as tie
 
 abbrev Inv-loop : tie.InvT-loop
-Inv-loop mix ch end a₀ c₀ a c = Done mix ch (end / COMPONENTS) a c
+Inv-loop mix systems end cells₀ c₀ cells c = Done mix systems (end / COMPONENTS) cells c
 
 abbrev μ-loop : tie.MeasureT-loop
-μ-loop mix ch end a₀ c₀ a c = COMPONENTS - c
+μ-loop mix systems end cells₀ c₀ cells c = COMPONENTS - c
 
 loop-holds : tie.Need-loop-holds Inv-loop μ-loop
 loop-holds c = done-none _ _ _
@@ -26,8 +26,11 @@ element-copy-out-t c = search needs
 shared-requires : tie.Need-shared-requires Inv-loop μ-loop
 shared-requires c κs =
     let b = c .before .before .before .before in (
-      record { room = b .before .pre .room; whole = b .before .pre .whole;
-          low = c .before .before .before .loop-test .taken },
+      record {
+        room = b .before .pre .room;
+        whole = b .before .pre .whole;
+        low = c .before .before .before .loop-test .taken;
+      },
       done-length _ _ _ _ _ (b .loop .inv),
     )
 

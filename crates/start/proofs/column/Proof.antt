@@ -8,10 +8,11 @@ use Rattle.start.proofs.column.Statement.{statement}
 use Rattle.start.proofs.column.Tie as tie
 
 abbrev Inv-loop : tie.InvT-loop
-Inv-loop a₀ ch end c share odd rank₀ i₀ a rank i = Rewritten ch end c share odd a₀ a rank i
+Inv-loop cells₀ systems end c share odd rank₀ i₀ cells rank i =
+    Rewritten systems end c share odd cells₀ cells rank i
 
 abbrev μ-loop : tie.MeasureT-loop
-μ-loop a₀ ch end c share odd rank₀ i₀ a rank i = end - i
+μ-loop cells₀ systems end c share odd rank₀ i₀ cells rank i = end - i
 
 loop-holds : tie.Need-loop-holds Inv-loop μ-loop
 loop-holds c = rewritten-none _ _ _ _ _ _ (c .pre .0) (c .pre .2)
@@ -25,11 +26,12 @@ element-copy-out-here c = omega (arith, c .before .before .pre .0 .room, c .loop
 part-requires : tie.Need-part-requires Inv-loop μ-loop
 part-requires c κs = search needs
 
-mul-a : tie.Need-mul-a Inv-loop μ-loop
-mul-a c = omega (arith, c .before .before .before .before .pre .0 .room, c .before .before .loop-test .taken)
+mul-cells : tie.Need-mul-cells Inv-loop μ-loop
+mul-cells c = omega (arith, c .before .before .before .before .pre .0 .room, c .before .before .loop-test .taken)
 
-element-write-a : tie.Need-element-write-a Inv-loop μ-loop
-element-write-a c = omega (arith, c .before .before .before .before .pre .0 .room, c .before .before .loop-test .taken)
+element-write-cells : tie.Need-element-write-cells Inv-loop μ-loop
+element-write-cells c =
+    omega (arith, c .before .before .before .before .pre .0 .room, c .before .before .loop-test .taken)
 
 add-rank : tie.Need-add-rank Inv-loop μ-loop
 add-rank c =
@@ -48,7 +50,7 @@ loop-less c = search needs
 loop-again : tie.Need-loop-again Inv-loop μ-loop
 loop-again c =
     rewritten-more _ _ _ _ _ _ (c .before .before .before .before .pre .0) _ _ _
-        (c .before .before .before .loop .inv) _ _ (c .before .before .loop-test .taken) refl (c .part .ensures)
+    (c .before .before .before .loop .inv) _ _ (c .before .before .loop-test .taken) refl (c .part .ensures)
 
 returns : tie.Need-returns Inv-loop μ-loop
 returns c = rewritten-all _ _ _ _ _ _ (c .before .before .pre .0) _ _ _ (c .before .loop .inv) (c .loop-test .left)
@@ -63,8 +65,8 @@ column-spec =
     mul-here
     element-copy-out-here
     part-requires
-    mul-a
-    element-write-a
+    mul-cells
+    element-write-cells
     add-rank
     add-i
     loop-less

@@ -13,12 +13,14 @@ has-requires c κs = search needs
 returns : tie.Need-returns
 returns c =
     let b = c .before .before .before in
-    contained-yes (b .args .ch .now) (b .args .s) (b .args .c) (b .pre .1) _ (c .before .has .ensures) (c .if1 .taken)
+    let a = b .args in
+    contained-yes (a .systems .now) (a .s) (a .c) (b .pre .1) _ (c .before .has .ensures) (c .if1 .taken)
 
 returns-2 : tie.Need-returns-2
 returns-2 c =
     let b = c .before .before .before in
-    contained-no (b .args .ch .now) (b .args .s) (b .args .c) (b .pre .1) _ (c .before .has .ensures) (c .if1 .left)
+    let a = b .args in
+    contained-no (a .systems .now) (a .s) (a .c) (b .pre .1) _ (c .before .has .ensures) (c .if1 .left)
 
 pub contains-spec : {M : Type 1} → statement M
 contains-spec = tie.close (tie.spec element-copy-out-has has-requires returns returns-2)

@@ -11,29 +11,35 @@ use Rattle.start.proofs.sharers.Statement.{statement}
 use Rattle.start.proofs.sharers.Tie as tie
 
 abbrev Inv-loop : tie.InvT-loop
-Inv-loop a₀ ch end c r₀ s₀ i₀ a r s i = Written ch end c 1 0 a₀ a r i × (i ≡ s * COMPONENTS + c)
+Inv-loop cells₀ systems end c r₀ s₀ i₀ cells r s i =
+    Written systems end c 1 0 cells₀ cells r i × (i ≡ s * COMPONENTS + c)
 
 abbrev μ-loop : tie.MeasureT-loop
-μ-loop a₀ ch end c r₀ s₀ i₀ a r s i = end - i
+μ-loop cells₀ systems end c r₀ s₀ i₀ cells r s i = end - i
 
 loop-holds : tie.Need-loop-holds Inv-loop μ-loop
 loop-holds c = (written-none _ _ _ _ _ _ (c .pre), omega arith)
 
 contains-requires : tie.Need-contains-requires Inv-loop μ-loop
-contains-requires c κs =
-    (omega (arith, c .before .before .pre .room, c .before .loop .inv .1, c .loop-test .taken),
-    c .before .before .pre .low)
+contains-requires c κs = (
+  omega (arith, c .before .before .pre .room, c .before .loop .inv .1, c .loop-test .taken),
+  c .before .before .pre .low,
+)
 
-mul-a : tie.Need-mul-a Inv-loop μ-loop
-mul-a c = omega (arith, c .before .before .before .pre .room, c .before .loop-test .taken)
+mul-cells : tie.Need-mul-cells Inv-loop μ-loop
+mul-cells c = omega (arith, c .before .before .before .pre .room, c .before .loop-test .taken)
 
-element-write-a : tie.Need-element-write-a Inv-loop μ-loop
-element-write-a c = omega (arith, c .before .before .before .pre .room, c .before .loop-test .taken)
+element-write-cells : tie.Need-element-write-cells Inv-loop μ-loop
+element-write-cells c = omega (arith, c .before .before .before .pre .room, c .before .loop-test .taken)
 
 add-r : tie.Need-add-r Inv-loop μ-loop
 add-r c =
-    omega (arith, counted-few _ _ _ (c .before .before .before .pre) _ _ (c .before .before .loop .inv .0 .counted)
-    (c .before .loop-test .taken), c .contains .ensures .1)
+    omega (
+      arith,
+      counted-few _ _ _ (c .before .before .before .pre) _ _ (c .before .before .loop .inv .0 .counted)
+          (c .before .loop-test .taken),
+      c .contains .ensures .1,
+    )
 
 add-s : tie.Need-add-s Inv-loop μ-loop
 add-s c =
@@ -48,7 +54,7 @@ loop-less c = search needs
 loop-again : tie.Need-loop-again Inv-loop μ-loop
 loop-again c =
     let b = c .before .before in
-    let here = c .contains .ensures .0 ∙ sym (ap (containedAt (b .before .args .ch .now)) (b .loop .inv .1)) in (
+    let here = c .contains .ensures .0 ∙ sym (ap (containedAt (b .before .args .systems .now)) (b .loop .inv .1)) in (
       written-more _ _ _ _ _ _ (b .before .pre) _ _ _ (b .loop .inv .0) _ _ (c .before .loop-test .taken)
           (here, c .contains .ensures .1) (part-mark _ _ (c .contains .ensures .1)),
       omega (arith, b .loop .inv .1),
@@ -58,14 +64,14 @@ returns : tie.Need-returns Inv-loop μ-loop
 returns c =
     let w = c .before .before .loop .inv .0 in
     let n = counted-zero _ _ _ (c .before .before .before .pre) _ _ (w .counted) (c .before .loop-test .left)
-        (c .if1 .taken) in
+    (c .if1 .taken) in
     (n .0, n .1, written-all _ _ _ _ _ _ (c .before .before .before .pre) _ _ _ w (c .before .loop-test .left))
 
 returns-2 : tie.Need-returns-2 Inv-loop μ-loop
 returns-2 c =
     let w = c .before .before .loop .inv .0 in
     let n = counted-some _ _ _ (c .before .before .before .pre) _ _ (w .counted) (c .before .loop-test .left)
-        (c .if1 .left) in
+    (c .if1 .left) in
     (n .0, n .1, written-all _ _ _ _ _ _ (c .before .before .before .pre) _ _ _ w (c .before .loop-test .left))
 
 pub sharers-spec : {M : Type 1} → statement M
@@ -76,8 +82,8 @@ sharers-spec =
     μ-loop
     loop-holds
     contains-requires
-    mul-a
-    element-write-a
+    mul-cells
+    element-write-cells
     add-r
     add-s
     add-i

@@ -45,14 +45,14 @@ module _ (ch : List ℕ) (k limit allowance : ℕ) (a : List ℕ) (level rounds 
       go true q e f =
           let h = leb-true spread limit e in
           ap (doneBy spread next) (sym (before-within spread limit rounds allowance h))
-              ∙ turn-rate ch k limit allowance a level rounds h
+          ∙ turn-rate ch k limit allowance a level rounds h
       go false true e f =
           let h = leb-false spread limit e in
           let u = eqb-true rounds allowance f in
           ap (doneBy spread next) (sym (before-spent spread limit rounds allowance h u))
-              ∙ turn-refuse ch k limit allowance a level rounds h u
+          ∙ turn-refuse ch k limit allowance a level rounds h u
       go false false e f =
           let h = leb-false spread limit e in
           let u = eqb-false rounds allowance f in
           ap (doneBy spread next) (sym (before-open spread limit rounds allowance h u))
-              ∙ turn-on ch k limit allowance a level rounds h u
+          ∙ turn-on ch k limit allowance a level rounds h u

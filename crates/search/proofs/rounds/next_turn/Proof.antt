@@ -1,5 +1,6 @@
 -- `search::rounds::next_turn` meets its contract. Assumes nothing.
 use mathlib.Core.Path.{sym}
+use native.Mathlib.Omega.{arith}
 use borrow.Author.Needs.{needs}
 use Rattle.search.proofs.Tries.{tried-as}
 use Rattle.search.proofs.Loop.{code-rate, code-refuse, code-on}
@@ -7,7 +8,9 @@ use Rattle.search.proofs.rounds.next_turn.Statement.{statement}
 use Rattle.search.proofs.rounds.next_turn.Tie as tie
 
 spread-requires : tie.Need-spread-requires
-spread-requires c κs = (c .pre .0 .small, c .pre .0 .sound .stock .chosen .some)
+spread-requires c κs =
+    let held = c .before .pre .0 in
+    (held .sound .stock .chosen .some, omega (arith, held .carried .long, held .small .most))
 
 before-round-requires : tie.Need-before-round-requires
 before-round-requires c κs = tt
@@ -26,7 +29,7 @@ stride-requires c κs = c .before .before .before .before .pre .1
 
 first-move-requires : tie.Need-first-move-requires
 first-move-requires c κs =
-    let pre = c .before .before .before .before .before .before .pre in
+    let pre = c .before .before .before .before .before .before .before .pre in
     (pre .0, tried-as (c .before .stride .ensures) (pre .2))
 
 go-on-requires : tie.Need-go-on-requires
@@ -36,14 +39,14 @@ returns : tie.Need-returns
 returns c =
     let b = c .before .before in
     let s = b .before in
-    let pre = s .before .pre in
+    let pre = s .before .before .pre in
     (code-rate (pre .0) _ _ _ _ (s .spread .ensures) (b .before-round .ensures) (c .enum-told .given .1), pre .2)
 
 returns-2 : tie.Need-returns-2
 returns-2 c =
     let b = c .before .before in
     let s = b .before in
-    let pre = s .before .pre in
+    let pre = s .before .before .pre in
     (code-refuse (pre .0) _ _ _ _ (s .spread .ensures) (b .before-round .ensures) (c .enum-told2 .given .1), pre .2)
 
 returns-3 : tie.Need-returns-3
@@ -52,7 +55,7 @@ returns-3 c =
     let d = c .before .before .before in
     let b = d .before .before .before in
     let s = b .before in (
-      code-on (s .before .pre .0) _ _ _ _ (s .spread .ensures) (b .before-round .ensures)
+      code-on (s .before .before .pre .0) _ _ _ _ (s .spread .ensures) (b .before-round .ensures)
           (d .before .enum-told3 .given .1) (d .stride .ensures) (m .0) (c .go-on .ensures),
       tried-as (sym (d .stride .ensures)) (m .1),
     )

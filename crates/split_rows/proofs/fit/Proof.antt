@@ -1,9 +1,9 @@
--- `start::fit` meets its contract. Assumes nothing.
+-- `split_rows::fit` meets its contract. Assumes nothing.
 use borrow.Author.Tests.{not-true, not-false}
-use Rattle.start.proofs.Tests.{fit-not, fit-is}
+use Rattle.split_rows.proofs.Tests.{fit-not, fit-is}
 use borrow.Author.Needs.{needs}
-use Rattle.start.proofs.fit.Statement.{statement}
-use Rattle.start.proofs.fit.Tie as tie
+use Rattle.split_rows.proofs.fit.Statement.{statement}
+use Rattle.split_rows.proofs.fit.Tie as tie
 
 mixture-fit-requires : tie.Need-mixture-fit-requires
 mixture-fit-requires c κs = search needs

@@ -1,11 +1,11 @@
--- `start::mixture_fit` meets its contract. Assumes nothing.
+-- `split_rows::mixture_fit` meets its contract. Assumes nothing.
 use borrow.Author.Needs.{needs}
 use native.Mathlib.Omega.{arith}
 use Prim.Native.Nat.{_-_}
 use Rattle.systems.specs.Systems.{COMPONENTS}
-use Rattle.start.proofs.Tests.{Added, added-none, added-more, added-fit}
-use Rattle.start.proofs.mixture_fit.Statement.{statement}
-use Rattle.start.proofs.mixture_fit.Tie as tie
+use Rattle.split_rows.proofs.Tests.{Added, added-none, added-more, added-fit}
+use Rattle.split_rows.proofs.mixture_fit.Statement.{statement}
+use Rattle.split_rows.proofs.mixture_fit.Tie as tie
 
 abbrev Inv-loop : tie.InvT-loop
 Inv-loop mix sum₀ c₀ sum c = Added mix sum c

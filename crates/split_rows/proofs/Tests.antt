@@ -9,12 +9,11 @@ use lib.ListN.{getD}
 use borrow.Author.Tests.{le-ltb, lt-ltb, le-leb, lt-leb}
 use Rattle.integer.specs.Figures.{MILLION}
 use Rattle.refusal.specs.Keys.{isIn}
-use Rattle.systems.specs.Systems.{COMPONENTS, candidates, memberOf}
+use Rattle.systems.specs.Systems.{COMPONENTS, candidates}
 use Rattle.split.specs.Fold.{sumTo, allTo}
 use Rattle.split.specs.Laws.Folds.{sum-none, sum-more}
 use Rattle.split.specs.Split.{SYSTEMS, systemOf}
 use Rattle.split.specs.Find.{chosenFit, mixtureFit}
-use Rattle.split.specs.Laws.Candidates.{candidate-is}
 use Rattle.split.specs.Laws.Downs.{all-next, all-false, all-end}
 
 -- the parts of the components before c, added
@@ -30,22 +29,18 @@ module _ (mix : List ℕ) where
   pub added-more : (sum c x : ℕ) → c < COMPONENTS → Added mix sum c → (x ≡ getD mix c 0) × (x ≤ 4294967295)
       → Added mix (sum + x) (c + 1)
   added-more sum c x h z e =
-      record { most = omega arith; all = sum-more (λ e. getD mix e 0) c sum x (z .all) (e .0); few = omega
-      (arith, z .few, e .1) }
+      record {
+        most = omega arith;
+        all = sum-more (λ e. getD mix e 0) c sum x (z .all) (e .0);
+        few = omega
+            (arith, z .few, e .1);
+      }
 
   pub added-fit : (sum c : ℕ) → COMPONENTS ≤ c → Added mix sum c → leb sum MILLION ≡ mixtureFit mix
   unfolding mixtureFit
   added-fit sum c h z =
       let q : c ≡ COMPONENTS = omega (arith, z .most) in
       ap (λ x. leb x MILLION) (z .all ∙ ap (sumTo (λ e. getD mix e 0)) q)
-
--- a system with a first component is a candidate
-module _ (system r : ℕ) (e : r ≡ memberOf system 0) where
-  off-candidate : COMPONENTS ≤ r → isIn system candidates ≡ false
-  off-candidate z = sym (candidate-is system r e) ∙ le-ltb r COMPONENTS z
-
-  on-candidate : r < COMPONENTS → isIn system candidates ≡ true
-  on-candidate z = sym (candidate-is system r e) ∙ lt-ltb r COMPONENTS z
 
 -- the tests of the chosen systems
 
@@ -58,32 +53,29 @@ unfolding chosenFit
 chosen-many ch k h = rw (lt-ltb 0 k (omega arith), lt-leb k SYSTEMS h, chosenFit)
 
 -- row s's system is a candidate
-abbrev passes : List ℕ → ℕ → Bool
+abbrev pub passes : List ℕ → ℕ → Bool
 passes ch s = isIn (systemOf ch s) candidates
 
 -- the rows from s on pass
 pub record Tested (ch : List ℕ) (k s : ℕ) : Type 0 where
   pub low : s ≤ k
-  pub rest : allTo (λ r. isIn (systemOf ch r) candidates) k ≡ allTo (λ r. isIn (systemOf ch r) candidates) s
+  pub rest : allTo (passes ch) k ≡ allTo (passes ch) s
 
 module _ (ch : List ℕ) (k : ℕ) where
   pub tested-none : Tested ch k k
   tested-none = record { low = omega arith; rest = refl }
 
   module _ (s : ℕ) (z : Tested ch k s) where
-    pub tested-more : (r : ℕ) → 0 < s → r ≡ memberOf (systemOf ch (s - 1)) 0 → r < COMPONENTS → Tested ch k (s - 1)
-    tested-more r h e n =
-        record { low = omega (arith, z .low); rest = all-next (passes ch) k s h
-        (on-candidate (systemOf ch (s - 1)) r e n) (z .rest) }
+    pub tested-more : 0 < s → passes ch (s - 1) ≡ true → Tested ch k (s - 1)
+    tested-more h e = record { low = omega (arith, z .low); rest = all-next (passes ch) k s h e (z .rest) }
 
     module _ (some : k ≡ 0 → ⊥) (most : k ≤ SYSTEMS) where
       is-all : (b : Bool) → allTo (passes ch) k ≡ b → b ≡ chosenFit ch k
       unfolding chosenFit
       is-all b e = rw (lt-ltb 0 k (omega (arith, some)), le-leb k SYSTEMS most, chosenFit) (sym e)
 
-      pub tested-off : (r : ℕ) → 0 < s → r ≡ memberOf (systemOf ch (s - 1)) 0 → COMPONENTS ≤ r → false ≡ chosenFit ch k
-      tested-off r h e n =
-          is-all false (sym (all-false (passes ch) k s h (off-candidate (systemOf ch (s - 1)) r e n) (z .rest)))
+      pub tested-off : 0 < s → passes ch (s - 1) ≡ false → false ≡ chosenFit ch k
+      tested-off h e = is-all false (sym (all-false (passes ch) k s h e (z .rest)))
 
       pub tested-all : s ≤ 0 → true ≡ chosenFit ch k
       tested-all h = is-all true (sym (all-end (passes ch) k s h (z .rest)))
