@@ -25,7 +25,7 @@ enum-told-3 : tie.Need-enum-told-3
 enum-told-3 c = search needs
 
 stride-requires : tie.Need-stride-requires
-stride-requires c κs = c .before .before .before .before .pre .1
+stride-requires c κs = c .before .before .before .before .before .pre .1
 
 first-move-requires : tie.Need-first-move-requires
 first-move-requires c κs =
