@@ -18,8 +18,10 @@ use Rattle.split.specs.Split.{SYSTEMS, CELLS, cellOf, systemOf, partsOf, rowNum
 use Rattle.split.specs.Move.{MOVES, imbalanceOf, componentOf, giverOf, takerOf, movedOf, lowersOf, canOf}
 use Rattle.split.specs.Laws.Members.{Three, three}
 use Rattle.split.specs.Laws.Rows.{parts-few}
-use Rattle.split.specs.Laws.Tests.{MayMove, Affords, affords-true}
-use Rattle.split.specs.Laws.Steps.{insteadOf, numberWith, bt, rest-same, giver-changed, taker-changed}
+use Rattle.split.specs.Inner.Moves.{MayMove}
+use Rattle.split.specs.Laws.Tests.{Affords, affords-true}
+use Rattle.split.specs.Inner.Steps.{insteadOf, numberWith}
+use Rattle.split.specs.Laws.Steps.{bt, rest-same, giver-changed, taker-changed}
 use Rattle.split_rows.specs.Rows.{listed}
 use Rattle.split_rows.specs.Inner.Carried.{Held, Workable, partsWith}
 use Rattle.integer.specs.Laws.Bits.{back}

@@ -13,7 +13,8 @@ use Rattle.split.specs.Laws.Members.{both-left, both-right}
 use Rattle.split.specs.Move.{MOVES, componentOf, giverOf, takerOf, betweenOf, affordsOf, lowersOf, canOf, firstOf}
 use Rattle.split.specs.Laws.Folds.{first-here, first-none}
 use Rattle.split.specs.Laws.Scan.{first-skip}
-use Rattle.split.specs.Laws.Tests.{MayMove, Can, can-true, can-is, between-true, not-had, affords-is}
+use Rattle.split.specs.Inner.Moves.{MayMove}
+use Rattle.split.specs.Laws.Tests.{Can, can-true, can-is, between-true, not-had, affords-is}
 use Rattle.search.specs.Inner.Balance.{Totalled}
 use Rattle.search.specs.Inner.Scan.{afterGiving, givesOf, takesOf, Past, Scanned}
 use Rattle.search.specs.Inner.Tried.{Tried}

@@ -20,7 +20,7 @@ use Rattle.split.specs.declared.Turn.{Turn}
 use Rattle.split.specs.declared.Turn.the-variants.{Rate, Refuse, Move, Halve}
 use Rattle.split.specs.declared.Found.{Found}
 use Rattle.split.specs.declared.Search.the-variants.{Balanced, Unbalanced}
-use Rattle.split.specs.Laws.Tests.{MayMove}
+use Rattle.split.specs.Inner.Moves.{MayMove}
 use Rattle.split.specs.Laws.Steps.{may-move}
 use Rattle.split.specs.Laws.Turns.{moves, again-move, again-halve, run-rate, run-refuse}
 use Rattle.split.proofs.Turn.{the-type}

@@ -16,7 +16,8 @@ use Rattle.formula.specs.WorkingRule.{LARGEST}
 use Rattle.systems.specs.Systems.{COMPONENTS}
 use Rattle.split.specs.Split.{SYSTEMS, CELLS, Sound}
 use Rattle.split.specs.Move.{componentOf, giverOf, takerOf, movedOf}
-use Rattle.split.specs.Laws.Tests.{MayMove, Between}
+use Rattle.split.specs.Inner.Moves.{MayMove}
+use Rattle.split.specs.Laws.Tests.{Between}
 use Rattle.split.specs.Laws.Steps.{bt, component-low, sound-moved}
 use Rattle.split_rows.specs.Rows.{listed}
 use Rattle.split_rows.specs.Inner.Small.{Small}

@@ -18,13 +18,12 @@ use Rattle.split.specs.Split.{SYSTEMS, CELLS, cellOf, systemOf, rowNumber, Soun
 use Rattle.split.specs.Move.{componentOf, giverOf, takerOf, movedOf}
 use Rattle.split.specs.Laws.Members.{three}
 use Rattle.split.specs.Laws.Moves.{cell-row}
-use Rattle.split.specs.Laws.Tests.{MayMove}
-use Rattle.split.specs.Laws.Steps.{numberWith, Changed, number-with, bt, component-low, may-move, giver-changed}
-use Rattle.split.specs.Laws.Steps.{taker-changed}
+use Rattle.split.specs.Inner.Moves.{MayMove}
+use Rattle.split.specs.Inner.Steps.{numberWith}
+use Rattle.split.specs.Laws.Steps.{Changed, number-with, bt, component-low, may-move, giver-changed, taker-changed}
 use Rattle.split_rows.specs.Rows.{listed}
 use Rattle.split_rows.specs.Inner.Carried.{Workable}
-use Rattle.search.specs.Inner.Tried.{TRIES, UNKNOWN, triedRow, columnIn, triedOf, wantedOf, Tried, Triable}
-use Rattle.search.specs.Inner.Tried.{Forgot}
+use Rattle.search.specs.Inner.Tried.{TRIES, UNKNOWN, triedRow, columnIn, triedOf, wantedOf, Tried, Triable, Forgot}
 use Rattle.integer.specs.Laws.Bits.{back}
 use Rattle.split_rows.specs.Laws.Machine.{pass}
 use Rattle.search.proofs.Trials.{taker-workable}

@@ -8,7 +8,7 @@ ghost use Rattle.integer.specs.Figures.{MILLION};
 ghost use Rattle.formula.specs.WorkingRule.{LARGEST};
 ghost use Rattle.split.specs.Split.{SYSTEMS, cellOf, rowNumber, Sound};
 ghost use Rattle.split.specs.Move.{MOVES, componentOf, giverOf, takerOf, movedOf, imbalanceOf, firstOf};
-ghost use Rattle.split.specs.Laws.Tests.{MayMove};
+ghost use Rattle.split.specs.Inner.Moves.{MayMove};
 ghost use Rattle.split_rows.specs.Rows.{listed};
 ghost use Rattle.split_rows.specs.Inner.Carried.{Held};
 ghost use Rattle.search.specs.Inner.Tried.{TRIES, triedRow, Tried};

@@ -7,7 +7,7 @@ ghost use lib.ListN.{length, replicate};
 ghost use Rattle.formula.specs.WorkingRule.{LARGEST};
 ghost use Rattle.systems.specs.Systems.{COMPONENTS, memberOf, Candidate};
 ghost use Rattle.split.specs.Split.{SYSTEMS, CELLS};
-ghost use Rattle.split.specs.Laws.Steps.{insteadOf, numberWith};
+ghost use Rattle.split.specs.Inner.Steps.{insteadOf, numberWith};
 ghost use Rattle.split_rows.specs.Inner.Carried.{Workable};
 ghost use Rattle.search.specs.Inner.Tried.{TRIES, UNKNOWN, wantedOf, Triable, Tried, Forgot};
 use super::state::amount;

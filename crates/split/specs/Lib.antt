@@ -18,4 +18,5 @@ pub mod Proposed
 pub mod PutBack
 pub mod Example
 pub mod Cases
+pub mod Inner
 pub mod Laws

@@ -8,7 +8,7 @@ use lib.IntN.{ℤ}
 use Rattle.systems.specs.Systems.{hasOf}
 use Rattle.split.specs.Split.{SYSTEMS, cellOf, systemOf, rowNumber}
 use Rattle.split.specs.Move.{componentOf, giverOf, affordsOf, canOf}
-use Rattle.split.specs.Laws.Steps.{numberWith}
+use Rattle.split.specs.Inner.Steps.{numberWith}
 
 -- the rows' numbers where row f had a stride of component c less
 unfoldable pub afterGiving : List ℕ → List ℕ → ℕ → ℕ → ℕ → ℕ → ℤ

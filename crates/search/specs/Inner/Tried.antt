@@ -10,7 +10,7 @@ use Rattle.integer.specs.Figures.{MILLION}
 use Rattle.formula.specs.WorkingRule.{LARGEST}
 use Rattle.systems.specs.Systems.{COMPONENTS}
 use Rattle.split.specs.Split.{SYSTEMS, CELLS}
-use Rattle.split.specs.Laws.Steps.{numberWith}
+use Rattle.split.specs.Inner.Steps.{numberWith}
 use Rattle.split_rows.specs.Rows.{listed}
 use Rattle.split_rows.specs.Inner.Carried.{Workable}
 

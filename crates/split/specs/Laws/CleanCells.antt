@@ -16,7 +16,8 @@ use Rattle.split.specs.Search.{turnOf, stepOf, runOf}
 use Rattle.split.specs.declared.Turn.the-variants.{Move}
 use Rattle.split.specs.Laws.Tables.{length-table, getD-table}
 use Rattle.split.specs.Laws.Clean.{row-held}
-use Rattle.split.specs.Laws.Tests.{MayMove, Between}
+use Rattle.split.specs.Inner.Moves.{MayMove}
+use Rattle.split.specs.Laws.Tests.{Between}
 use Rattle.split.specs.Laws.Moves.{cell-same}
 use Rattle.split.specs.Laws.Steps.{bt, component-low}
 use Rattle.split.specs.Laws.Turns.{moves, sound-step}

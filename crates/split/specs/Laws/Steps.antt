@@ -1,31 +1,20 @@
 -- A move that may be made: what it needs, and what it leads to. Assumes nothing.
 use Prim.Native.Nat.{ℕ, _+_, _-_, _≤_, _<_}
 use mathlib.Core.Path.{_≡_, refl, sym}
-use mathlib.Core.Bool.{Bool, true, false, cond}
+use mathlib.Core.Bool.{Bool, true, false}
 use mathlib.Core.List.{List}
 use native.Mathlib.Omega.{arith}
 use lib.Dec.{eqb}
-use lib.IntN.{ℤ}
 use borrow.Author.Tests.{eqb-true, eqb-false}
 use Rattle.integer.specs.Figures.{MILLION}
 use Rattle.systems.specs.Systems.{COMPONENTS, memberOf}
-use Rattle.formula.specs.Partial.{partialNumber}
 use Rattle.split.specs.Split.{SYSTEMS, cellOf, systemOf, columnOf, rowNumber, Sound}
 use Rattle.split.specs.Move.{MOVES, componentOf, giverOf, takerOf, movedOf}
 use Rattle.split.specs.Laws.Members.{Three}
-use Rattle.split.specs.Laws.Moves.{taken-fits, sound-after, number-other, column-same, cell-column}
-use Rattle.split.specs.Laws.Moves.{cell-giver, cell-taker}
-use Rattle.split.specs.Laws.Tests.{MayMove, Between, between-true, Affords, affords-true}
-
--- row s's amount of component e where that of component c were n
-abbrev pub insteadOf : List ℕ → ℕ → ℕ → ℕ → ℕ → ℕ
-insteadOf a s c n e = cond (eqb e c) n (cellOf a s e)
-
--- row s's partial number where its amount of component c were n
-unfoldable pub numberWith : List ℕ → List ℕ → ℕ → ℕ → ℕ → ℤ
-numberWith ch a s c n =
-    partialNumber (systemOf ch s) (insteadOf a s c n (memberOf (systemOf ch s) 0))
-        (insteadOf a s c n (memberOf (systemOf ch s) 1)) (insteadOf a s c n (memberOf (systemOf ch s) 2))
+use Rattle.split.specs.Laws.Moves.{taken-fits, sound-after, number-other, column-same, cell-column, cell-giver, cell-taker}
+use Rattle.split.specs.Inner.Moves.{MayMove}
+use Rattle.split.specs.Laws.Tests.{Between, between-true, Affords, affords-true}
+use Rattle.split.specs.Inner.Steps.{insteadOf, numberWith}
 
 -- cells b that differ from a in row s at component c only, where b has n
 pub record Changed (a b : List ℕ) (s c n : ℕ) : Type 0 where

@@ -9,12 +9,7 @@ use Rattle.systems.specs.Systems.{hasOf}
 use Rattle.split.specs.Split.{cellOf, systemOf, partsOf}
 use Rattle.split.specs.Move.{MOVES, componentOf, giverOf, takerOf, betweenOf, affordsOf, lowersOf, canOf}
 use Rattle.split.specs.Laws.Members.{both-left, both-right}
-
--- a move that may be made
-pub record MayMove (ch : List ℕ) (k : ℕ) (a : List ℕ) (d m : ℕ) : Type 0 where
-  pub below : m < MOVES
-  pub between : betweenOf ch k m ≡ true
-  pub affords : affordsOf ch a d m ≡ true
+use Rattle.split.specs.Inner.Moves.{MayMove}
 
 module _ (ch : List ℕ) (k m : ℕ) where
   -- what is so of a move between two rows

@@ -14,7 +14,8 @@ use Rattle.split.specs.Search.{goOn, turnOf, stepOf, foundOf, runOf, sea
 use Rattle.split.specs.declared.Turn.the-variants.{Rate, Refuse, Move, Halve}
 use Rattle.split.specs.declared.Search.the-variants.{Balanced, Unbalanced}
 use Rattle.split.specs.declared.Found.{Found}
-use Rattle.split.specs.Laws.Tests.{MayMove, can-true, can-fit}
+use Rattle.split.specs.Inner.Moves.{MayMove}
+use Rattle.split.specs.Laws.Tests.{can-true, can-fit}
 use Rattle.split.specs.Laws.Steps.{sound-moved}
 use Rattle.split.specs.Laws.Folds.{first-holds}
 

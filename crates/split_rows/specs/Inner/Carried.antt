@@ -7,7 +7,7 @@ use lib.ListN.{length}
 use Rattle.integer.specs.Figures.{MILLION}
 use Rattle.systems.specs.Systems.{memberOf, Candidate}
 use Rattle.split.specs.Split.{SYSTEMS, systemOf, rowNumber, Sound}
-use Rattle.split.specs.Laws.Steps.{insteadOf}
+use Rattle.split.specs.Inner.Steps.{insteadOf}
 use Rattle.split_rows.specs.Rows.{listed}
 use Rattle.split_rows.specs.Inner.Small.{Small}
 
