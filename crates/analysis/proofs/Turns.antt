@@ -152,8 +152,8 @@ module _ (a : List ℕ) (fault sum code : ℕ) (r : Checked) (z : code ≤ 0) (w
         code = λ k.
             let h : analysisRefusal a ≡ 5 = sym (ap numberOf f ∙ answer-number (analysisRefusal a) fault) ∙ k in
             let g : fault < CODES = let x =
-                eqb-false fault CODES (five (eqb fault CODES) (totalFits sum) (number ∙ h)) in
-                let y = found .within in omega (arith, x) in
+            eqb-false fault CODES (five (eqb fault CODES) (totalFits sum) (number ∙ h)) in
+            let y = found .within in omega (arith, x) in
             let d : faultOf r ≡ fault = ap faultOf (rw h at f) in
             rw d (found .fault g);
       }

@@ -259,7 +259,8 @@ module _ (hy : Bool) (keys : List ℕ) (c i count best at : ℕ) (k : Tally hy k
         let e = ap (λ (x : ℕ). getD (candidatesFor hy) x 0) r in (
           q ∙ b ∙ ap (scoreOf fit marks c) (sym e),
           e
-              ∙ sym (better-before fit marks c (getD (candidatesFor hy) at 0) (getD (candidatesFor hy) i 0) (omega arith)),
+              ∙ sym (better-before fit marks c (getD (candidatesFor hy) at 0) (getD (candidatesFor hy) i 0)
+              (omega arith)),
         )
 
     pub tally-chosen : hasOf (getD (candidatesFor hy) i 0) c ≡ true → getD keys i 0 ≡ 0 → count′ ≡ count + 1
@@ -309,7 +310,8 @@ module _ (hy : Bool) (keys : List ℕ) (c i count best at : ℕ) (k : Tally hy k
             open-one fit marks a,
             q ∙ s ∙ ap (scoreOf fit marks c) (sym e),
             e
-                ∙ sym (better-next fit marks c (getD (candidatesFor hy) at 0) (getD (candidatesFor hy) i 0) (omega arith)),
+                ∙ sym (better-next fit marks c (getD (candidatesFor hy) at 0) (getD (candidatesFor hy) i 0)
+                (omega arith)),
           ))
 
 -- ---- what a component takes

@@ -27,9 +27,9 @@ unfolding paddedOf
 padded-set l s h =
     let e : SYSTEMS - length l ≡ suc (SYSTEMS - (length l + 1)) = omega arith in
     let f : SYSTEMS - length (l ++ (s ∷ [])) ≡ SYSTEMS - (length l + 1) =
-        ap (λ (n : ℕ). SYSTEMS - n) (length-append l (s ∷ [])) in
+    ap (λ (n : ℕ). SYSTEMS - n) (length-append l (s ∷ [])) in
     rw (e, f) (set-at l 0 (replicate (SYSTEMS - (length l + 1)) 0) s (length l) refl
-        ∙ sym (append-snoc l s (replicate (SYSTEMS - (length l + 1)) 0)))
+    ∙ sym (append-snoc l s (replicate (SYSTEMS - (length l + 1)) 0)))
 
 -- so many systems are listed after i candidates, and what is left comes to the whole list
 pub record Listed (hy : Bool) (marks : List Bool) (count : ℕ) (systems : List ℕ) (i : ℕ) : Type 0 where
@@ -80,7 +80,7 @@ module _ (hy : Bool) (marks : List Bool) where
       → _≡_ {A = Choice} (record { count = count; systems = systems }) (choiceFrom (chosenOf (candidatesFor hy) marks))
   listed-all count systems i k h =
       let e : k .sofar ≡ chosenOf (candidatesFor hy) marks = done (listOf marks) (candidatesFor hy) i (k .sofar)
-          (chosenOf (candidatesFor hy) marks) h (k .rest) in
+      (chosenOf (candidatesFor hy) marks) h (k .rest) in
       λ j. record { count = (k .counted ∙ ap length e) j; systems = (k .padded ∙ ap paddedOf e) j }
 
 -- ---- from the keys
@@ -98,12 +98,12 @@ module _ (hy : Bool) (keys : List ℕ) (count : ℕ) (systems : List ℕ) (i : �
       → Lists hy keys (count + 1) (set systems count s) (i + 1)
   lists-more s e z fit marks d =
       listed-more hy marks count systems i s (k fit marks d) h e
-          (rw e (chosen-of-key fit marks (getD (candidatesFor hy) i 0) (sym (d .at i h) ∙ z)))
+      (rw e (chosen-of-key fit marks (getD (candidatesFor hy) i 0) (sym (d .at i h) ∙ z)))
 
   pub lists-same : (getD keys i 0 ≡ 0 → ⊥) → Lists hy keys count systems (i + 1)
   lists-same z fit marks d =
       listed-same hy marks count systems i (getD (candidatesFor hy) i 0) (k fit marks d) h refl
-          (open-of-key fit marks (getD (candidatesFor hy) i 0) (λ w. z (d .at i h ∙ w)))
+      (open-of-key fit marks (getD (candidatesFor hy) i 0) (λ w. z (d .at i h ∙ w)))
 
 pub lists-all : (hy : Bool) (keys : List ℕ) (count : ℕ) (systems : List ℕ) (i : ℕ) → Lists hy keys count systems i
     → length (candidatesFor hy) ≤ i
@@ -139,7 +139,7 @@ module _ (hy : Bool) (wantedAt componentAt : ℕ → ℕ) (p : ℕ) (fresh : Lis
   unfolding turnsAfter
   turns-over keys i c k e q fit marks f =
       rw (add-one, ← e, turn-over hy fit p (wantedAt i) (turnsAfter hy fit p wantedAt componentAt marks i) c q)
-          (k fit marks f)
+      (k fit marks f)
 
 -- one pass of all components
 pub pass-all : (p wanted : ℕ) (fresh keys : List ℕ) (i : ℕ) → Turns true (λ i. wanted) passAt p fresh keys i
@@ -158,7 +158,7 @@ pub turns-all : (p : ℕ) (fresh keys : List ℕ) (i : ℕ) → Turns false want
 turns-all p fresh keys i k h l fit f =
     let e : i ≡ 2 * HYDROCARBONS = omega arith in
     rw (ap (turnsAfter false fit p wantedAt turnAt (replicate NUMBERS false)) e ∙ after-turns fit p) at
-        (k fit (replicate NUMBERS false) f)
+    (k fit (replicate NUMBERS false) f)
 
 -- the turns and the list make the choice
 pub choice-is : (hy : Bool) (mix keys components : List ℕ) (r : Choice)

@@ -103,7 +103,7 @@ pub two-present-in : (analysis : List ℕ) → length analysis ≡ CODES → Rat
     → 2 ≤ countTo (λ c. hasOf (systemOf (systemsFor analysis) s) c && presentAt (simplifiedOf analysis) c) COMPONENTS
 two-present-in analysis long on s l =
     rw (present-in-is (simplifiedOf analysis) (systemOf (systemsFor analysis) s)) at
-        (filled analysis long on .filled s l)
+    (filled analysis long on .filled s l)
 
 -- any amounts at all, in the records of the chosen systems: systems rising, in each methane, ethane, propane,
 -- butane, hydrogen as contained, so that record r is of the system in place r / 3 and has its component in place r %
@@ -208,11 +208,12 @@ pub rated-exactly-when : (analysis : List ℕ) → RatedOn analysis → (amounts
 rated-exactly-when analysis on amounts code =
     let e = split-fits analysis (proposal analysis amounts) code on refl refl refl in
     let fitted = fit-rated LIMIT (systemsFor analysis) (countFor analysis) (mixOf analysis) (cellsIn analysis amounts)
-        (inertFirst analysis) in
+    (inertFirst analysis) in
     let only = rated-fit LIMIT (systemsFor analysis) (countFor analysis) (mixOf analysis) (cellsIn analysis amounts)
-        (inertFirst analysis) in
-    (λ r. fit-is analysis amounts (only (subst IsRated e r)),
-    λ h. subst IsRated (sym (e ∙ fitted (is-fit analysis amounts h))) tt)
+    (inertFirst analysis) in (
+      λ r. fit-is analysis amounts (only (subst IsRated e r)),
+      λ h. subst IsRated (sym (e ∙ fitted (is-fit analysis amounts h))) tt,
+    )
 
 --     and then with the formulas' rating and spread, which is within the limit
 pub rated-with : (analysis : List ℕ) → RatedOn analysis → (amounts : List ℕ) (code : ℕ)
@@ -223,7 +224,7 @@ unfolding rowNumber
 rated-with analysis on amounts code h =
     let e = split-fits analysis (proposal analysis amounts) code on refl refl refl in
     let fitted = fit-rated LIMIT (systemsFor analysis) (countFor analysis) (mixOf analysis) (cellsIn analysis amounts)
-        (inertFirst analysis) (is-fit analysis amounts h) in
+    (inertFirst analysis) (is-fit analysis amounts h) in
     (e ∙ fitted, near-spread LIMIT (number analysis amounts) (countFor analysis) (h .2))
 
 --     a split in any records at all is answered as those amounts are where the records are those expected,
@@ -232,7 +233,7 @@ pub expected-same : (analysis : List ℕ) → RatedOn analysis → (p : Split) (
 expected-same analysis on p code x =
     let fits = expected-fits _ _ _ (p .systems) (p .codes) (x .many) (x .systems) (x .codes) in
     split-by-records analysis p code true on fits
-        ∙ sym (split-fits analysis (proposal analysis (p .amounts)) code on refl refl refl)
+    ∙ sym (split-fits analysis (proposal analysis (p .amounts)) code on refl refl refl)
 
 --     and is rated exactly when they are, and the amounts keep the three
 pub records-rated-exactly-when : (analysis : List ℕ) → RatedOn analysis → (p : Split) (code : ℕ)
@@ -277,7 +278,7 @@ pub proposed-within : (analysis : List ℕ) → length analysis ≡ CODES → (p
 proposed-within analysis long p code w s r is =
     let (on, e) = split-rated analysis p code w s r is in
     rated-within (systemsFor analysis) (countFor analysis) (mixOf analysis) (cellsIn analysis (p .amounts))
-        (chosen analysis on) LIMIT (inertFirst analysis)
+    (chosen analysis on) LIMIT (inertFirst analysis)
     w s r e (omega (arith, million analysis long on)) (inert-million analysis long on)
 
 pub found-within : (analysis : List ℕ) → length analysis ≡ CODES → (allowance code : ℕ) (w : ℤ) (s r : ℕ)

@@ -63,10 +63,10 @@ pub line-put : (x : Answer) {b c d : List ℕ} {m n : ℕ} → length c ≡ LINE
 line-put x {b} {c} {d} {m} {n} l h p q =
     let r = then p q in
     let k : length (lineOf x) ≤ length b = omega (arith, ap length (p .stored), length-sets b 0 (joined (fieldsOf x)))
-        in
+    in
     let z : 0 + length (lineOf x) ≡ length (lineOf x) = omega arith in
     let e = r .ended ∙ z in
     let f : d ≡ lineIn x b = r .stored ∙ sets-eq (lineOf x) b 0 (omega arith)
-        ∙ ap (λ (i : ℕ). lineOf x ++ drop i b) z in
+    ∙ ap (λ (i : ℕ). lineOf x ++ drop i b) z in
     let g : n ≤ length d = omega (arith, ap length f, length-append (lineOf x) (drop (length (lineOf x)) b)) in
     (e, ((g, sym (length-take-le n d g)), f))

@@ -13,5 +13,8 @@ pub partial-within : (system n1 n2 n3 : ℕ) → 0 < n1 + n2 + n3
     → Within (partialNumber system n1 n2 n3) (exactNumber system n1 n2 n3) 19
 unfolding partialNumber exactNumber
 partial-within system n1 n2 n3 h =
-    record { positive = N.one-le-pow 7 (n1 + n2 + n3) h; near = within n1 n2 (n1 + n2 + n3) (omega arith)
-        (omega arith) h (coeffOf system) }
+    record {
+      positive = N.one-le-pow 7 (n1 + n2 + n3) h;
+      near = within n1 n2 (n1 + n2 + n3) (omega arith)
+          (omega arith) h (coeffOf system);
+    }

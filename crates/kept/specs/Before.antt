@@ -61,8 +61,12 @@ splitAnswerWith number choice mix n1 split code =
 
 abbrev pub recordsBefore : List ℕ → ℕ → List ℕ → Split
 recordsBefore systems count cells =
-    record { count = 3 * count; systems = systemsOf systems count; codes = codesBefore systems count;
-        amounts = amountsIn BEFORE systems count cells }
+    record {
+      count = 3 * count;
+      systems = systemsOf systems count;
+      codes = codesBefore systems count;
+      amounts = amountsIn BEFORE systems count cells;
+    }
 
 abbrev pub foundWith : List ℕ → ℕ → ℕ → List ℕ → Search → Outcome
 foundWith systems count n1 cells (Balanced spread rounds) =
@@ -99,7 +103,7 @@ refusalBefore analysis =
 unfoldable pub splitBefore : List ℕ → Split → ℕ → Answer
 splitBefore analysis split code =
     splitAnswerWith (refusalBefore analysis) (choiceBefore (simplifiedBefore analysis)) (simplifiedBefore analysis)
-        (inertBefore analysis) split code
+    (inertBefore analysis) split code
 
 unfoldable pub searchBefore : List ℕ → ℕ → ℕ → Outcome
 searchBefore analysis allowance code =

@@ -71,7 +71,7 @@ module _ (w : ℕ) where
   unfoldable pub amountsIn : List ℕ → ℕ → List ℕ → List ℕ
   amountsIn systems count cells =
       table (λ r. cond (ltb r (3 * count)) (cellIn cells (r / 3) (componentIn (systemOf systems (r / 3)) (r % 3))) 0)
-          RECORDS 0
+      RECORDS 0
 
   -- ---- Rating
 
@@ -93,7 +93,7 @@ module _ (w : ℕ) where
   unfoldable pub proposedIn : ℕ → List ℕ → ℕ → List ℕ → List ℕ → ℕ → Answer
   proposedIn limit systems count mix cells n1 =
       verdict (resumsIn mix count cells) (someEmptyIn systems count cells)
-          (ltb limit (spreadOf (numberIn systems cells) count))
+      (ltb limit (spreadOf (numberIn systems cells) count))
       (Rated (ratingIn systems count cells n1) (spreadOf (numberIn systems cells) count) 0)
 
   -- ---- Start

@@ -260,7 +260,7 @@ module _ (rs : List ℕ) (p v i : ℕ) (h : i < COMPONENTS) (g : Greatest rs p v
       here : i ≡ largestTo rs (i + 1)
       here =
           let t : ltb (getD rs (largestTo rs i) 0) (getD rs i 0) ≡ true = lt-ltb (getD rs (largestTo rs i) 0)
-              (getD rs i 0) (rw (g .value, g .place) at l) in
+          (getD rs i 0) (rw (g .value, g .place) at l) in
           rw (add-one i) (rw (t, largestTo))
 
   pub greatest-there : getD rs i 0 ≤ v → Greatest rs p v (i + 1)
@@ -271,7 +271,7 @@ module _ (rs : List ℕ) (p v i : ℕ) (h : i < COMPONENTS) (g : Greatest rs p v
       there : p ≡ largestTo rs (i + 1)
       there =
           let t : ltb (getD rs (largestTo rs i) 0) (getD rs i 0) ≡ false = le-ltb (getD rs (largestTo rs i) 0)
-              (getD rs i 0) (rw (g .value, g .place) at l) in
+          (getD rs i 0) (rw (g .value, g .place) at l) in
           rw (add-one i) (rw (t, largestTo) (g .place))
 
 -- ---- the missing parts

@@ -28,7 +28,7 @@ unfolding largestTo
 greatest-first rs zero j h = absurd (not-suc-le-zero h)
 greatest-first rs (suc n) j h =
     go (ltb (getD rs (largestTo rs n) 0) (getD rs n 0)) refl h (λ l. greatest-first rs n j l)
-        (λ l. greatest-least rs n j l)
+    (λ l. greatest-least rs n j l)
   where
     go : (b : Bool) → ltb (getD rs (largestTo rs n) 0) (getD rs n 0) ≡ b → j < cond b n (largestTo rs n)
         → (j < largestTo rs n → getD rs j 0 < getD rs (largestTo rs n) 0)
@@ -101,23 +101,27 @@ module _ (t n : ℕ) (h : 0 < t) where
   more-before zero qs rs w i j lj a b = absurd (a refl)
   more-before (suc m) qs rs w i j lj a b =
       go (eqb i (greatestPlace rs)) refl
-          (more-before m (oneMore qs (greatestPlace rs)) (set rs (greatestPlace rs) 0) (left-next m qs rs w) i j lj)
+      (more-before m (oneMore qs (greatestPlace rs)) (set rs (greatestPlace rs) 0) (left-next m qs rs w) i j lj)
     where
       served : getD (distributed m (oneMore qs (greatestPlace rs)) (set rs (greatestPlace rs) 0))
           (greatestPlace rs) 0 ≡ getD qs (greatestPlace rs) 0 + 1
       served =
           none-more m (oneMore qs (greatestPlace rs)) (set rs (greatestPlace rs) 0) (left-next m qs rs w)
-              (greatestPlace rs)
+          (greatestPlace rs)
           (getD-set-same rs (greatestPlace rs) 0 0 (place m qs rs w))
           ∙ getD-set-same qs (greatestPlace rs) (getD qs (greatestPlace rs) 0 + 1) 0
           (omega (arith, place m qs rs w, w .quotients, w .remainders))
 
       other : j ≡ greatestPlace rs → ⊥
       other q =
-          omega
-          (arith, served, b, ap (λ k. getD
-          (distributed m (oneMore qs (greatestPlace rs)) (set rs (greatestPlace rs) 0)) k 0) q,
-          ap (λ k. getD qs k 0) q)
+          omega (
+            arith,
+            served,
+            b,
+            ap (λ k. getD
+                (distributed m (oneMore qs (greatestPlace rs)) (set rs (greatestPlace rs) 0)) k 0) q,
+            ap (λ k. getD qs k 0) q,
+          )
 
       go : (e : Bool) → eqb i (greatestPlace rs) ≡ e
           → ((getD (distributed m (oneMore qs (greatestPlace rs)) (set rs (greatestPlace rs) 0)) i 0 ≡ getD
@@ -133,7 +137,7 @@ module _ (t n : ℕ) (h : 0 < t) where
           let p = greatestPlace rs in
           let z = eqb-false i p e in
           let y = rec (λ f. a (f ∙ getD-set-other qs p i (getD qs p 0 + 1) 0 z))
-              (b ∙ sym (getD-set-other qs p j (getD qs p 0 + 1) 0 other)) in
+          (b ∙ sym (getD-set-other qs p j (getD qs p 0 + 1) 0 other)) in
           let ei = getD-set-other rs p i 0 0 z in
           let ej = getD-set-other rs p j 0 0 other in
           record { no-less = omega (arith, y .no-less); equal = λ f. y .equal (ej ∙ f ∙ sym ei) }
@@ -145,7 +149,7 @@ module _ (xs : List ℕ) (h : 0 < totalOf xs) where
       × (getD (scaledOf xs) i 0 ≤ quotientOf (totalOf xs) (getD xs i 0) + 1)
   scaled-rounded i l =
       go (getD (scaledOf xs) i 0) (quotientOf (totalOf xs) (getD xs i 0)) (remainderOf (totalOf xs) (getD xs i 0))
-          (MILLION * getD xs i 0)
+      (MILLION * getD xs i 0)
       (div-add-mod' (MILLION * getD xs i 0) (totalOf xs)) (mod-lt (MILLION * getD xs i 0) h)
       (scaled-near xs h i l .above) (scaled-near xs h i l .below)
     where

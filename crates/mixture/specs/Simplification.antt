@@ -18,7 +18,7 @@ amountOfCode a k = getD a k 0
 abbrev pub butaneOf : List ℕ → ℕ
 butaneOf a =
     10 * (amountOfCode a 4 + amountOfCode a 5) + 23 * (amountOfCode a 6 + amountOfCode a 7 + amountOfCode a 8) + 53
-        * amountOfCode a 10
+    * amountOfCode a 10
 
 -- the five components in tenths of a part
 unfoldable pub tenthsOf : List ℕ → List ℕ

@@ -90,8 +90,13 @@ splitAnswer analysis split code = splitAnswerBy (ratingRefusal analysis) (choice
 -- the split of the cells, as records
 abbrev pub recordsOf : List ℕ → ℕ → List ℕ → Split
 recordsOf systems count cells =
-    record { count = 3 * count; systems = systemsOf systems count; codes = codesOf systems count; amounts = amountsOf
-        systems count cells }
+    record {
+      count = 3 * count;
+      systems = systemsOf systems count;
+      codes = codesOf systems count;
+      amounts = amountsOf
+          systems count cells;
+    }
 
 abbrev pub outcome : Answer → Split → Outcome
 outcome answer split = record { answer = answer; split = split }

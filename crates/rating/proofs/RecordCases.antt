@@ -42,7 +42,7 @@ pub component-is : (packed : ℕ) → T (every (risesAll packed) candidates) →
     → (rising packed system j ≡ componentAt system j) × (rising packed system j < COMPONENTS)
 component-is packed t system j k h =
     let e = eqb→eq (rising packed system j) (componentAt system j)
-        (eachTo (rises packed system) 3 (each-candidate (risesAll packed) t system k) j h) in
+    (eachTo (rises packed system) 3 (each-candidate (risesAll packed) t system k) j h) in
     (e, rw e (component-lt system k j h))
 
 abbrev pub coded : ℕ → ℕ → Bool
@@ -125,8 +125,13 @@ pub record Recorded (ch : List ℕ) (k : ℕ) (a found codes amounts : List ℕ)
 module _ (ch : List ℕ) (k : ℕ) (a : List ℕ) where
   pub recorded-none : Recorded ch k a (replicate RECORDS 0) (replicate RECORDS 0) (replicate RECORDS 0) 0
   recorded-none =
-      record { most = omega arith; systems = part-none (systemAt ch k); coded′ = part-none
-      (codeAt ch k); amounted = part-none (amountAt ch k a) }
+      record {
+        most = omega arith;
+        systems = part-none (systemAt ch k);
+        coded′ = part-none
+            (codeAt ch k);
+        amounted = part-none (amountAt ch k a);
+      }
 
   module _ (found codes amounts : List ℕ) (r last : ℕ) (e : (last ≤ 3 * k) × (last ≤ RECORDS)
       × (last < RECORDS → last ≡ 3 * k)) where
@@ -152,13 +157,13 @@ module _ (ch : List ℕ) (k : ℕ) (a : List ℕ) where
     unfolding systemsOf codesOf amountsOf
     recorded-all d h =
         let past : (j : ℕ) → r ≤ j → j < RECORDS → 3 * k ≤ j = λ j b t. let q : last < RECORDS = omega arith in
-            omega (arith, e .2 q) in
+        omega (arith, e .2 q) in
         let f : found ≡ systemsOf ch k = part-all (systemAt ch k) found r (d .systems)
-            (λ j b t. system-past ch k j (past j b t)) in
+        (λ j b t. system-past ch k j (past j b t)) in
         let g : codes ≡ codesOf ch k = part-all (codeAt ch k) codes r (d .coded′)
-            (λ j b t. code-past ch k j (past j b t)) in
+        (λ j b t. code-past ch k j (past j b t)) in
         let m : amounts ≡ amountsOf ch k a = part-all (amountAt ch k a) amounts r (d .amounted)
-            (λ j b t. amount-past ch k j a (past j b t)) in
+        (λ j b t. amount-past ch k j a (past j b t)) in
         λ i. record { count = 3 * k; systems = f i; codes = g i; amounts = m i }
 
 -- ---- the cells as the records fill them
@@ -177,8 +182,13 @@ pub record Celled (ch : List ℕ) (k : ℕ) (xs out : List ℕ) (r : ℕ) : Type
 module _ (ch : List ℕ) (k : ℕ) (xs : List ℕ) (chosen : Chosen ch k) where
   pub celled-none : Celled ch k xs (replicate CELLS 0) 0
   celled-none =
-      record { most = omega arith; long = refl; put = λ i l h b. absurd (omega arith); rest = λ i l h. getD-replicate
-      CELLS i 0 0 l }
+      record {
+        most = omega arith;
+        long = refl;
+        put = λ i l h b. absurd (omega arith);
+        rest = λ i l h. getD-replicate
+            CELLS i 0 0 l;
+      }
 
   -- a held cell's record is one of its row's three
   record-row : (i : ℕ) → heldOf ch k (i / COMPONENTS) (i % COMPONENTS) ≡ true → (recordOf ch i / 3 ≡ i / COMPONENTS)
@@ -186,7 +196,7 @@ module _ (ch : List ℕ) (k : ℕ) (xs : List ℕ) (chosen : Chosen ch k) where
   record-row i h =
       let w = held-row ch k (i / COMPONENTS) (i % COMPONENTS) h in
       let l = rank-lt (systemOf ch (i / COMPONENTS)) (chosen .known (i / COMPONENTS) (w .0)) (i % COMPONENTS)
-          (omega arith) (w .1) in
+      (omega arith) (w .1) in
       row-of (i / COMPONENTS) (rankOf (systemOf ch (i / COMPONENTS)) (i % COMPONENTS)) l (w .0)
     where
       row-of : (s p : ℕ) → p < 3 → s < k → ((3 * s + p) / 3 ≡ s) × ((3 * s + p) % 3 ≡ p) × (3 * s + p < 3 * k)
@@ -234,10 +244,10 @@ module _ (ch : List ℕ) (k : ℕ) (xs : List ℕ) (chosen : Chosen ch k) where
         let t = record-row i b in
         let row : i / COMPONENTS ≡ r / 3 = sym (t .0) ∙ ap (λ (x : ℕ). x / 3) q in
         let place : rankOf (systemOf ch (i / COMPONENTS)) (i % COMPONENTS) ≡ r % 3 = sym (t .1)
-            ∙ ap (λ (x : ℕ). x % 3) q in
+        ∙ ap (λ (x : ℕ). x % 3) q in
         let column : i % COMPONENTS ≡ c =
         sym (component-rank (systemOf ch (i / COMPONENTS)) (chosen .known (i / COMPONENTS) (w .0)) (i % COMPONENTS)
-            (omega arith) (w .1))
+        (omega arith) (w .1))
         ∙ ap₂ (λ (s p : ℕ). componentAt (systemOf ch s) p) row place
         ∙ sym e in
         whole i (r / 3) c row column
@@ -275,7 +285,7 @@ module _ (ch : List ℕ) (k : ℕ) (xs : List ℕ) (chosen : Chosen ch k) where
         other : (i : ℕ) → heldOf ch k (i / COMPONENTS) (i % COMPONENTS) ≡ false → i ≡ r / 3 * COMPONENTS + c → ⊥
         other i b q =
             let t : heldOf ch k (i / COMPONENTS) (i % COMPONENTS) ≡ true =
-                ap (λ (x : ℕ). heldOf ch k (x / COMPONENTS) (x % COMPONENTS)) q ∙ held-is in
+            ap (λ (x : ℕ). heldOf ch k (x / COMPONENTS) (x % COMPONENTS)) q ∙ held-is in
             let z : _≡_ {A = ℕ} 0 1 = cc in
             omega arith
 
@@ -314,7 +324,7 @@ module _ (ch : List ℕ) (k : ℕ) (xs : List ℕ) (chosen : Chosen ch k) where
       let l : i < CELLS = rw (d .long) at b in
       let q : 0 + i ≡ i = omega arith in
       at i l (heldOf ch k (i / COMPONENTS) (i % COMPONENTS)) refl
-          ∙ sym (getD-table (cellAt ch k xs) CELLS 0 i l ∙ ap (cellAt ch k xs) q))
+      ∙ sym (getD-table (cellAt ch k xs) CELLS 0 i l ∙ ap (cellAt ch k xs) q))
     where
       at : (i : ℕ) → i < CELLS → (b : Bool) → heldOf ch k (i / COMPONENTS) (i % COMPONENTS) ≡ b
           → getD out i 0 ≡ cellAt ch k xs i
@@ -384,36 +394,36 @@ module _ (ch : List ℕ) (k count : ℕ) (systems codes : List ℕ) where
   -- a row's three, of the rows below n the last
   module _ (n s : ℕ) (f : Fitting (3 * n)) (h : n ≡ s + 1) (x y z : Bool)
       (e₀ : x ≡ recordFits (3 * s) s 0) (e₁ : y ≡ recordFits (3 * s + 1) s 1) (e₂ : z ≡ recordFits (3 * s + 2) s 2)
-      where
-    in-range : s < k
-    in-range = omega (arith, f .most)
+    where
+      in-range : s < k
+      in-range = omega (arith, f .most)
 
-    three : allTo (matchesAt ch k systems codes) (3 * n) ≡ cond ((x && y) && z)
-        (allTo (matchesAt ch k systems codes) (3 * s)) false
-    three =
-        let q : 3 * n ≡ suc (suc (suc (3 * s))) = omega arith in
-        let p₀ : 3 * s ≡ 3 * s + 0 = omega arith in
-        let p₁ : suc (3 * s) ≡ 3 * s + 1 = omega arith in
-        let p₂ : suc (suc (3 * s)) ≡ 3 * s + 2 = omega arith in
-        let m₀ = ap (matchesAt ch k systems codes) p₀ ∙ record-fits s 0 in-range (omega arith)
-        ∙ ap (λ (r : ℕ). recordFits r s 0) (sym p₀) ∙ sym e₀ in
-        let m₁ = ap (matchesAt ch k systems codes) p₁ ∙ record-fits s 1 in-range (omega arith) ∙ sym e₁ in
-        let m₂ = ap (matchesAt ch k systems codes) p₂ ∙ record-fits s 2 in-range (omega arith) ∙ sym e₂ in
-        ap (allTo (matchesAt ch k systems codes)) q ∙ three-last (matchesAt ch k systems codes) (3 * s) x y z m₀ m₁ m₂
+      three : allTo (matchesAt ch k systems codes) (3 * n) ≡ cond ((x && y) && z)
+          (allTo (matchesAt ch k systems codes) (3 * s)) false
+      three =
+          let q : 3 * n ≡ suc (suc (suc (3 * s))) = omega arith in
+          let p₀ : 3 * s ≡ 3 * s + 0 = omega arith in
+          let p₁ : suc (3 * s) ≡ 3 * s + 1 = omega arith in
+          let p₂ : suc (suc (3 * s)) ≡ 3 * s + 2 = omega arith in
+          let m₀ = ap (matchesAt ch k systems codes) p₀ ∙ record-fits s 0 in-range (omega arith)
+          ∙ ap (λ (r : ℕ). recordFits r s 0) (sym p₀) ∙ sym e₀ in
+          let m₁ = ap (matchesAt ch k systems codes) p₁ ∙ record-fits s 1 in-range (omega arith) ∙ sym e₁ in
+          let m₂ = ap (matchesAt ch k systems codes) p₂ ∙ record-fits s 2 in-range (omega arith) ∙ sym e₂ in
+          ap (allTo (matchesAt ch k systems codes)) q ∙ three-last (matchesAt ch k systems codes) (3 * s) x y z m₀ m₁ m₂
 
-    pub row-fails : not ((x && y) && z) ≡ true → false ≡ fitsOf ch k count systems codes
-    row-fails t =
-        sym (f .rest ∙ three ∙ ap (λ (b : Bool). cond b (allTo (matchesAt ch k systems codes) (3 * s)) false)
-        (not-true ((x && y) && z) t))
+      pub row-fails : not ((x && y) && z) ≡ true → false ≡ fitsOf ch k count systems codes
+      row-fails t =
+          sym (f .rest ∙ three ∙ ap (λ (b : Bool). cond b (allTo (matchesAt ch k systems codes) (3 * s)) false)
+          (not-true ((x && y) && z) t))
 
-    pub row-fits : not ((x && y) && z) ≡ false → Fitting (3 * s)
-    row-fits t =
-        record {
-          most = omega (arith, f .most);
-          rest =
-              f .rest ∙ three ∙ ap (λ (b : Bool). cond b (allTo (matchesAt ch k systems codes) (3 * s)) false)
-              (not-false ((x && y) && z) t);
-        }
+      pub row-fits : not ((x && y) && z) ≡ false → Fitting (3 * s)
+      row-fits t =
+          record {
+            most = omega (arith, f .most);
+            rest =
+                f .rest ∙ three ∙ ap (λ (b : Bool). cond b (allTo (matchesAt ch k systems codes) (3 * s)) false)
+                (not-false ((x && y) && z) t);
+          }
 
   module _ (r : ℕ) (f : Fitting r) where
     pub fitting-all : r ≤ 0 → true ≡ fitsOf ch k count systems codes

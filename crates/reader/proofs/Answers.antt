@@ -115,7 +115,7 @@ module _ (s : List ℕ) (r : Sheet) where
   pub answer-torn : sectionsOf s ≡ Torn → r ≡ refusedSheet (Refused 1 0 0) → ReadAs s r
   answer-torn h e =
       subst (λ (x : Sheet). ReadAs s x) (sym e)
-          (record { sheet = sym (read-torn s 0 h); code = λ z. absurd (omega arith) })
+      (record { sheet = sym (read-torn s 0 h); code = λ z. absurd (omega arith) })
 
   module _ (n m first : ℕ) (h : sectionsOf s ≡ Both n m first) where
     pub answer-codes : (k i c : ℕ) → codesReading n s 1 0 0 ≡ Refused k i c → r ≡ refusedSheet (Refused k i c)
@@ -146,10 +146,13 @@ module _ (s : List ℕ) (r : Sheet) where
           let g = read-amounts s code n m first h d (q .0) in
           let k : refusedSheet (Refused number 0 code) ≡ readOf s code =
           ap (λ (x : ℕ). refusedSheet (Refused x 0 code)) (q .1)
-              ∙ ap (λ (x : ℕ). refusedSheet (Refused (amountsRefusal n s) 0 x)) (q .2) ∙ sym g in
+          ∙ ap (λ (x : ℕ). refusedSheet (Refused (amountsRefusal n s) 0 x)) (q .2) ∙ sym g in
           subst (λ (x : Sheet). ReadAs s x) (sym e)
-          (record { sheet = k; code = λ f. subst (λ (x : ℕ). FaultIn x s code) (sectioned s h .components)
-          (a .code f) })
+          (record {
+            sheet = k;
+            code = λ f. subst (λ (x : ℕ). FaultIn x s code) (sectioned s h .components)
+                (a .code f);
+          })
 
       pub answer-amounts : (number code : ℕ) (y : Checked) → AmountsRefused n s y → y ≡ checked.Refused number code
           → r ≡ refusedSheet (Refused number 0 code) → ReadAs s r
@@ -170,4 +173,4 @@ module _ (s : List ℕ) (r : Sheet) where
       answer-good y a f e =
           let z = in-range-number (subst (λ (x : Checked). AmountsRefused n s x) f a .answer) in
           subst (λ (x : Sheet). ReadAs s x) (sym e)
-              (record { sheet = sym (read-good s 0 n m first h d z); code = λ f. absurd (omega arith) })
+          (record { sheet = sym (read-good s 0 n m first h d z); code = λ f. absurd (omega arith) })

@@ -160,8 +160,12 @@ module _ (s : List ℕ) (n i at : ℕ) (w : Looked s n i at) where
   module _ (h : i < n) (x : ℕ) (f : x ≡ fourBytesAt s (at + 1)) where
     pub looked-next : (x ≡ 0 → ⊥) → Looked s n (i + 1) (at + 5)
     looked-next k =
-        record { most = omega arith; there = omega (arith, w .there); same = sym (zero-go n i s at h (λ z. k (f ∙ z)))
-            ∙ w .same }
+        record {
+          most = omega arith;
+          there = omega (arith, w .there);
+          same = sym (zero-go n i s at h (λ z. k (f ∙ z)))
+              ∙ w .same;
+        }
 
     pub looked-zero : x ≡ 0 → ZeroRecord n s i
     looked-zero k =
@@ -210,7 +214,7 @@ module _ (m i : ℕ) (s : List ℕ) (v : ℕ) (xs : List ℕ) where
 drop-same : (k z x : ℕ) → drop k (replicate (k + z) x) ≡ replicate z x
 drop-same k z x =
     ap (λ (l : List ℕ). drop k l) (sym (replicate-append-replicate k z x))
-        ∙ drop-at (replicate k x) (replicate z x) k (length-replicate k x)
+    ∙ drop-at (replicate k x) (replicate z x) k (length-replicate k x)
 
 pub sets-padded : (vs : List ℕ) → length vs ≤ RECORDS → sets (replicate RECORDS 0) 0 vs ≡ padded vs
 sets-padded vs h =
@@ -233,8 +237,13 @@ pub record Columns (s : List ℕ) (at m : ℕ) (xs ys zs : List ℕ) (i w : ℕ)
 pub columns-none : (s : List ℕ) (at m : ℕ) → Columns s at m (replicate RECORDS 0) (replicate RECORDS 0)
     (replicate RECORDS 0) 0 at
 columns-none s at m =
-    record { most = omega arith; there = omega arith; systems = rw sub-zero; codes = rw sub-zero;
-        amounts = rw sub-zero }
+    record {
+      most = omega arith;
+      there = omega arith;
+      systems = rw sub-zero;
+      codes = rw sub-zero;
+      amounts = rw sub-zero;
+    }
 
 module _ (s : List ℕ) (at m : ℕ) (xs ys zs : List ℕ) (i w : ℕ) (l : Columns s at m xs ys zs i w) where
   pub columns-next : i < m → (n : ℕ) → n ≡ fourBytesAt s (w + 2)
@@ -252,9 +261,9 @@ module _ (s : List ℕ) (at m : ℕ) (xs ys zs : List ℕ) (i w : ℕ) (l : Colu
       → r ≡ record { count = m; systems = xs; codes = ys; amounts = zs } → r ≡ splitAt m s at
   columns-all t k r e =
       let x = sym (bytes-end m i s w xs t) ∙ l .systems
-          ∙ sets-padded (byteColumn m s at) (omega (arith, length-byte-column m s at)) in
+      ∙ sets-padded (byteColumn m s at) (omega (arith, length-byte-column m s at)) in
       let y = sym (bytes-end m i s (w + 1) ys t) ∙ l .codes
-          ∙ sets-padded (byteColumn m s (at + 1)) (omega (arith, length-byte-column m s (at + 1))) in
+      ∙ sets-padded (byteColumn m s (at + 1)) (omega (arith, length-byte-column m s (at + 1))) in
       let z = sym (column-end m i s (w + 2) zs t) ∙ l .amounts
-          ∙ sets-padded (amountColumn m s (at + 2)) (omega (arith, length-amount-column m s (at + 2))) in
+      ∙ sets-padded (amountColumn m s (at + 2)) (omega (arith, length-amount-column m s (at + 2))) in
       e ∙ (λ j. record { count = m; systems = x j; codes = y j; amounts = z j })

@@ -26,7 +26,8 @@ use Rattle.split.specs.Laws.Members.{three}
 use Rattle.split.specs.Laws.Rows.{parts-few}
 use Rattle.split.specs.Inner.Moves.{MayMove}
 use Rattle.split.specs.Inner.Steps.{insteadOf, numberWith}
-use Rattle.split.specs.Laws.Steps.{Changed, instead-is, number-with, bt, sound-moved, rest-same, giver-changed, taker-changed}
+use Rattle.split.specs.Laws.Steps.{Changed, instead-is, number-with, bt, sound-moved, rest-same, giver-changed}
+use Rattle.split.specs.Laws.Steps.{taker-changed}
 use Rattle.split_rows.specs.Rows.{listed}
 use Rattle.split_rows.specs.Inner.Small.{Small}
 use Rattle.split_rows.specs.Inner.Carried.{Carried, Workable}

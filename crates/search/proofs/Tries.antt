@@ -23,7 +23,8 @@ use Rattle.split.specs.Inner.Steps.{numberWith}
 use Rattle.split.specs.Laws.Steps.{Changed, number-with, bt, component-low, may-move, giver-changed, taker-changed}
 use Rattle.split_rows.specs.Rows.{listed}
 use Rattle.split_rows.specs.Inner.Carried.{Workable}
-use Rattle.search.specs.Inner.Tried.{TRIES, UNKNOWN, triedRow, columnIn, triedOf, wantedOf, Tried, Triable, Forgot}
+use Rattle.search.specs.Inner.Tried.{TRIES, UNKNOWN, triedRow, columnIn, triedOf, wantedOf, Tried, Triable}
+use Rattle.search.specs.Inner.Tried.{Forgot}
 use Rattle.integer.specs.Laws.Bits.{back}
 use Rattle.split_rows.specs.Laws.Machine.{pass}
 use Rattle.search.proofs.Trials.{taker-workable}

@@ -37,7 +37,7 @@ pub read-after-write : (a : List ℕ) (p : Split) (b : List ℕ) (x : Written) (
 read-after-write a p b x left n r sized wrote e read =
     let h : writtenOf a p (length b) (w.faultOf x) ≡ Length n = sym (wrote .answer) ∙ e in
     read .sheet ∙ ap (λ (l : List ℕ). readOf (take n l) (faultOf (r .answer))) (wrote .buffer)
-        ∙ read-written a p sized b n (w.faultOf x) (faultOf (r .answer)) h
+    ∙ read-written a p sized b n (w.faultOf x) (faultOf (r .answer)) h
 
 -- the very same where the split's unused places hold 0
 pub read-after-write-same : (a : List ℕ) (p : Split) (b : List ℕ) (x : Written) (left : List ℕ) (n : ℕ) (r : Sheet)
@@ -46,4 +46,4 @@ pub read-after-write-same : (a : List ℕ) (p : Split) (b : List ℕ) (x : Writt
 read-after-write-same a p b x left n r sized unused wrote e read =
     let h : writtenOf a p (length b) (w.faultOf x) ≡ Length n = sym (wrote .answer) ∙ e in
     read .sheet ∙ ap (λ (l : List ℕ). readOf (take n l) (faultOf (r .answer))) (wrote .buffer)
-        ∙ read-written-same a p sized unused b n (w.faultOf x) (faultOf (r .answer)) h
+    ∙ read-written-same a p sized unused b n (w.faultOf x) (faultOf (r .answer)) h

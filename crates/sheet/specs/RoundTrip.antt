@@ -62,7 +62,7 @@ pub count-most : (a : List ℕ) → length a ≡ CODES → analysisRefusal a ≡
 unfolding room statusOf
 count-most a l h =
     let r : countOf a ≤ room 0 CODES = subst (λ (n : ℕ). countOf a ≤ room 0 n) l (count-room 0 a (passed-ranges a h))
-        in r
+    in r
 
 -- a sheet that is written, or read, has at most 188 bytes
 pub longest-written : (a : List ℕ) (p : Split) (size : ℕ) → length a ≡ CODES → writeRefusal a p size ≡ 0
@@ -223,7 +223,7 @@ module _ (xs : List ℕ) (p : Split) (k : Sized (0 ∷ xs) p) (allowed : allowed
   read-sheet =
       let j : amountsRefusal n s ≡ 0 = amounts-checked n s zeros ∙ ap analysisRefusal amounts ∙ passed in
       let e : contentOf n (p .count) (2 + 5 * n) s ≡ asRead (0 ∷ xs) (trimmed p) =
-          λ i. record { answer = Read; analysis = record { amounts = amounts i }; split = split i } in
+      λ i. record { answer = Read; analysis = record { amounts = amounts i }; split = split i } in
       read-good s code n (p .count) (2 + 5 * n) sections codes j ∙ e
 
 -- 0 is no code
@@ -240,7 +240,7 @@ read-bytes (x ∷ xs) p k allowed passed code =
     let g = both-true (inRange 0 x) (allInRange 1 xs) (passed-ranges (x ∷ xs) passed) in
     let e : x ≡ 0 = no-code x (g .0) in
     subst (λ (y : ℕ). Sized (y ∷ xs) p → analysisRefusal (y ∷ xs) ≡ 0
-        → readOf (sheetOf (y ∷ xs) p) code ≡ asRead (y ∷ xs) (trimmed p))
+    → readOf (sheetOf (y ∷ xs) p) code ≡ asRead (y ∷ xs) (trimmed p))
     (sym e)
     (λ j c. read-sheet xs p j allowed c code)
     k
@@ -254,7 +254,7 @@ read-written a p k b n code code' h =
     let g = written-back a p (length b) code h in
     let c = number-back a p (length b) (g .0) in
     let e = ap (λ (l : List ℕ). take n l) (left-sheet a p b (g .0))
-        ∙ take-at (sheetOf a p) (drop (length (sheetOf a p)) b) n (sym (g .1)) in
+    ∙ take-at (sheetOf a p) (drop (length (sheetOf a p)) b) n (sym (g .1)) in
     ap (λ (l : List ℕ). readOf l code') e ∙ read-bytes a p k (c .0) (c .1) code'
 
 -- the very same split where its unused places hold 0
@@ -303,8 +303,8 @@ module _ (s : List ℕ) (bytes : Bytes s) (x : Whole s) where
   sheet-same =
       let q : List ℕ = x .m ∷ splitBytes p in
       let e : q ≡ drop (1 + 5 * x .n) s = ap (λ (l : List ℕ). x .m ∷ l) records
-          ∙ ap (λ (j : ℕ). j ∷ drop (x .first) s) (shape .records)
-          ∙ sym (one s bytes (1 + 5 * x .n) (x .first) (omega (arith, shape .begins)) (omega (arith, shape .size))) in
+      ∙ ap (λ (j : ℕ). j ∷ drop (x .first) s) (shape .records)
+      ∙ sym (one s bytes (1 + 5 * x .n) (x .first) (omega (arith, shape .begins)) (omega (arith, shape .size))) in
       ap (λ (a : List ℕ). (countOf a ∷ componentBytes 0 a) ++ q) (filled .filled)
       ∙ ap (λ (j : ℕ). (j ∷ componentBytes 1 (filled .ys)) ++ q) (filled .count)
       ∙ ap (λ (l : List ℕ). (x .n ∷ componentBytes 1 (filled .ys)) ++ l) e
@@ -332,9 +332,9 @@ written-read s bytes code h b code' l =
     let a : List ℕ = readOf s code .analysis .amounts in
     let p : Split = readOf s code .split in
     let j : analysisRefusal a ≡ 0 = ap (λ (y : Sheet). analysisRefusal (y .analysis .amounts)) r
-        ∙ amounts-back (x .n) s (x .amounts) .1 in
+    ∙ amounts-back (x .n) s (x .amounts) .1 in
     let m : allowedCount (p .count) ≡ true = ap (λ (y : Sheet). allowedCount (y .split .count)) r
-        ∙ sectioned s (x .sections) .allowed in
+    ∙ sectioned s (x .sections) .allowed in
     let k : length (sheetOf a p) ≤ length b = subst (λ (y : List ℕ). length y ≤ length b) (sym e) l in
     let z = number-none a p (length b) m j k in (
       written-length a p (length b) code' z ∙ ap (λ (y : List ℕ). w.Length (length y)) e,

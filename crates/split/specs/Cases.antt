@@ -34,5 +34,5 @@ pub halved : runOf (4 ∷ 8 ∷ []) 2 0 1 3 few 1 0 .cells
 unfolding worked rowsOf horner coefs sumAbs placeIn keepsRule isSystem tableOf partialNumber memberOf hasOf
     sumTo greatestTo leastTo first partsOf
     rowNumber spreadOf squareOf imbalanceOf shift movedOf betweenOf affordsOf lowersOf canOf firstOf goOn turnOf runOf
-        isIn
+    isIn
 halved = refl

@@ -50,4 +50,4 @@ module _ (mix systems : List ℕ) (count limit allowance : ℕ) (cells : List �
       → Within (ratingOf systems count cells n1) (exactRating systems count cells n1) 40
   found-within n1 few l =
       rated-within systems count mix cells (balance .chosen) limit n1 (ratingOf systems count cells n1) s 0
-          (put-back n1) few l
+      (put-back n1) few l

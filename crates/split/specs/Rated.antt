@@ -83,9 +83,13 @@ module _ (limit : ℕ) (systems : List ℕ) (count : ℕ) (mix cells : List ℕ)
   unfolding proposedOf
   rated-fit t =
       let (b, e, w) = passed (resums mix count cells) (someEmpty systems count cells) (ltb limit spread) rated t in
-      record { sums = resums-yes mix count cells b; some = empty-no systems count cells e; near = spread-near limit
-          (rowNumber systems cells) count
-          (ltb-false limit spread w) }
+      record {
+        sums = resums-yes mix count cells b;
+        some = empty-no systems count cells e;
+        near = spread-near limit
+            (rowNumber systems cells) count
+            (ltb-false limit spread w);
+      }
 
   pub rated-exactly-when : IsRated (proposedOf limit systems count mix cells n1) ↔ Fit limit systems count mix cells
   rated-exactly-when = (rated-fit, λ f. subst IsRated (sym (fit-rated f)) tt)
@@ -96,5 +100,5 @@ module _ (limit : ℕ) (systems : List ℕ) (count : ℕ) (mix cells : List ℕ)
       × (s ≡ spreadOf (rowNumber systems cells) count) × (n ≡ 0)
   rated-is w s n is =
       let same : Rated w s n ≡ Rated (ratingOf systems count cells n1) spread 0 = sym is
-          ∙ fit-rated (rated-fit (subst IsRated (sym is) tt)) in
+      ∙ fit-rated (rated-fit (subst IsRated (sym is) tt)) in
       (cc, cc, cc)

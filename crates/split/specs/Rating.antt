@@ -63,5 +63,5 @@ verdict true false false rated = rated
 unfoldable pub proposedOf : ℕ → List ℕ → ℕ → List ℕ → List ℕ → ℕ → Answer
 proposedOf limit systems count mix cells n1 =
     verdict (resums mix count cells) (someEmpty systems count cells)
-        (ltb limit (spreadOf (rowNumber systems cells) count))
+    (ltb limit (spreadOf (rowNumber systems cells) count))
     (Rated (ratingOf systems count cells n1) (spreadOf (rowNumber systems cells) count) 0)

@@ -69,10 +69,10 @@ module _ (limit : ℕ) (systems : List ℕ) (count : ℕ) (mix cells : List ℕ)
   unfolding proposedOf
   refused-8-exactly-when = (
     λ h r. differ (resums mix count cells) (yes-resums mix count cells r)
-    (at-8 (resums mix count cells) (someEmpty systems count cells) wide (ratingOf systems count cells n1)
-    (spreadOf (rowNumber systems cells) count) h),
+        (at-8 (resums mix count cells) (someEmpty systems count cells) wide (ratingOf systems count cells n1)
+        (spreadOf (rowNumber systems cells) count) h),
     λ n. proposed-unsummed limit systems count mix cells n1
-    (fails (resums mix count cells) (resums-yes mix count cells) n),
+        (fails (resums mix count cells) (resums-yes mix count cells) n),
   )
 
   pub refused-9-exactly-when : (proposedOf limit systems count mix cells n1 ≡ Refused 9 0)
@@ -80,11 +80,11 @@ module _ (limit : ℕ) (systems : List ℕ) (count : ℕ) (mix cells : List ℕ)
   unfolding proposedOf
   refused-9-exactly-when = (
     λ h. let (b, e) = at-9 (resums mix count cells) (someEmpty systems count cells) wide
-    (ratingOf systems count cells n1) (spreadOf (rowNumber systems cells) count)
-    h in
+        (ratingOf systems count cells n1) (spreadOf (rowNumber systems cells) count)
+        h in
         (resums-yes mix count cells b, λ n. differ (someEmpty systems count cells) e (no-empty systems count cells n)),
     λ g. proposed-empty limit systems count mix cells n1 (yes-resums mix count cells (g .0))
-    (holds (someEmpty systems count cells) (empty-no systems count cells) (g .1)),
+        (holds (someEmpty systems count cells) (empty-no systems count cells) (g .1)),
   )
 
   pub refused-10-exactly-when : (proposedOf limit systems count mix cells n1 ≡ Refused 10 0)
@@ -92,12 +92,12 @@ module _ (limit : ℕ) (systems : List ℕ) (count : ℕ) (mix cells : List ℕ)
   unfolding proposedOf
   refused-10-exactly-when = (
     λ h. let (b, e, w) = at-10 (resums mix count cells) (someEmpty systems count cells) wide
-    (ratingOf systems count cells n1)
-    (spreadOf (rowNumber systems cells) count) h in
+        (ratingOf systems count cells n1)
+        (spreadOf (rowNumber systems cells) count) h in
         (resums-yes mix count cells b, empty-no systems count cells e, λ n. differ wide w (near-not-wide n)),
     λ g. proposed-wide limit systems count mix cells n1 (yes-resums mix count cells (g .0))
-    (no-empty systems count cells (g .1))
-    (holds wide not-wide (g .2)),
+        (no-empty systems count cells (g .1))
+        (holds wide not-wide (g .2)),
   )
 
 -- a wider limit never turns a rated split into a refused one, and the rating stays
@@ -108,5 +108,5 @@ pub wider : (limit limit′ : ℕ) (systems : List ℕ) (count : ℕ) (mix cells
 wider limit limit′ systems count mix cells n1 w s n l is =
     let f = rated-fit limit systems count mix cells n1 (subst IsRated (sym is) tt) in
     fit-rated limit′ systems count mix cells n1
-        (record { sums = f .sums; some = f .some; near = λ i j p q. N.le-trans (f .near i j p q) l })
+    (record { sums = f .sums; some = f .some; near = λ i j p q. N.le-trans (f .near i j p q) l })
     ∙ sym (fit-rated limit systems count mix cells n1 f) ∙ is

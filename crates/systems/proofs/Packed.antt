@@ -34,7 +34,7 @@ pub held-is : (table : ℕ) → T (everyTo (holdsAll table) NUMBERS) → (system
     → bitAt table system c ≡ hasOf system c
 held-is table t system c h l =
     beq-is (bitAt table system c) (hasOf system c)
-        (eachTo (holds table system) (COMPONENTS + 1) (eachTo (holdsAll table) NUMBERS t system h) c (omega arith))
+    (eachTo (holds table system) (COMPONENTS + 1) (eachTo (holdsAll table) NUMBERS t system h) c (omega arith))
 
 -- a number past the table has no members but COMPONENTS
 pub has-none : (system c : ℕ) → NUMBERS ≤ system → eqb c COMPONENTS ≡ hasOf system c
@@ -59,7 +59,7 @@ has-past system c h l = rw (other 0 (omega arith), other 1 (omega arith), other 
     other : (j : ℕ) → j < 3 → eqb c (memberOf system j) ≡ false
     other j k =
         let m : memberOf system j ≤ COMPONENTS = leb→le (memberOf system j) COMPONENTS
-            (eachTo (λ j. leb (memberOf system j) COMPONENTS) 3 (eachTo few NUMBERS tt system h) j k) in
+        (eachTo (λ j. leb (memberOf system j) COMPONENTS) 3 (eachTo few NUMBERS tt system h) j k) in
         ne-eqb c (memberOf system j) (λ e. absurd (omega arith))
 
 -- ---- a system's components as a mask

@@ -24,7 +24,7 @@ weightedParts mix c = getD weights c 0 * getD mix c 0
 unfoldable pub fitnessOf : List ℕ → ℕ → ℕ
 fitnessOf mix system =
     weightedParts mix (memberOf system 0) + weightedParts mix (memberOf system 1) + weightedParts mix
-        (memberOf system 2)
+    (memberOf system 2)
 
 -- the weighted parts of all components below n
 unfoldable pub allTo : List ℕ → ℕ → ℕ

@@ -45,8 +45,8 @@ steps-moved : (n d : ℕ) {h h′ x x′ y y′ z z′ u u′ : ℤ} → h ≡ h
     → stepsOf n d h x y z u ≡ stepsOf n d h′ x′ y′ z′ u′
 steps-moved n d p q r s t =
     ap₂ (λ (x y : ℤ). stepZ x n d y)
-        (ap₂ (λ (x y : ℤ). stepZ x n d y) (ap₂ (λ (x y : ℤ). stepZ x n d y) (ap₂ (λ (x y : ℤ). stepZ x n d y) p q) r)
-        s) t
+    (ap₂ (λ (x y : ℤ). stepZ x n d y) (ap₂ (λ (x y : ℤ). stepZ x n d y) (ap₂ (λ (x y : ℤ). stepZ x n d y) p q) r)
+    s) t
 
 module _ (a : ℕ → ℤ) (n1 n2 d e : ℕ) {h r3 r2 r1 r0 : ℤ} (h-is : h ≡ horner n1 d (coefs a 16 4))
     (r3-is : r3 ≡ horner n2 e (coefs a 14 2)) (r2-is : r2 ≡ horner n2 e (coefs a 11 3))
@@ -56,8 +56,15 @@ module _ (a : ℕ → ℤ) (n1 n2 d e : ℕ) {h r3 r2 r1 r0 : ℤ} (h-is : h ≡
       → natAbs h + natAbs r3 + natAbs r2 + natAbs r1 + natAbs r0 ≤ LARGEST
   rows-room n1≤d n2≤e small =
       rw (h-is, r3-is, r2-is, r1-is, r0-is)
-      (omega (arith, sums a, horner-le n1 d (coefs a 16 4) n1≤d, horner-le n2 e (coefs a 14 2) n2≤e,
-      horner-le n2 e (coefs a 11 3) n2≤e, horner-le n2 e (coefs a 7 4) n2≤e, horner-le n2 e (coefs a 0 7) n2≤e))
+      (omega (
+        arith,
+        sums a,
+        horner-le n1 d (coefs a 16 4) n1≤d,
+        horner-le n2 e (coefs a 14 2) n2≤e,
+        horner-le n2 e (coefs a 11 3) n2≤e,
+        horner-le n2 e (coefs a 7 4) n2≤e,
+        horner-le n2 e (coefs a 0 7) n2≤e,
+      ))
 
   pub rows-worked : d ≡ e → stepsOf n1 d h r3 r2 r1 r0 ≡ worked n1 n2 d (rowsOf a)
   rows-worked p =

@@ -41,8 +41,13 @@ module _ (a : ℕ → ℤ) (n d i total : ℕ) (i>0 : 0 < i) (i≤total : i ≤ 
   pub row-room : (m : ℕ) → n ≤ d → total ≤ m → sumAbs (coefs a 0 m) ≤ LARGEST
       → natAbs (horner n d (coefs a i (total - i))) + natAbs (a (i - 1)) ≤ LARGEST
   row-room m n≤d t≤ h =
-      omega (arith, horner-le n d (coefs a i (total - i)) n≤d, ap (λ (x : ℕ). sumAbs (coefs a x (total - i))) there,
-          sum-next a (i - 1) (total - i), part-le a (i - 1) (suc (total - i)) m inside)
+      omega (
+        arith,
+        horner-le n d (coefs a i (total - i)) n≤d,
+        ap (λ (x : ℕ). sumAbs (coefs a x (total - i))) there,
+        sum-next a (i - 1) (total - i),
+        part-le a (i - 1) (suc (total - i)) m inside,
+      )
     where
       inside : i - 1 + suc (total - i) ≤ m
       inside = omega arith

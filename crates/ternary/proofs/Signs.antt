@@ -61,9 +61,10 @@ size-le a f h = rw (size-back a f) h
 
 pub cast-ok : (a : ℤ) → SFits w64 a → T (nonNeg a) → natAbs a ≤ LARGEST → T (nonNeg (toZ w64 (ofZ w64 a)))
     × Fits w64 (natAbs (toZ w64 (ofZ w64 a)))
-cast-ok a f s h =
-    (subst⁻¹ (λ (v : ℤ). T (nonNeg v)) (toZ-ofZ w64 a f) s,
-    record { fits = N.lt-of-le-of-lt (size-le a f h) (lit< tt) })
+cast-ok a f s h = (
+  subst⁻¹ (λ (v : ℤ). T (nonNeg v)) (toZ-ofZ w64 a f) s,
+  record { fits = N.lt-of-le-of-lt (size-le a f h) (lit< tt) },
+)
 
 pub as-signed : (q : ℕ) → q ≤ 2000001000001 → SFits w64 (pos q)
 as-signed q h = record { sfits = N.lt-of-le-of-lt h (lit< tt) }
@@ -100,9 +101,10 @@ module _ (acc c : ℤ) (fa : SFits w64 acc) (fc : SFits w64 c) (small : natAbs a
   pub neg-asked : ltZ (toZ w64 (ofZ w64 acc)) (pos 0) ≡ true
       → T (nonNeg (toZ w64 (ofZ w64 (pos 0 -ℤ toZ w64 (ofZ w64 acc)))))
       × (natAbs (toZ w64 (ofZ w64 (pos 0 -ℤ toZ w64 (ofZ w64 acc)))) ≤ LARGEST)
-  neg-asked t =
-      (subst⁻¹ (λ (v : ℤ). T (nonNeg v)) neg-back (neg-sign acc (sign-back t)),
-      subst⁻¹ (λ (v : ℤ). natAbs v ≤ LARGEST) neg-back neg-le)
+  neg-asked t = (
+    subst⁻¹ (λ (v : ℤ). T (nonNeg v)) neg-back (neg-sign acc (sign-back t)),
+    subst⁻¹ (λ (v : ℤ). natAbs v ≤ LARGEST) neg-back neg-le,
+  )
 
   pub pos-asked : ltZ (toZ w64 (ofZ w64 acc)) (pos 0) ≡ false → T (nonNeg (toZ w64 (ofZ w64 acc)))
       × (natAbs (toZ w64 (ofZ w64 acc)) ≤ LARGEST)

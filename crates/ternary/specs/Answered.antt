@@ -19,7 +19,8 @@ use Rattle.ternary.specs.declared.Partial.{Partial}
 use Rattle.ternary.specs.declared.Partial.the-variants.{Number, Refused}
 use Rattle.ternary.specs.PartialCases.{numberOf, figuresOf}
 use Rattle.ternary.specs.Answer.{isMixture, partialOf}
-use Rattle.ternary.specs.Laws.Answer.{mixture-yes, mixture-of, mixture-not, mixture-zero, mixture-above, formula-is, partial-inside}
+use Rattle.ternary.specs.Laws.Answer.{mixture-yes, mixture-of, mixture-not, mixture-zero, mixture-above}
+use Rattle.ternary.specs.Laws.Answer.{formula-is, partial-inside}
 
 -- what is asked of the system and the amounts
 pub record Answerable (system n1 n2 n3 : ℕ) : Type 0 where
@@ -51,7 +52,7 @@ module _ (system n1 n2 n3 : ℕ) where
   unfolding partialOf
   tests z e =
       passed (isSystem system) (isMixture (n1 + n2 + n3)) (sharesInRange system n1 n2 n3)
-          (partialNumber system n1 n2 n3) z e
+      (partialNumber system n1 n2 n3) z e
 
   pub answered-only : (z : ℤ) → partialOf system n1 n2 n3 ≡ Number z
       → Answerable system n1 n2 n3 × (z ≡ partialNumber system n1 n2 n3)
@@ -139,7 +140,7 @@ module _ (system n1 n2 n3 : ℕ) where
     λ h. at {r = sharesInRange system n1 n2 n3} (h .0) (⊎-elim (mixture-zero parts) (mixture-above parts) (h .1)) refl,
     λ e.
         let t = to-12 (partialNumber system n1 n2 n3) (isSystem system) (isMixture parts)
-            (sharesInRange system n1 n2 n3) e in
+        (sharesInRange system n1 n2 n3) e in
         (t .0, mixture-not parts (t .1)),
   )
 
@@ -153,7 +154,7 @@ module _ (system n1 n2 n3 : ℕ) where
     λ h. at (h .0) (mixture-yes parts (h .1) (h .2)) (out (h .3)),
     λ e.
         let t = to-17 (partialNumber system n1 n2 n3) (isSystem system) (isMixture parts)
-            (sharesInRange system n1 n2 n3) e in
+        (sharesInRange system n1 n2 n3) e in
         let m = mixture-of parts (t .1) in
         (t .0, m .0, m .1, λ s. absurd (subst T (sym (in-range-when system n1 n2 n3 s) ∙ t .2) tt)),
   )

@@ -39,9 +39,12 @@ by-rest z k s h e = sym (floor-unique (z +ℤ pos 5000000) (quotZ z (pos 1000000
 low-rest : (r : ℤ) → natAbs r < 10000000 → ltZ r (neg 5000000) ≡ true → (s : ℕ) × (s < 10000000)
     × (r +ℤ pos 5000000 ≡ neg 1 *ℤ pos 10000000 +ℤ pos s)
 low-rest (pos a) h t = absurd (subst⁻¹ T t tt)
-low-rest (negsuc a) h t =
-    (9999999 - (a - 5000000), omega arith, sub-lt 5000000 (suc a) (omega (arith, above)) ∙ ap negsuc (there above)
-    ∙ sym (neg-split 0 10000000 (9999999 - (a - 5000000)) (omega arith)))
+low-rest (negsuc a) h t = (
+  9999999 - (a - 5000000),
+  omega arith,
+  sub-lt 5000000 (suc a) (omega (arith, above)) ∙ ap negsuc (there above)
+      ∙ sym (neg-split 0 10000000 (9999999 - (a - 5000000)) (omega arith)),
+)
   where
     above : 4999999 < a
     above = ltb-true 4999999 a t
@@ -52,9 +55,12 @@ low-rest (negsuc a) h t =
 mid-rest : (r : ℤ) → ltZ r (neg 5000000) ≡ false → ltZ r (pos 5000000) ≡ true → (s : ℕ) × (s < 10000000)
     × (r +ℤ pos 5000000 ≡ pos 0 *ℤ pos 10000000 +ℤ pos s)
 mid-rest (pos a) t u = (a + 5000000, omega (arith, ltb-true a 5000000 u), ap pos (omega arith))
-mid-rest (negsuc a) t u =
-    (5000000 - suc a, omega arith, sub-ge 5000000 (suc a) (omega (arith, ltb-false 4999999 a t))
-    ∙ ap pos (omega arith))
+mid-rest (negsuc a) t u = (
+  5000000 - suc a,
+  omega arith,
+  sub-ge 5000000 (suc a) (omega (arith, ltb-false 4999999 a t))
+      ∙ ap pos (omega arith),
+)
 
 high-rest : (r : ℤ) → natAbs r < 10000000 → ltZ r (pos 5000000) ≡ false → (s : ℕ) × (s < 10000000)
     × (r +ℤ pos 5000000 ≡ pos 1 *ℤ pos 10000000 +ℤ pos s)
@@ -109,7 +115,7 @@ module _ (z : ℤ) (fz : SFits w64 z) where
       → toZ w64 (ofZ w64 (toZ w64 (ofZ w64 (quotZ (toZ w64 (ofZ w64 z)) (pos 10000000))) -ℤ pos 1)) ≡ wholeNumber z
   low-is t =
       let (s, h, e) = low-rest (remZ z (pos 10000000)) (rem-lt z {d = 10000000} (lit< tt))
-          (subst (λ (x : ℤ). ltZ x (neg 5000000) ≡ true) r-is t) in
+      (subst (λ (x : ℤ). ltZ x (neg 5000000) ≡ true) r-is t) in
       ap (λ (x : ℤ). toZ w64 (ofZ w64 (x -ℤ pos 1))) q-is ∙ toZ-ofZ w64 (quotZ z (pos 10000000) -ℤ pos 1) less-fits
       ∙ by-rest z (neg 1) s h e
 
@@ -118,13 +124,13 @@ module _ (z : ℤ) (fz : SFits w64 z) where
       → toZ w64 (ofZ w64 (quotZ (toZ w64 (ofZ w64 z)) (pos 10000000))) ≡ wholeNumber z
   mid-is t u =
       let (s, h, e) = mid-rest (remZ z (pos 10000000)) (subst (λ (x : ℤ). ltZ x (neg 5000000) ≡ false) r-is t)
-          (subst (λ (x : ℤ). ltZ x (pos 5000000) ≡ true) r-is u) in
+      (subst (λ (x : ℤ). ltZ x (pos 5000000) ≡ true) r-is u) in
       q-is ∙ sym (+ℤ-idr (quotZ z (pos 10000000))) ∙ by-rest z (pos 0) s h e
 
   pub high-is : ltZ (toZ w64 (ofZ w64 (remZ (toZ w64 (ofZ w64 z)) (pos 10000000)))) (pos 5000000) ≡ false
       → toZ w64 (ofZ w64 (toZ w64 (ofZ w64 (quotZ (toZ w64 (ofZ w64 z)) (pos 10000000))) +ℤ pos 1)) ≡ wholeNumber z
   high-is t =
       let (s, h, e) = high-rest (remZ z (pos 10000000)) (rem-lt z {d = 10000000} (lit< tt))
-          (subst (λ (x : ℤ). ltZ x (pos 5000000) ≡ false) r-is t) in
+      (subst (λ (x : ℤ). ltZ x (pos 5000000) ≡ false) r-is t) in
       ap (λ (x : ℤ). toZ w64 (ofZ w64 (x +ℤ pos 1))) q-is ∙ toZ-ofZ w64 (quotZ z (pos 10000000) +ℤ pos 1) more-fits
       ∙ by-rest z (pos 1) s h e

@@ -34,8 +34,11 @@ room-length len size h = ap (λ (t : Bool). cond t (Refused 14 0) (Length len)) 
 module _ (a : List ℕ) (p : Split) (size : ℕ) where
   pub answer-count : allowedCount (p .count) ≡ false → Answered a p size (Refused 1 0)
   answer-count h =
-      record { answer = sym (written-refused a p size 0 1 (number-count a p size h) (λ z. omega arith)); code = λ z.
-          absurd (omega arith) }
+      record {
+        answer = sym (written-refused a p size 0 1 (number-count a p size h) (λ z. omega arith));
+        code = λ z.
+            absurd (omega arith);
+      }
 
   module _ (h : allowedCount (p .count) ≡ true) where
     -- what a refusal by the check says of the number

@@ -29,7 +29,7 @@ returns c =
     let x = b .before .before .before .args in
     let p = splitFrom (x .count) (x .systems .now) (x .codes .now) (x .parts .now) in
     let h = s .ensures .0 ∙ ap (λ (y : Split). splitAnswer (x .amounts .now) y (faultOf (s .result)))
-        (b .before .before .split-from .ensures) in
+    (b .before .before .split-from .ensures) in
     let e = c .reply-of .ensures in (
       (
         reply-is (splitAnswer (x .amounts .now) p) _ h _ e,

@@ -21,8 +21,13 @@ fitness-requires c κs = search needs
 
 add-result : tie.Need-add-result
 add-result c =
-    record { fits = omega (arith, standing-fits _ _ (c .before .count .ensures .1) (c .before .before .pre .1 .1),
-    c .fitness .ensures .1) }
+    record {
+      fits = omega (
+        arith,
+        standing-fits _ _ (c .before .count .ensures .1) (c .before .before .pre .1 .1),
+        c .fitness .ensures .1,
+      );
+    }
 
 returns : tie.Need-returns
 returns c =

@@ -25,8 +25,10 @@ loop-holds c = fresh-none _ _
 
 key-requires : tie.Need-key-requires Inv-loop μ-loop
 key-requires c κs = (
-  (omega (arith, c .loop-test .taken, c .before .before .candidates .ensures .0),
-  c .before .before .before .before .pre),
+  (
+    omega (arith, c .loop-test .taken, c .before .before .candidates .ensures .0),
+    c .before .before .before .before .pre,
+  ),
   c .before .before .before .above .ensures,
 )
 

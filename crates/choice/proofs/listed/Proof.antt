@@ -44,13 +44,20 @@ loop-less c = search needs
 loop-again : tie.Need-loop-again Inv-loop μ-loop
 loop-again c =
     ⊎-elim
-    (λ w. (omega (arith, w .2), omega arith,
-    rw (w .2, w .3) (lists-more _ _ _ _ _ (c .before .before .loop .inv .2)
-    (omega (arith, c .before .loop-test .taken, c .before .before .before .candidates .ensures .0)) _ (w .1 .ensures)
-    (w .0 .taken))))
-    (λ w. (omega (arith, w .1), omega arith,
-    rw (w .1, w .2) (lists-same _ _ _ _ _ (c .before .before .loop .inv .2)
-    (omega (arith, c .before .loop-test .taken, c .before .before .before .candidates .ensures .0)) (w .0 .left))))
+    (λ w. (
+      omega (arith, w .2),
+      omega arith,
+      rw (w .2, w .3) (lists-more _ _ _ _ _ (c .before .before .loop .inv .2)
+          (omega (arith, c .before .loop-test .taken, c .before .before .before .candidates .ensures .0)) _
+          (w .1 .ensures)
+          (w .0 .taken)),
+    ))
+    (λ w. (
+      omega (arith, w .1),
+      omega arith,
+      rw (w .1, w .2) (lists-same _ _ _ _ _ (c .before .before .loop .inv .2)
+          (omega (arith, c .before .loop-test .taken, c .before .before .before .candidates .ensures .0)) (w .0 .left)),
+    ))
     (c .if1 .came)
 
 returns : tie.Need-returns Inv-loop μ-loop

@@ -47,9 +47,11 @@ loop-less c = search needs
 
 loop-again : tie.Need-loop-again Inv-loop μ-loop
 loop-again c =
-    let e : c .before .before .loop .c - 1 + 1 ≡ c .before .before .loop .c = omega arith in
-    (omega arith, mask-next _ _ _ _ _ e (c .before .before .loop .inv .0) (c .before .before .loop .inv .1)
-    (c .one-if .ensures .0))
+    let e : c .before .before .loop .c - 1 + 1 ≡ c .before .before .loop .c = omega arith in (
+      omega arith,
+      mask-next _ _ _ _ _ e (c .before .before .loop .inv .0) (c .before .before .loop .inv .1)
+          (c .one-if .ensures .0),
+    )
 
 returns : tie.Need-returns Inv-loop μ-loop
 unfolding presentOf

@@ -58,7 +58,7 @@ returns-5 c =
     let s = c .before .before .before .before .args .system in
     let e = c .before .before .before .whole .ensures in
     ⊎-elim (λ w. ranges-run _ 0 9 refl _ s e zero-le (w .taken))
-        (λ w. ranges-19 _ refl _ s e (w .3 .left) (c .before .before .match .rest .1)) (c .before .if1 .came)
+    (λ w. ranges-19 _ refl _ s e (w .3 .left) (c .before .before .match .rest .1)) (c .before .if1 .came)
 
 pub ranges-of-spec : {M : Type 1} → statement M
 ranges-of-spec =

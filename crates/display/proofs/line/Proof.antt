@@ -18,8 +18,13 @@ put-word-requires : tie.Need-put-word-requires
 put-word-requires c κs =
     let s = c .before .before .before .before in
     let p = c .before .before .put-fields .ensures in
-    omega (arith, c .before .put-word-arg .given .0 .1, p .0 .ended, p .1,
-        length-append (joined (fieldsOf (s .args .answer))) (NEWLINE ∷ []))
+    omega (
+      arith,
+      c .before .put-word-arg .given .0 .1,
+      p .0 .ended,
+      p .1,
+      length-append (joined (fieldsOf (s .args .answer))) (NEWLINE ∷ []),
+    )
 
 returns : tie.Need-returns
 returns c =

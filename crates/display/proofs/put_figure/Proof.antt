@@ -25,8 +25,13 @@ put-digits-requires c κs =
     let s = c .before .before .before .before .before .before .before in
     let t = c .before .before .before .before in
     let e = below-zero (s .args .figure) (s .fits .figure) (c .size .result) (c .size .ensures) (t .if1 .taken) in
-    omega (arith, t .before .put-byte .ensures .ended, c .before .before .put-byte2 .ensures .ended, ap length e,
-        s .pre)
+    omega (
+      arith,
+      t .before .put-byte .ensures .ended,
+      c .before .before .put-byte2 .ensures .ended,
+      ap length e,
+      s .pre,
+    )
 
 returns : tie.Need-returns
 returns c =

@@ -41,9 +41,12 @@ loop-again : tie.Need-loop-again Inv-loop μ-loop
 loop-again c =
     let a = c .before .before .before .args in
     let l = c .before .before .loop in
-    let h : l .i < length (a .word .now) = omega arith in
-    (omega arith, length-set (l .buffer) (a .at + l .i) _ ∙ l .inv .1, run-next (l .buffer) (a .word .now) (a .at)
-    (l .i) h ∙ l .inv .2)
+    let h : l .i < length (a .word .now) = omega arith in (
+      omega arith,
+      length-set (l .buffer) (a .at + l .i) _ ∙ l .inv .1,
+      run-next (l .buffer) (a .word .now) (a .at)
+          (l .i) h ∙ l .inv .2,
+    )
 
 add-result : tie.Need-add-result Inv-loop μ-loop
 add-result c = search needs

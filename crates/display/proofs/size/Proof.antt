@@ -19,7 +19,7 @@ flipped : (z : ℤ) → ltZ z (pos 0) ≡ true → neg 1 -ℤ z ≡ pos (mag z)
 flipped (pos n) h = absurd (subst (λ (b : Bool). T b → ⊥) (sym (le-ltb n 0 (omega arith)) ∙ h) (λ x. x) tt)
 flipped (negsuc k) h =
     ap (λ (b : Bool). cond b (negsuc (1 - suc (suc k))) (pos (suc k - 1))) (le-ltb (suc k) 1 (omega arith))
-        ∙ ap pos (omega arith)
+    ∙ ap pos (omega arith)
 
 sign : (c : tie.Then1) → ltZ (c .before .args .n) (pos 0) ≡ true
 sign c = subst (λ (z : ℤ). ltZ z (pos 0) ≡ true) (toZ-ofZ w64 (c .before .args .n) (c .before .fits .n)) (c .if1 .taken)
@@ -27,7 +27,7 @@ sign c = subst (λ (z : ℤ). ltZ z (pos 0) ≡ true) (toZ-ofZ w64 (c .before .a
 value : (c : tie.Then1) → neg 1 -ℤ toZ w64 (ofZ w64 (c .before .args .n)) ≡ pos (mag (c .before .args .n))
 value c =
     ap (λ (z : ℤ). neg 1 -ℤ z) (toZ-ofZ w64 (c .before .args .n) (c .before .fits .n))
-        ∙ flipped (c .before .args .n) (sign c)
+    ∙ flipped (c .before .args .n) (sign c)
 
 sub-result : tie.Need-sub-result
 sub-result c = subst (SFits w64) (sym (value c)) (record { sfits = c .before .fits .n .sfits })
@@ -44,7 +44,7 @@ cast-result c =
 add-result : tie.Need-add-result
 add-result c =
     subst (λ (z : ℤ). Fits w64 (natAbs z + 1)) (sym (read c))
-        (record { fits = omega (arith, c .before .fits .n .sfits) })
+    (record { fits = omega (arith, c .before .fits .n .sfits) })
 
 at-least : (c : tie.Else1) → ltZ (c .before .args .n) (pos 0) ≡ false
 at-least c =

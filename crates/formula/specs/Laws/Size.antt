@@ -59,6 +59,14 @@ worked-is a n1 n2 d = refl
 pub inner-le : (a : ℕ → ℤ) (n d : ℕ) → n ≤ d → sumAbs (coefs (innerOf a n d) 0 8) ≤ sumAbs (coefs a 0 20)
 unfolding innerOf coefs sumAbs
 inner-le a n d h =
-    omega (arith, horner-le n d (coefs a 0 7) h, horner-le n d (coefs a 7 4) h, horner-le n d (coefs a 11 3) h,
-    horner-le n d (coefs a 14 2) h, horner-le n d (coefs a 16 1) h, horner-le n d (coefs a 17 1) h,
-    horner-le n d (coefs a 18 1) h, horner-le n d (coefs a 19 1) h)
+    omega (
+      arith,
+      horner-le n d (coefs a 0 7) h,
+      horner-le n d (coefs a 7 4) h,
+      horner-le n d (coefs a 11 3) h,
+      horner-le n d (coefs a 14 2) h,
+      horner-le n d (coefs a 16 1) h,
+      horner-le n d (coefs a 17 1) h,
+      horner-le n d (coefs a 18 1) h,
+      horner-le n d (coefs a 19 1) h,
+    )

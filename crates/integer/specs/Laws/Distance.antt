@@ -35,8 +35,11 @@ pub within-scaled : {w : ℤ} {f : Fraction} {u : ℕ} (p : ℕ) → 0 < p → W
 within-scaled {w} {f} {u} p p>0 h = record {
   positive = N.mul-pos (h .positive) p>0;
   near =
-      rw (scaled w (f .num) (pos (f .den)) (pos p), natAbs-* (w *ℤ pos (f .den) -ℤ f .num) (pos p),
-          ← N.mul-assoc u (f .den) p)
+      rw (
+        scaled w (f .num) (pos (f .den)) (pos p),
+        natAbs-* (w *ℤ pos (f .den) -ℤ f .num) (pos p),
+        ← N.mul-assoc u (f .den) p,
+      )
       (N.mul-lt-mul-of-pos-right (h .near) p>0);
 }
 
@@ -57,8 +60,10 @@ close-plus {w} {w′} {f} {g} {u} {u′} h h′ = record {
       rw (apart w w′ (f .num) (g .num) (pos (f .den)) (pos (g .den)), ← both-units u u′ (f .den) (g .den))
       (N.le-trans (natAbs-+ ((w *ℤ pos (f .den) -ℤ f .num) *ℤ pos (g .den))
       ((w′ *ℤ pos (g .den) -ℤ g .num) *ℤ pos (f .den)))
-      (rw (natAbs-* (w *ℤ pos (f .den) -ℤ f .num) (pos (g .den)),
-      natAbs-* (w′ *ℤ pos (g .den) -ℤ g .num) (pos (f .den)))
+      (rw (
+        natAbs-* (w *ℤ pos (f .den) -ℤ f .num) (pos (g .den)),
+        natAbs-* (w′ *ℤ pos (g .den) -ℤ g .num) (pos (f .den)),
+      )
       (N.add-le-add (N.mul-le-mul-right (g .den) (h .near)) (N.mul-le-mul-right (f .den) (h′ .near)))));
 }
 
@@ -70,8 +75,10 @@ within-plus {w} {w′} {f} {g} {u} {u′} h h′ = record {
       rw (apart w w′ (f .num) (g .num) (pos (f .den)) (pos (g .den)), ← both-units u u′ (f .den) (g .den))
       (N.lt-of-le-of-lt (natAbs-+ ((w *ℤ pos (f .den) -ℤ f .num) *ℤ pos (g .den))
       ((w′ *ℤ pos (g .den) -ℤ g .num) *ℤ pos (f .den)))
-      (rw (natAbs-* (w *ℤ pos (f .den) -ℤ f .num) (pos (g .den)),
-      natAbs-* (w′ *ℤ pos (g .den) -ℤ g .num) (pos (f .den)))
+      (rw (
+        natAbs-* (w *ℤ pos (f .den) -ℤ f .num) (pos (g .den)),
+        natAbs-* (w′ *ℤ pos (g .den) -ℤ g .num) (pos (f .den)),
+      )
       (N.add-lt-add-of-lt-of-le (N.mul-lt-mul-of-pos-right (h .near) (h′ .positive))
       (N.mul-le-mul-right (f .den) (h′ .near)))));
 }
@@ -103,8 +110,11 @@ pub close-times : {w : ℤ} {f : Fraction} {u : ℕ} (p : ℕ) → Close w f u �
 close-times {w} {f} {u} p h = record {
   positive = h .positive;
   near =
-      rw (taken w (f .num) (pos (f .den)) (pos p), natAbs-* (w *ℤ pos (f .den) -ℤ f .num) (pos p),
-          ← more-units u (f .den) p)
+      rw (
+        taken w (f .num) (pos (f .den)) (pos p),
+        natAbs-* (w *ℤ pos (f .den) -ℤ f .num) (pos p),
+        ← more-units u (f .den) p,
+      )
       (N.mul-le-mul-right p (h .near));
 }
 
@@ -114,8 +124,11 @@ pub within-times : {w : ℤ} {f : Fraction} {u : ℕ} (p : ℕ) → 0 < p → Wi
 within-times {w} {f} {u} p p>0 h = record {
   positive = h .positive;
   near =
-      rw (taken w (f .num) (pos (f .den)) (pos p), natAbs-* (w *ℤ pos (f .den) -ℤ f .num) (pos p),
-          ← more-units u (f .den) p)
+      rw (
+        taken w (f .num) (pos (f .den)) (pos p),
+        natAbs-* (w *ℤ pos (f .den) -ℤ f .num) (pos p),
+        ← more-units u (f .den) p,
+      )
       (N.mul-lt-mul-of-pos-right (h .near) p>0);
 }
 
@@ -138,8 +151,10 @@ pub within-over : {w : ℤ} {f : Fraction} {u : ℕ} (d : ℕ) → 0 < d → Clo
 within-over {w} {f} {u} d d>0 h = record {
   positive = N.mul-pos (h .positive) d>0;
   near =
-      rw (split w (quotZ w (pos d)) (pos d) (remZ w (pos d)) (f .num) (pos (f .den)) (quot-is w d),
-          ← one-more u (f .den) d)
+      rw (
+        split w (quotZ w (pos d)) (pos d) (remZ w (pos d)) (f .num) (pos (f .den)) (quot-is w d),
+        ← one-more u (f .den) d,
+      )
       (N.lt-of-le-of-lt (natAbs-- (w *ℤ pos (f .den) -ℤ f .num) (remZ w (pos d) *ℤ pos (f .den)))
       (rw (natAbs-* (remZ w (pos d)) (pos (f .den)))
       (N.add-lt-add-of-le-of-lt (h .near) (N.mul-lt-mul-of-pos-right (rem-lt w d>0) (h .positive)))));

@@ -179,7 +179,7 @@ module _ (ρ : ℕ → ℤ) where
   prod-is none q = sym (zero-*ℤ (poly q))
   prod-is (term c m p) q =
       plus-is (scale c m q) (prod p q) ∙ ap₂ _+ℤ_ (scale-is c m q) (prod-is p q)
-          ∙ sym (distr (c *ℤ mono m) (poly p) (poly q))
+      ∙ sym (distr (c *ℤ mono m) (poly p) (poly q))
 
   norm-is : (e : E) → poly (norm e) ≡ ⟦_⟧ e
   unfolding poly mono

@@ -39,7 +39,7 @@ loop-again : tie.Need-loop-again Inv-loop μ-loop
 loop-again c =
     let b = c .before .before .before .before in
     butane-next _ _ _ _ _ (c .before .before .before .loop-test .taken) (c .before .factor .ensures)
-        (c .weighted .ensures) (b .loop .inv)
+    (c .weighted .ensures) (b .loop .inv)
 
 returns : tie.Need-returns Inv-loop μ-loop
 returns c = butane-all _ _ _ (c .loop-test .left) (c .before .loop .inv)

@@ -53,8 +53,8 @@ loop-again : tie.Need-loop-again Inv-loop μ-loop
 loop-again c =
     let b = c .before .before .before in
     distributing-next COMPONENTS MILLION (b .before .args .missing) (b .before .args .quotients)
-        (b .before .args .remainders) (b .loop .m) (b .loop .q) (b .loop .r) (c .greatest .result) (omega arith)
-        (c .greatest .ensures .1) (c .greatest .ensures .0) (b .loop .inv)
+    (b .before .args .remainders) (b .loop .m) (b .loop .q) (b .loop .r) (c .greatest .result) (omega arith)
+    (c .greatest .ensures .1) (c .greatest .ensures .0) (b .loop .inv)
 
 returns : tie.Need-returns Inv-loop μ-loop
 returns c =

@@ -40,9 +40,12 @@ returns c =
     let s = c .before .before .before in
     let t = s .before .before in
     let a = t .before .args .a .now in
-    let e : s .sum .result ≡ tenthsTotal a = omega (arith, s .sum .ensures .0, ap totalOf (t .tenths .ensures .0)) in
-    (refl, c .before .before .scale .ensures ∙ ap scaledOf (t .tenths .ensures .0), c .methane-share .ensures .0
-    ∙ ap (λ n. methaneShare n (amountOfCode a 11)) e)
+    let e : s .sum .result ≡ tenthsTotal a = omega (arith, s .sum .ensures .0, ap totalOf (t .tenths .ensures .0)) in (
+      refl,
+      c .before .before .scale .ensures ∙ ap scaledOf (t .tenths .ensures .0),
+      c .methane-share .ensures .0
+          ∙ ap (λ n. methaneShare n (amountOfCode a 11)) e,
+    )
 
 pub in-range-spec : {M : Type 1} → statement M
 in-range-spec =

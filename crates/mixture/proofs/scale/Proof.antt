@@ -25,9 +25,11 @@ array-read-amount c = search needs
 
 quotient-requires : tie.Need-quotient-requires Inv-loop μ-loop
 quotient-requires c κs =
-    let b = c .before in
-    (b .before .pre .0 .small (b .loop .i),
-    omega (arith, sum-has (b .before .args .t1) (b .loop .i), b .before .pre .1), b .before .pre .2)
+    let b = c .before in (
+      b .before .pre .0 .small (b .loop .i),
+      omega (arith, sum-has (b .before .args .t1) (b .loop .i), b .before .pre .1),
+      b .before .pre .2,
+    )
 
 mul-q : tie.Need-mul-q Inv-loop μ-loop
 mul-q c = omega (arith, c .before .before .loop .inv .quotients .most)
@@ -50,7 +52,7 @@ sub-missing : tie.Need-sub-missing Inv-loop μ-loop
 sub-missing c =
     let b = c .before .before .before in
     share-left _ _ _ _ _ _ (b .before .pre .0) (b .before .pre .1) (b .before .pre .2) (b .loop .inv)
-        (c .before .before .loop-test .taken) _ (c .before .quotient .ensures)
+    (c .before .before .loop-test .taken) _ (c .before .quotient .ensures)
 
 add-i : tie.Need-add-i Inv-loop μ-loop
 add-i c = search needs
@@ -62,19 +64,19 @@ loop-again : tie.Need-loop-again Inv-loop μ-loop
 loop-again c =
     let b = c .before .before .before in
     shared-next _ _ _ _ _ _ (b .before .pre .0) (b .before .pre .1) (b .before .pre .2) (b .loop .inv)
-        (c .before .before .loop-test .taken) _ (c .before .quotient .ensures) _ (c .remainder .ensures)
+    (c .before .before .loop-test .taken) _ (c .before .quotient .ensures) _ (c .remainder .ensures)
 
 distribute-requires : tie.Need-distribute-requires Inv-loop μ-loop
 distribute-requires c κs =
     let b = c .before in
     shared-fits _ _ _ _ _ _ (b .before .pre .0) (b .before .pre .1) (b .before .pre .2) (b .loop .inv)
-        (c .loop-test .left)
+    (c .loop-test .left)
 
 returns : tie.Need-returns Inv-loop μ-loop
 returns c =
     let b = c .before .before in
     shared-all _ _ _ _ _ _ (b .before .pre .0) (b .before .pre .1) (b .before .pre .2) (b .loop .inv)
-        (c .before .loop-test .left) _ (c .distribute .ensures)
+    (c .before .loop-test .left) _ (c .distribute .ensures)
 
 pub scale-spec : {M : Type 1} → statement M
 scale-spec =

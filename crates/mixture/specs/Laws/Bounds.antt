@@ -25,7 +25,7 @@ unfolding methaneShare
 share-greatest t c h =
     let d = t + 10 * c in
     let l : (2 * (MILLION * t) + d) / (2 * d) < MILLION + 1 = div-lt-iff-lt-mul {k = 2 * d} (omega arith) .1
-        (omega arith) in
+    (omega arith) in
     omega arith
 
 -- where the carbon dioxide is at most 1000000 times the rest
@@ -116,7 +116,7 @@ module _ (a : List ℕ) (l : length a ≡ CODES) (h : analysisRefusal a ≡ 0) w
       go (suc (suc zero)) k w = times-ten 100 (amountOfCode a 3) (omega arith) (w .propane-least)
       go (suc (suc (suc zero))) k w =
           butane-or-absent (amountOfCode a 4) (amountOfCode a 5) (amountOfCode a 6) (amountOfCode a 7)
-              (amountOfCode a 8) (amountOfCode a 10)
+          (amountOfCode a 8) (amountOfCode a 10)
           (w .i-butane-least) (w .n-butane-least) (w .neo-pentane-least) (w .i-pentane-least) (w .n-pentane-least)
           (w .hexanes-least)
       go (suc (suc (suc (suc zero)))) k w = times-ten 10 (amountOfCode a 15) (omega arith) (w .hydrogen-least)

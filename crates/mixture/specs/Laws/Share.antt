@@ -37,8 +37,12 @@ fair-more : (t x q r : ℕ) → 0 < r → Fair t x q r → Fair t x (q + 1) 0
 fair-more t x q r h f =
     let e = f .exact h in
     let l = f .small in
-    record { near = record { above = omega arith; below = omega arith }; exact = λ z. absurd
-        (not-suc-le-zero z); small = omega arith }
+    record {
+      near = record { above = omega arith; below = omega arith };
+      exact = λ z. absurd
+          (not-suc-le-zero z);
+      small = omega arith;
+    }
 
 sum-zero : (l : List ℕ) → ((i : ℕ) → i < length l → getD l i 0 ≤ 0) → totalOf l ≡ 0
 sum-zero [] h = refl
@@ -94,7 +98,7 @@ module _ (xs : List ℕ) (h : 0 < totalOf xs) where
   unfolding scaledOf
   scaled-near =
       distributed-fair (totalOf xs) xs h (missingOf (quotientsOf xs (totalOf xs))) (quotientsOf xs (totalOf xs))
-          (remaindersOf xs (totalOf xs))
+      (remaindersOf xs (totalOf xs))
       (length-map xs (quotientOf (totalOf xs)))
       (length-map xs (remainderOf (totalOf xs)))
       (omega (arith, remainders-sum xs h))

@@ -16,7 +16,8 @@ use Rattle.analysis.specs.Check as analysis
 use Rattle.analysis.specs.Laws.Ranges.{NoneOr, total-go, total-end}
 use Rattle.mixture.specs.Simplification.{simplifiedOf}
 use Rattle.mixture.specs.Inert.{inertFirst}
-use Rattle.mixture.specs.Laws.Bounds.{LEAST_PARTS, simplified-length, simplified-total, simplified-or-absent, inert-greatest, tenths-positive, simplified-methane}
+use Rattle.mixture.specs.Laws.Bounds.{LEAST_PARTS, simplified-length, simplified-total, simplified-or-absent}
+use Rattle.mixture.specs.Laws.Bounds.{inert-greatest, tenths-positive, simplified-methane}
 use Rattle.systems.specs.Systems.{COMPONENTS, hasOf}
 use Rattle.systems.specs.Choice.{countTo, presentAt, presentOf}
 use Rattle.systems.specs.Laws.Presence.{present-is, Supply, supply}
@@ -112,5 +113,5 @@ module _ (a : List ℕ) (long : length a ≡ CODES) (on : RatedOn a) where
   pub input : SearchInput (mixOf a) (systemsFor a) (countFor a) FIRST_LEVEL
   input =
       enough-parts (mixOf a) (systemsFor a) (countFor a) FIRST_LEVEL (omega arith) (omega (arith, million))
-          (chosen a on)
+      (chosen a on)
       supplied

@@ -27,7 +27,7 @@ returns-2 : tie.Need-returns-2
 returns-2 c = let s = c .before .before .before in
     let e = c .before .rate-split .ensures .0 ∙ split-any _ _ _ 0 (s .pre) in
     ap₂ (λ (x : Answer) (y : Split). outcome x y) e (c .no-split .ensures)
-        ∙ sym (simp (ne-eqb _ _ (c .before .before .if1 .left)))
+    ∙ sym (simp (ne-eqb _ _ (c .before .before .if1 .left)))
 
 pub rate-read-spec : {M : Type 1} → statement M
 rate-read-spec =

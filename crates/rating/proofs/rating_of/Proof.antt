@@ -21,15 +21,15 @@ returns : tie.Need-returns
 returns c =
     let b = c .before .before .before .before in
     let is = answered-is _ _ _ _ _ _ (b .before .pre .0) _ (b .proposed .ensures) _
-        (c .before .before .before .answer-of .ensures) in
+    (c .before .before .before .answer-of .ensures) in
     rating-value _ _ _ _ _ _ (b .before .pre .0) (b .before .pre .1) _ is (omega arith) _ _ _
-        (c .before .answer .given .1)
+    (c .before .answer .given .1)
 
 returns-2 : tie.Need-returns-2
 returns-2 c =
     let b = c .before .before .before in
     let is = answered-is _ _ _ _ _ _ (b .before .pre .0) _ (b .proposed .ensures) _
-        (c .before .before .answer-of .ensures) in
+    (c .before .before .answer-of .ensures) in
     absurd (not-refused _ _ _ _ _ _ (b .before .pre .1) _ is (omega arith) _ _ (c .enum-told .given .1))
 
 pub rating-of-spec : {M : Type 1} → statement M

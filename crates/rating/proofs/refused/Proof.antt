@@ -10,7 +10,9 @@ no-split-requires c κs = search needs
 
 returns : tie.Need-returns
 returns c =
-    λ i. record { answer = Refused (c .before .args .number) (c .before .args .place); split = c .no-split .ensures i
+    λ i. record {
+      answer = Refused (c .before .args .number) (c .before .args .place);
+      split = c .no-split .ensures i;
     }
 
 pub refused-spec : {M : Type 1} → statement M

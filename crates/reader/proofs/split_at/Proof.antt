@@ -57,14 +57,14 @@ loop-again c =
     let a = c .before .before .before .before .before .before .args in
     let l = c .before .before .before .before .loop in
     columns-next (a .s .now) (a .at) (a .m) (l .systems) (l .codes) (l .amounts) (l .i) (l .w) (l .inv)
-        (c .before .before .before .loop-test .taken) _ (c .amount-at .ensures)
+    (c .before .before .before .loop-test .taken) _ (c .amount-at .ensures)
 
 returns : tie.Need-returns Inv-loop μ-loop
 returns c =
     let a = c .before .before .before .args in
     let l = c .before .loop in
     columns-all (a .s .now) (a .at) (a .m) (l .systems) (l .codes) (l .amounts) (l .i) (l .w) (l .inv)
-        (c .loop-test .left) (c .before .before .before .pre .0) _ refl
+    (c .loop-test .left) (c .before .before .before .pre .0) _ refl
 
 pub split-at-spec : {M : Type 1} → statement M
 split-at-spec =

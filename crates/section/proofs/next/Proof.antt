@@ -155,16 +155,16 @@ module _ {M : Type 1} (𝓤 : URA M) (H : Heap 𝓤) (A : Atoms 𝓤) (W : Given
       (sep 𝓤 (SectionAt 𝓤 H A mem run .pre to) (sem 𝓤 H A Own))
   apart fits =
       qed W ((‵ (flft κ q) ⊛ ‵ ftrue)
-          ∷ ‵ (owns (B (κ, tt) ∷ u8 ∷ []) (d, (size, tt)) (mach ∷ [], (vint w8 size ∷ [], tt))) ∷ []) ∵
+      ∷ ‵ (owns (B (κ, tt) ∷ u8 ∷ []) (d, (size, tt)) (mach ∷ [], (vint w8 size ∷ [], tt))) ∷ []) ∵
       move ! (1 ∷ []) $ fsplit ! $ move ! (1 ∷ []) $ drop ! $ use1 W (‵ Own ⊛ ‵ Own)
-          (LL.copy D (T′.the-copy α) 𝓤 H A W .twice d (mach ∷ [])) $ split ! $
+      (LL.copy D (T′.the-copy α) 𝓤 H A W .twice d (mach ∷ [])) $ split ! $
       use1 W (given (mach ∷ [] ≡ mach ∷ []) (‵ (all-own (D .parts) L vd))) (own-open 𝓤 H A W D L vd mach) $ learn !
-          (λ _. use1 W (‵ (ownAt (D .parts) L 0 (d .sheet)) ⊛ ‵ (rest (D .parts) L 0 vd))
-          (own-out 𝓤 H A W (D .parts) L 0 vd) $ split ! $
+      (λ _. use1 W (‵ (ownAt (D .parts) L 0 (d .sheet)) ⊛ ‵ (rest (D .parts) L 0 vd))
+      (own-out 𝓤 H A W (D .parts) L 0 vd) $ split ! $
       -- [what the sheet owns; what the offset owns; what the walker owns; the token]
       move ! (1 ∷ []) $ drop ! $ nothing ! $ owned ! u8 (Is u8) (uint-makes 𝓤 H A W w8) size _
-          (refl, small) $ fjoin ! $ owned ! usize (Is usize) (uint-makes 𝓤 H A W w64) (d .at) _
-          (refl, fits) $ fjoin ! $ move ! (1 ∷ 0 ∷ []) $ fjoin ! $
+      (refl, small) $ fjoin ! $ owned ! usize (Is usize) (uint-makes 𝓤 H A W w64) (d .at) _
+      (refl, fits) $ fjoin ! $ move ! (1 ∷ 0 ∷ []) $ fjoin ! $
       move ! (2 ∷ 0 ∷ []) $ use2 W (raw (SectionAt 𝓤 H A mem run .pre to)) asked $ frame ! $ done !)
 
   -- of a callee's `ensured`, the clause alone: it has no `&mut`, so what is said of last values is dropped
@@ -182,7 +182,7 @@ module _ {M : Type 1} (𝓤 : URA M) (H : Heap 𝓤) (A : Atoms 𝓤) (W : Given
       → ent 𝓤 (emp 𝓤) (StandsAfter 𝓤 H A mem run .pre (to-after r u))
   goes-after fits r u is =
       qed W [] ∵ nothing ! $ owned ! S.the-row (Is S.the-row) (EL.makes S.the-type S′.the-plain 𝓤 H A) r _ is $ fjoin
-          ! $ owned ! usize (Is usize) (uint-makes 𝓤 H A W w64) (d .at) _ (refl, fits) $ fjoin ! $
+      ! $ owned ! usize (Is usize) (uint-makes 𝓤 H A W w64) (d .at) _ (refl, fits) $ fjoin ! $
       nothing ! $ join ! $ frame ! $ done !
 
   after-said : (r : Section) (m : ℕ)
@@ -201,19 +201,21 @@ module _ {M : Type 1} (𝓤 : URA M) (H : Heap 𝓤) (A : Atoms 𝓤) (W : Given
   exits r u m is fits e f =
       qed W ((‵ (flft κ q) ⊛ ‵ ftrue) ∷ ‵ Own ∷ []) ∵
       suffices ! _ (ends-at 𝓤 H A next.ended stayed (next.clauses 𝓤 H A mem run) W
-          (((κ, tt), (q, tt), tt, (d, (size, tt)), (mach ∷ [], (vint w8 size ∷ [], tt))), tt) (stepped u m) (made r m)
-          (tt, (tt, tt)) (tt, (tt, tt))) $
-      says ! (λ i. record { section = e i;
-          walker = record { sheet = d .sheet; at = (f ∙ ap (standsAfter (d .at)) e) i } }) $
+      (((κ, tt), (q, tt), tt, (d, (size, tt)), (mach ∷ [], (vint w8 size ∷ [], tt))), tt) (stepped u m) (made r m)
+      (tt, (tt, tt)) (tt, (tt, tt))) $
+      says ! (λ i. record {
+        section = e i;
+        walker = record { sheet = d .sheet; at = (f ∙ ap (standsAfter (d .at)) e) i };
+      }) $
       frame ! $ use1 W (‵ Own ⊛ ‵ Own) (LL.copy D (T′.the-copy α) 𝓤 H A W .twice d (mach ∷ [])) $ split ! $
       nothing ! $ owned ! u8 (Is u8) (uint-makes 𝓤 H A W w8) size _ (refl, small) $ fjoin ! $ move !
-          (1 ∷ 0 ∷ []) $ fjoin ! $ frame ! $
+      (1 ∷ 0 ∷ []) $ fjoin ! $ frame ! $
       -- [what the walker owns]: the new offset's facts take the place of the old one's, and the section's come before
       -- them
       owned ! usize (Is usize) (uint-makes 𝓤 H A W w64) m _ (refl, fits) $ move ! (1 ∷ 0 ∷ []) $ use2 W
-          (‵ (B (κ, tt) .own (moved m) (stood m ∷ []))) (own-put 𝓤 H A W D L 1 vd m mach) $
+      (‵ (B (κ, tt) .own (moved m) (stood m ∷ []))) (own-put 𝓤 H A W D L 1 vd m mach) $
       nothing ! $ move ! (1 ∷ 0 ∷ []) $ fjoin ! $ owned ! S.the-row (Is S.the-row)
-          (EL.makes S.the-type S′.the-plain 𝓤 H A) r _ is $ fjoin ! $
+      (EL.makes S.the-type S′.the-plain 𝓤 H A) r _ is $ fjoin ! $
       by ! (makes 𝓤 H A W (S.the-row ∷ B (κ, tt) ∷ []) (both r m) (u ∷ [], (stood m ∷ [], tt)))
 
   module _ (C : Calls 𝓤 H) (Λ : Loops 𝓤 H) (fm : FmC 𝓤 H (W .laws) C)
@@ -226,66 +228,67 @@ module _ {M : Type 1} (𝓤 : URA M) (H : Heap 𝓤) (A : Atoms 𝓤) (W : Given
         let wt = LL.lawful D L 𝓤 H A W .typed d (mach ∷ []) p .0 in
         let fields = LL.owed D L d (mach ∷ []) p in
         qed W (raw (onEntry 𝓤 H A next.signature (κ, tt) (q, tt) (d, (size, tt)) (mach ∷ [], (vint w8 size ∷ [], tt)))
-            ∷ []) ∵ enter ! C Λ code.function (mach ∷ vint w8 size ∷ []) _ $
+        ∷ []) ∵ enter ! C Λ code.function (mach ∷ vint w8 size ∷ []) _ $
         alloc1 ! (λ l₀. alloc1 ! (λ l₁. alloc1 !
-            (λ l₂. alloc1 ! (λ l₃. alloc1 !
-            (λ l₄. alloc1 ! (λ l₅. alloc1 !
-            (λ l₆. alloc1 ! (λ l₇. alloc1 ! (λ l₈. alloc1 ! (λ l₉. alloc0 ! $ params1 ! $
+        (λ l₂. alloc1 ! (λ l₃. alloc1 !
+        (λ l₄. alloc1 ! (λ l₅. alloc1 !
+        (λ l₆. alloc1 ! (λ l₇. alloc1 ! (λ l₈. alloc1 ! (λ l₉. alloc0 ! $ params1 ! $
         pass1 ! (init ! 16 refl wt) $ pass1 ! (init ! 14 refl (tt, record { fits = small })) $ pass0 ! $
         -- [_9; …; _8; …; _7; …; _6; …; _5; …; _4; …; _3; …; _2; …; _1; …; room for _0; …; what the function has at
         -- entry]
         assigns ! (of-opd ! (load ! (from ! (fld ! refl (stop !))) (look-in ! 16 (sub ! 0 refl (whole !)))))
-            (from ! (stop !)) (init ! 8 refl (tt, wt .1 .0)) $
+        (from ! (stop !)) (init ! 8 refl (tt, wt .1 .0)) $
         assigns ! (of-opd ! (load ! (from ! (fld ! refl (stop !))) (look-in ! 16 (sub ! 1 refl (whole !)))))
-            (from ! (stop !)) (init ! 6 refl (tt, wt .1 .1 .0)) $
+        (from ! (stop !)) (init ! 6 refl (tt, wt .1 .1 .0)) $
         -- `section_at`
         move ! (20 ∷ []) $ use1 W (raw (SectionAt 𝓤 H A mem run .pre to) ⊛ ‵ Own) (apart (wt .1 .1 .0 .fits)) $ split
-            ! $
+        ! $
         calls-at ! fm (SectionAt 𝓤 H A mem run) known to
-            (and-then ! (load ! (from ! (stop !)) (look ! 10 refl))
-            (and-then ! (load ! (from ! (stop !)) (look ! 8 refl))
-            (and-then ! (load ! (from ! (stop !)) (look ! 16 refl)) (no-more !)))) (λ u.
+        (and-then ! (load ! (from ! (stop !)) (look ! 10 refl))
+        (and-then ! (load ! (from ! (stop !)) (look ! 8 refl))
+        (and-then ! (load ! (from ! (stop !)) (look ! 16 refl)) (no-more !)))) (λ u.
         use1 W (later (some (λ (r : Section). ((‵ (flft κ q) ⊛ ‵ ftrue) ⊛ ‵ (S.the-row .own r (u ∷ []))) ⊛ raw
-            (ensured 𝓤 H A callee.ended (callee.clauses 𝓤 H A mem run) (κ, tt) (d .sheet, (d .at, (size, tt))) tt
-            r)))) (id⊢ 𝓤 _) $ await ! tt $ pick ! (λ r.
+        (ensured 𝓤 H A callee.ended (callee.clauses 𝓤 H A mem run) (κ, tt) (d .sheet, (d .at, (size, tt))) tt
+        r)))) (id⊢ 𝓤 _) $ await ! tt $ pick ! (λ r.
         split ! $ move ! (1 ∷ []) $ use1 W (raw (fact 𝓤 (r ≡ found))) (said r) $ heard ! (r ≡ found)
-            (λ e. split ! $ move ! (1 ∷ []) $
+        (λ e. split ! $ move ! (1 ∷ []) $
         facts ! S.the-row (Is S.the-row) (shows 𝓤 H A S.the-row) r (u ∷ []) (λ is.
         -- [the token; what the walker owns; _9; …; _8; …; _7; …; _6; …; _5; …; _4; …; room for _3; …; _2; …; _1; …;
         -- room for _0; …]
         land ! (from ! (stop !)) (init ! 14 refl (EL.lawful S.the-type S′.the-laws 𝓤 H A W tt .typed r _ is .0)) $
         assigns ! (of-opd ! (load ! (from ! (fld ! refl (stop !))) (look-in ! 18 (sub ! 1 refl (whole !)))))
-            (from ! (stop !)) (init ! 6 refl (tt, wt .1 .1 .0)) $
+        (from ! (stop !)) (init ! 6 refl (tt, wt .1 .1 .0)) $
         -- `stands_after`
         use0 W (raw (StandsAfter 𝓤 H A mem run .pre (to-after r u))) (goes-after (wt .1 .1 .0 .fits) r u is) $
         calls-at ! fm (StandsAfter 𝓤 H A mem run) known-after (to-after r u)
-            (and-then ! (load ! (from ! (stop !)) (look ! 7 refl))
-            (and-then ! (load ! (from ! (stop !)) (look ! 15 refl)) (no-more !))) (λ w.
+        (and-then ! (load ! (from ! (stop !)) (look ! 7 refl))
+        (and-then ! (load ! (from ! (stop !)) (look ! 15 refl)) (no-more !))) (λ w.
         use1 W (later (some (λ (m : ℕ). (‵ ftrue ⊛ ‵ (usize .own m (w ∷ []))) ⊛ raw
-            (ensured 𝓤 H A after.ended (after.clauses 𝓤 H A mem run) tt (d .at, (r, tt)) tt m))))
-            (id⊢ 𝓤 _) $ await ! tt $ pick ! (λ m.
+        (ensured 𝓤 H A after.ended (after.clauses 𝓤 H A mem run) tt (d .at, (r, tt)) tt m))))
+        (id⊢ 𝓤 _) $ await ! tt $ pick ! (λ m.
         split ! $ move ! (1 ∷ []) $ use1 W (raw (fact 𝓤 (m ≡ standsAfter (d .at) r))) (after-said r m) $ heard !
-            (m ≡ standsAfter (d .at) r) (λ f. split ! $ drop ! $
+        (m ≡ standsAfter (d .at) r) (λ f. split ! $ drop ! $
         facts ! usize (Is usize) (shows 𝓤 H A usize) m (w ∷ []) (λ js.
         land ! (from ! (stop !)) (init ! 12 refl (uint-lawful 𝓤 H A W w64 .typed m _ js .0)) $ rewrite ! 12
-            (λ (x : Val). ‵ (fat fullShare (tyInt w64) l₄ 0 x)) (ap only (js .0)) refl $
+        (λ (x : Val). ‵ (fat fullShare (tyInt w64) l₄ 0 x)) (ap only (js .0)) refl $
         -- the walker is made, and the step
         assigns ! (of-opd ! (load ! (from ! (fld ! refl (stop !))) (look-in ! 18 (sub ! 0 refl (whole !)))))
-            (from ! (stop !)) (init ! 4 refl (tt, wt .1 .0)) $
+        (from ! (stop !)) (init ! 4 refl (tt, wt .1 .0)) $
         assigns ! (agg ! (and-then ! (load ! (from ! (stop !)) (look ! 4 refl))
-            (and-then ! (load ! (from ! (stop !)) (look ! 12 refl)) (no-more !)))) (from ! (stop !))
-            (init ! 2 refl (tt, (wt .1 .0, (record { fits = js .1 }, tt)))) $
+        (and-then ! (load ! (from ! (stop !)) (look ! 12 refl)) (no-more !)))) (from ! (stop !))
+        (init ! 2 refl (tt, (wt .1 .0, (record { fits = js .1 }, tt)))) $
         assigns ! (agg ! (and-then ! (load ! (from ! (stop !)) (look ! 14 refl))
-            (and-then ! (load ! (from ! (stop !)) (look ! 2 refl)) (no-more !)))) (from ! (stop !))
-        (init ! 20 refl (LL.lawful (P.the-type α) (P′.the-laws α) 𝓤 H A W .typed (made r m) (stepped u m ∷ [])
-        ((u ∷ [], (stood m ∷ [], tt)),
-        (refl, (is, (((v ∷ [], (vint w64 m ∷ [], tt)), (refl, (fields .0, ((refl, js .1), tt)))), tt)))) .0)) $
+        (and-then ! (load ! (from ! (stop !)) (look ! 2 refl)) (no-more !)))) (from ! (stop !))
+        (init ! 20 refl (LL.lawful (P.the-type α) (P′.the-laws α) 𝓤 H A W .typed (made r m) (stepped u m ∷ []) (
+          (u ∷ [], (stood m ∷ [], tt)),
+          (refl, (is, (((v ∷ [], (vint w64 m ∷ [], tt)), (refl, (fields .0, ((refl, js .1), tt)))), tt))),
+        ) .0)) $
         returns ! (look ! 20 refl) $ forget ! 2 refl $ forget ! 4 refl $ forget ! 6 refl $ forget ! 8 refl $ forget !
-            10 refl $ forget ! 12 refl $ forget ! 14 refl $ forget ! 16 refl $ forget ! 18 refl $ forget ! 20 refl $
+        10 refl $ forget ! 12 refl $ forget ! 14 refl $ forget ! 16 refl $ forget ! 18 refl $ forget ! 20 refl $
         move ! (20 ∷ 21 ∷ []) $ free1 ! $ move ! (18 ∷ 19 ∷ []) $ free1 ! $ move ! (16 ∷ 17 ∷ []) $ free1 ! $ move !
-            (14 ∷ 15 ∷ []) $ free1 ! $ move ! (12 ∷ 13 ∷ []) $ free1 ! $ move ! (10 ∷ 11 ∷ []) $ free1 ! $ move !
-            (8 ∷ 9 ∷ []) $ free1 ! $ move ! (6 ∷ 7 ∷ []) $ free1 ! $ move ! (4 ∷ 5 ∷ []) $ free1 ! $ move !
-            (2 ∷ 3 ∷ []) $ free1 ! $ free0 ! $
+        (14 ∷ 15 ∷ []) $ free1 ! $ move ! (12 ∷ 13 ∷ []) $ free1 ! $ move ! (10 ∷ 11 ∷ []) $ free1 ! $ move !
+        (8 ∷ 9 ∷ []) $ free1 ! $ move ! (6 ∷ 7 ∷ []) $ free1 ! $ move ! (4 ∷ 5 ∷ []) $ free1 ! $ move !
+        (2 ∷ 3 ∷ []) $ free1 ! $ free0 ! $
         by ! (exits r u m is (js .1) e f)))))))))))))))))))
 
 module _ {M : Type 1} (𝓤 : URA M) (H : Heap 𝓤) (A : Atoms 𝓤) (W : Given 𝓤 H A) (mem : Memory → SProp 𝓤)
@@ -307,8 +310,10 @@ next-meets : {M : Type 1} (𝓤 : URA M) (H : Heap 𝓤) (A : Atoms 𝓤) (W : G
     → Triple 𝓤 (𝓣 .C #section·stands-after) (StandsAfter 𝓤 H A mem run)
     → Meets 𝓤 H A next.signature (WpFn 𝓤 H (𝓣 .C) (𝓣 .Λ) code.function) (next.spec 𝓤 H A mem run)
 next-meets 𝓤 H A W mem run 𝓣 known known-after =
-    walk-meets 𝓤 H A next.ended stayed W (goes-none 𝓤 H A W 1 B yes (λ κs x f. refl),
-    (goes-none 𝓤 H A W 1 (λ _. u8) yes (λ κs x f. refl), tt)) (next.clauses 𝓤 H A mem run)
+    walk-meets 𝓤 H A next.ended stayed W (
+      goes-none 𝓤 H A W 1 B yes (λ κs x f. refl),
+      (goes-none 𝓤 H A W 1 (λ _. u8) yes (λ κs x f. refl), tt),
+    ) (next.clauses 𝓤 H A mem run)
     (WpFn 𝓤 H (𝓣 .C) (𝓣 .Λ) code.function) (WpFn-mono 𝓤 H (W .laws) 𝓣 code.function)
     (next-walks 𝓤 H A W mem run (𝓣 .C) (𝓣 .Λ) (fmOf 𝓤 H (W .laws) 𝓣) known known-after)
 

@@ -147,9 +147,9 @@ module _ {M : Type 1} (𝓤 : URA M) (H : Heap 𝓤) (A : Atoms 𝓤) (W : Given
       (sem 𝓤 H A (B κ .own (n .walker) (T′.lowered (n .walker) ∷ [])))
   inner n u =
       qed W (‵ (G κ .own n (u ∷ [])) ∷ []) ∵ use1 W
-          (given (u ∷ [] ≡ stepped n ∷ [])
-          (‵ (all-own (P.the-type (α κ) .parts) (P′.the-laws (α κ)) (n .section, (n .walker, tt)))))
-          (own-open 𝓤 H A W (P.the-type (α κ)) (P′.the-laws (α κ)) (n .section, (n .walker, tt)) u) $
+      (given (u ∷ [] ≡ stepped n ∷ [])
+      (‵ (all-own (P.the-type (α κ) .parts) (P′.the-laws (α κ)) (n .section, (n .walker, tt)))))
+      (own-open 𝓤 H A W (P.the-type (α κ)) (P′.the-laws (α κ)) (n .section, (n .walker, tt)) u) $
       learn ! (λ _. fsplit ! $ drop ! $ fsplit ! $ move ! (1 ∷ []) $ drop ! $ done !)
 
 module _ {M : Type 1} (𝓤 : URA M) (H : Heap 𝓤) (A : Atoms 𝓤) (W : Given 𝓤 H A) (mem : Memory → SProp 𝓤)
@@ -187,8 +187,8 @@ module _ {M : Type 1} (𝓤 : URA M) (H : Heap 𝓤) (A : Atoms 𝓤) (W : Given
       (Next 𝓤 H A mem run .pre (to-next w size))
   goes-next w size fits =
       qed W (‵ (B κ .own w (T′.lowered w ∷ [])) ∷ (‵ (flft κ q) ⊛ ‵ ftrue) ∷ []) ∵ nothing ! $ owned ! u8 (Is u8)
-          (uint-makes 𝓤 H A W w8) size _ (refl, fits) $ fjoin ! $ move ! (1 ∷ 0 ∷ []) $ fjoin ! $ move !
-          (1 ∷ 0 ∷ []) $ join ! $ frame ! $ done !
+      (uint-makes 𝓤 H A W w8) size _ (refl, fits) $ fjoin ! $ move ! (1 ∷ 0 ∷ []) $ fjoin ! $ move !
+      (1 ∷ 0 ∷ []) $ join ! $ frame ! $ done !
 
   -- of a callee's `ensured`, the clause alone: it has no `&mut`, so what is said of last values is dropped
   next-said : (w : Walker) (size : ℕ) (n : Step)
@@ -203,17 +203,17 @@ module _ {M : Type 1} (𝓤 : URA M) (H : Heap 𝓤) (A : Atoms 𝓤) (W : Given
       (sep 𝓤 (Next 𝓤 H A mem run .pre (to-next start one)) (sem 𝓤 H A Own))
   goes =
       qed W ((‵ (flft κ q) ⊛ ‵ ftrue)
-          ∷ ‵ (owns (ShrSlice (named 0) κ u8 ∷ u8 ∷ u8 ∷ []) (s, (one, (two, tt)))
-          (v ∷ [], (vint w8 one ∷ [], (vint w8 two ∷ [], tt)))) ∷ []) ∵
+      ∷ ‵ (owns (ShrSlice (named 0) κ u8 ∷ u8 ∷ u8 ∷ []) (s, (one, (two, tt)))
+      (v ∷ [], (vint w8 one ∷ [], (vint w8 two ∷ [], tt)))) ∷ []) ∵
       move ! (1 ∷ []) $ fsplit ! $ move ! (1 ∷ []) $ drop ! $ use1 W (‵ Own ⊛ ‵ Own)
-          (shr-slice-copy 𝓤 H A W (named 0) κ u8 .twice s (v ∷ [])) $ split ! $
+      (shr-slice-copy 𝓤 H A W (named 0) κ u8 .twice s (v ∷ [])) $ split ! $
       -- [what s owns; the same; the token]
       nothing ! $ owned ! usize (Is usize) (uint-makes 𝓤 H A W w64) 0 _ (refl, lit< tt) $ fjoin ! $ move !
-          (1 ∷ 0 ∷ []) $ fjoin ! $
+      (1 ∷ 0 ∷ []) $ fjoin ! $
       use1 W (‵ (B κ .own start (T′.lowered start ∷ [])))
-          (own-shut 𝓤 H A W (T.the-type (α κ)) (T′.the-laws (α κ)) (s, (0, tt))) $
+      (own-shut 𝓤 H A W (T.the-type (α κ)) (T′.the-laws (α κ)) (s, (0, tt))) $
       move ! (0 ∷ 2 ∷ []) $ use2 W (raw (Next 𝓤 H A mem run .pre (to-next start one))) (goes-next start one one-fits)
-          $ frame ! $ done !
+      $ frame ! $ done !
 
   -- the call of `left`
   abbrev to-left : Walker → Left 𝓤 H A mem run .Ghost
@@ -238,10 +238,10 @@ module _ {M : Type 1} (𝓤 : URA M) (H : Heap 𝓤) (A : Atoms 𝓤) (W : Given
   exits n₁ n₂ b w is e =
       qed W ((‵ (flft κ q) ⊛ ‵ ftrue) ∷ ‵ Own ∷ []) ∵
       suffices ! _ (ends-at 𝓤 H A over.ended stayed (over.clauses 𝓤 H A mem run) W
-          (((κ, tt), (q, tt), tt, (s, (one, (two, tt))), (v ∷ [], (vint w8 one ∷ [], (vint w8 two ∷ [], tt)))), tt)
-          (result n₁ n₂ w) (made n₁ n₂ b) (tt, (tt, (tt, tt))) (tt, (tt, (tt, tt)))) $ says ! e $
+      (((κ, tt), (q, tt), tt, (s, (one, (two, tt))), (v ∷ [], (vint w8 one ∷ [], (vint w8 two ∷ [], tt)))), tt)
+      (result n₁ n₂ w) (made n₁ n₂ b) (tt, (tt, (tt, tt))) (tt, (tt, (tt, tt)))) $ says ! e $
       frame ! $ nothing ! $ owned ! u8 (Is u8) (uint-makes 𝓤 H A W w8) two _ (refl, two-fits) $ fjoin ! $ owned ! u8
-          (Is u8) (uint-makes 𝓤 H A W w8) one _ (refl, one-fits) $ fjoin ! $ move ! (1 ∷ 0 ∷ []) $ fjoin ! $ frame ! $
+      (Is u8) (uint-makes 𝓤 H A W w8) one _ (refl, one-fits) $ fjoin ! $ move ! (1 ∷ 0 ∷ []) $ fjoin ! $ frame ! $
       owned ! R.the-row (Is R.the-row) (LL.makes R.the-type R′.the-plain 𝓤 H A) (made n₁ n₂ b) _ is $ done !
 
   module _ (C : Calls 𝓤 H) (Λ : Loops 𝓤 H) (fm : FmC 𝓤 H (W .laws) C)
@@ -254,86 +254,87 @@ module _ {M : Type 1} (𝓤 : URA M) (H : Heap 𝓤) (A : Atoms 𝓤) (W : Given
     walk p =
         let wt = shr-slice-lawful 𝓤 H A W (named 0) κ u8 .typed s (v ∷ []) p .0 in
         qed W (raw (onEntry 𝓤 H A over.signature (κ, tt) (q, tt) (s, (one, (two, tt)))
-            (v ∷ [], (vint w8 one ∷ [], (vint w8 two ∷ [], tt)))) ∷ []) ∵ enter ! C Λ code.function
-            (v ∷ vint w8 one ∷ vint w8 two ∷ []) _ $
+        (v ∷ [], (vint w8 one ∷ [], (vint w8 two ∷ [], tt)))) ∷ []) ∵ enter ! C Λ code.function
+        (v ∷ vint w8 one ∷ vint w8 two ∷ []) _ $
         alloc1 ! (λ l₀. alloc1 ! (λ l₁. alloc1 !
-            (λ l₂. alloc1 ! (λ l₃. alloc1 !
-            (λ l₄. alloc1 ! (λ l₅. alloc1 !
-            (λ l₆. alloc1 ! (λ l₇. alloc1 !
-            (λ l₈. alloc1 ! (λ l₉. alloc1 ! (λ l₁₀. alloc1 ! (λ l₁₁. alloc0 ! $ params1 ! $
+        (λ l₂. alloc1 ! (λ l₃. alloc1 !
+        (λ l₄. alloc1 ! (λ l₅. alloc1 !
+        (λ l₆. alloc1 ! (λ l₇. alloc1 !
+        (λ l₈. alloc1 ! (λ l₉. alloc1 ! (λ l₁₀. alloc1 ! (λ l₁₁. alloc0 ! $ params1 ! $
         pass1 ! (init ! 20 refl wt) $ pass1 ! (init ! 18 refl (tt, record { fits = one-fits })) $ pass1 !
-            (init ! 16 refl (tt, record { fits = two-fits })) $ pass0 ! $
+        (init ! 16 refl (tt, record { fits = two-fits })) $ pass0 ! $
         -- [_11; …; _10; …; _9; …; _8; …; _7; …; _6; …; _5; …; _4; …; _3; …; _2; …; _1; …; room for _0; …; what the
         -- function has at entry]
         assigns ! (agg ! (and-then ! (load ! (from ! (stop !)) (look ! 20 refl)) (and-then ! (lit ! tt) (no-more !))))
-            (from ! (stop !)) (init ! 10 refl (tt, (wt .1, (record { fits = lit< tt }, tt)))) $
+        (from ! (stop !)) (init ! 10 refl (tt, (wt .1, (record { fits = lit< tt }, tt)))) $
         -- `next`, from the start
         move ! (24 ∷ []) $ use1 W (raw (Next 𝓤 H A mem run .pre (to-next start one)) ⊛ ‵ Own) goes $ split ! $
         calls-at ! fm (Next 𝓤 H A mem run) known-next (to-next start one)
-            (and-then ! (load ! (from ! (stop !)) (look ! 12 refl))
-            (and-then ! (load ! (from ! (stop !)) (look ! 20 refl)) (no-more !))) (λ u₁.
+        (and-then ! (load ! (from ! (stop !)) (look ! 12 refl))
+        (and-then ! (load ! (from ! (stop !)) (look ! 20 refl)) (no-more !))) (λ u₁.
         use1 W (later (some (λ (n : Step). ((‵ (flft κ q) ⊛ ‵ ftrue) ⊛ ‵ (G κ .own n (u₁ ∷ []))) ⊛ raw
-            (ensured 𝓤 H A next.ended (next.clauses 𝓤 H A mem run) (κ, tt) (start, (one, tt)) tt n))))
-            (id⊢ 𝓤 _) $ await ! tt $ pick ! (λ n₁.
+        (ensured 𝓤 H A next.ended (next.clauses 𝓤 H A mem run) (κ, tt) (start, (one, tt)) tt n))))
+        (id⊢ 𝓤 _) $ await ! tt $ pick ! (λ n₁.
         split ! $ move ! (1 ∷ []) $ use1 W (raw (fact 𝓤 (n₁ ≡ nextOf start one))) (next-said start one n₁) $ heard !
-            (n₁ ≡ nextOf start one) (λ e₁.
+        (n₁ ≡ nextOf start one) (λ e₁.
         split ! $ move ! (1 ∷ []) $ peeks ! (G κ) (Is (G κ)) (shows 𝓤 H A (G κ)) n₁ (u₁ ∷ []) (λ is₁.
         -- [what the step owns; the token; what s owns; _11; …; _10; …; _9; …; _8; …; _7; …; _6; …; _5; …; room for
         -- _4; …; _3; …; _2; …; _1; …; room for _0; …]
         land ! (from ! (stop !)) (init ! 17 refl (typed-step 𝓤 H A W κ n₁ u₁ is₁)) $ rewrite ! 17
-            (λ (x : Val). ‵ (fat fullShare (P′.mir erased) l₄ 0 x)) (ap only (told κ n₁ u₁ is₁)) refl $
+        (λ (x : Val). ‵ (fat fullShare (P′.mir erased) l₄ 0 x)) (ap only (told κ n₁ u₁ is₁)) refl $
         assigns ! (of-opd ! (load ! (from ! (fld ! refl (stop !))) (look-in ! 17 (sub ! 1 {d = 32} refl (whole !)))))
-            (from ! (stop !)) (init ! 11 refl (typed-walker 𝓤 H A W κ n₁ u₁ is₁)) $
+        (from ! (stop !)) (init ! 11 refl (typed-walker 𝓤 H A W κ n₁ u₁ is₁)) $
         use1 W (‵ (B κ .own (n₁ .walker) (T′.lowered (n₁ .walker) ∷ []))) (inner 𝓤 H A W κ n₁ u₁) $
         -- `next`, where the first section ended
         use2 W (raw (Next 𝓤 H A mem run .pre (to-next (n₁ .walker) two))) (goes-next (n₁ .walker) two two-fits) $
         calls-at ! fm (Next 𝓤 H A mem run) known-next (to-next (n₁ .walker) two)
-            (and-then ! (load ! (from ! (stop !)) (look ! 10 refl))
-            (and-then ! (load ! (from ! (stop !)) (look ! 18 refl)) (no-more !))) (λ u₂.
+        (and-then ! (load ! (from ! (stop !)) (look ! 10 refl))
+        (and-then ! (load ! (from ! (stop !)) (look ! 18 refl)) (no-more !))) (λ u₂.
         use1 W (later (some (λ (n : Step). ((‵ (flft κ q) ⊛ ‵ ftrue) ⊛ ‵ (G κ .own n (u₂ ∷ []))) ⊛ raw
-            (ensured 𝓤 H A next.ended (next.clauses 𝓤 H A mem run) (κ, tt) (n₁ .walker, (two, tt)) tt n))))
-            (id⊢ 𝓤 _) $ await ! tt $ pick ! (λ n₂.
+        (ensured 𝓤 H A next.ended (next.clauses 𝓤 H A mem run) (κ, tt) (n₁ .walker, (two, tt)) tt n))))
+        (id⊢ 𝓤 _) $ await ! tt $ pick ! (λ n₂.
         split ! $ move ! (1 ∷ []) $ use1 W (raw (fact 𝓤 (n₂ ≡ nextOf (n₁ .walker) two)))
-            (next-said (n₁ .walker) two n₂) $ heard ! (n₂ ≡ nextOf (n₁ .walker) two) (λ e₂.
+        (next-said (n₁ .walker) two n₂) $ heard ! (n₂ ≡ nextOf (n₁ .walker) two) (λ e₂.
         split ! $ move ! (1 ∷ []) $ peeks ! (G κ) (Is (G κ)) (shows 𝓤 H A (G κ)) n₂ (u₂ ∷ []) (λ is₂.
         land ! (from ! (stop !)) (init ! 15 refl (typed-step 𝓤 H A W κ n₂ u₂ is₂)) $ rewrite ! 15
-            (λ (x : Val). ‵ (fat fullShare (P′.mir erased) l₅ 0 x)) (ap only (told κ n₂ u₂ is₂)) refl $
+        (λ (x : Val). ‵ (fat fullShare (P′.mir erased) l₅ 0 x)) (ap only (told κ n₂ u₂ is₂)) refl $
         assigns ! (of-opd ! (load ! (from ! (fld ! refl (stop !))) (look-in ! 17 (sub ! 0 refl (whole !)))))
-            (from ! (stop !)) (init ! 9 refl (typed-section 𝓤 H A W κ n₁ u₁ is₁)) $
+        (from ! (stop !)) (init ! 9 refl (typed-section 𝓤 H A W κ n₁ u₁ is₁)) $
         assigns ! (of-opd ! (load ! (from ! (fld ! refl (stop !))) (look-in ! 15 (sub ! 0 refl (whole !)))))
-            (from ! (stop !)) (init ! 7 refl (typed-section 𝓤 H A W κ n₂ u₂ is₂)) $
+        (from ! (stop !)) (init ! 7 refl (typed-section 𝓤 H A W κ n₂ u₂ is₂)) $
         assigns ! (of-opd ! (load ! (from ! (fld ! refl (stop !))) (look-in ! 15 (sub ! 1 {d = 32} refl (whole !)))))
-            (from ! (stop !)) (init ! 3 refl (typed-walker 𝓤 H A W κ n₂ u₂ is₂)) $
+        (from ! (stop !)) (init ! 3 refl (typed-walker 𝓤 H A W κ n₂ u₂ is₂)) $
         use1 W (‵ (B κ .own (n₂ .walker) (T′.lowered (n₂ .walker) ∷ []))) (inner 𝓤 H A W κ n₂ u₂) $
         -- `left`, where the second section ended
         use2 W (raw (Left 𝓤 H A mem run .pre (to-left (n₂ .walker)))) (goes-left (n₂ .walker)) $
         calls-at ! fm (Left 𝓤 H A mem run) known-left (to-left (n₂ .walker))
-            (and-then ! (load ! (from ! (stop !)) (look ! 2 refl)) (no-more !)) (λ w.
+        (and-then ! (load ! (from ! (stop !)) (look ! 2 refl)) (no-more !)) (λ w.
         use1 W (later (some (λ (b : Bool). ((‵ (flft κ q) ⊛ ‵ ftrue) ⊛ ‵ (bool .own b (w ∷ []))) ⊛ raw
-            (ensured 𝓤 H A left.ended (left.clauses 𝓤 H A mem run) (κ, tt) (n₂ .walker, tt) tt b))))
-            (id⊢ 𝓤 _) $ await ! tt $ pick ! (λ b.
+        (ensured 𝓤 H A left.ended (left.clauses 𝓤 H A mem run) (κ, tt) (n₂ .walker, tt) tt b))))
+        (id⊢ 𝓤 _) $ await ! tt $ pick ! (λ b.
         split ! $ move ! (1 ∷ []) $ use1 W (raw (fact 𝓤 (b ≡ leftAt (now (n₂ .walker .sheet)) (n₂ .walker .at))))
-            (left-said (n₂ .walker) b) $ heard ! (b ≡ leftAt (now (n₂ .walker .sheet)) (n₂ .walker .at))
-            (λ e₃. split ! $ move ! (1 ∷ []) $
+        (left-said (n₂ .walker) b) $ heard ! (b ≡ leftAt (now (n₂ .walker .sheet)) (n₂ .walker .at))
+        (λ e₃. split ! $ move ! (1 ∷ []) $
         facts ! bool (Is bool) (shows 𝓤 H A bool) b (w ∷ []) (λ is₃.
         -- [the token; what s owns; _11; …; room for _10; …; _9; …; _8; …; _7; …; _6; …; _5; …; _4; …; _3; …; _2; …;
         -- _1; …; room for _0; …]
-        let made-is : Is R.the-row (made n₁ n₂ b) (result n₁ n₂ w ∷ []) =
-            ((sv (n₁ .section) ∷ [], (sv (n₂ .section) ∷ [], (w ∷ [], tt))),
-            (refl, (of-section κ n₁ u₁ is₁, (of-section κ n₂ u₂ is₂, (is₃, tt))))) in
+        let made-is : Is R.the-row (made n₁ n₂ b) (result n₁ n₂ w ∷ []) = (
+          (sv (n₁ .section) ∷ [], (sv (n₂ .section) ∷ [], (w ∷ [], tt))),
+          (refl, (of-section κ n₁ u₁ is₁, (of-section κ n₂ u₂ is₂, (is₃, tt)))),
+        ) in
         land ! (from ! (stop !)) (init ! 4 refl (bool-lawful 𝓤 H A W .typed b _ is₃ .0)) $
         assigns ! (agg ! (and-then ! (load ! (from ! (stop !)) (look ! 8 refl))
-            (and-then ! (load ! (from ! (stop !)) (look ! 6 refl))
-            (and-then ! (load ! (from ! (stop !)) (look ! 4 refl)) (no-more !))))) (from ! (stop !))
-            (init ! 24 refl (LL.lawful R.the-type R′.the-laws 𝓤 H A W .typed (made n₁ n₂ b)
-            (result n₁ n₂ w ∷ []) made-is .0)) $
+        (and-then ! (load ! (from ! (stop !)) (look ! 6 refl))
+        (and-then ! (load ! (from ! (stop !)) (look ! 4 refl)) (no-more !))))) (from ! (stop !))
+        (init ! 24 refl (LL.lawful R.the-type R′.the-laws 𝓤 H A W .typed (made n₁ n₂ b)
+        (result n₁ n₂ w ∷ []) made-is .0)) $
         returns ! (look ! 24 refl) $ forget ! 2 refl $ forget ! 4 refl $ forget ! 6 refl $ forget ! 8 refl $ forget !
-            10 refl $ forget ! 12 refl $ forget ! 14 refl $ forget ! 16 refl $ forget ! 18 refl $ forget ! 20 refl $
-            forget ! 22 refl $ forget ! 24 refl $
+        10 refl $ forget ! 12 refl $ forget ! 14 refl $ forget ! 16 refl $ forget ! 18 refl $ forget ! 20 refl $
+        forget ! 22 refl $ forget ! 24 refl $
         move ! (24 ∷ 25 ∷ []) $ free1 ! $ move ! (22 ∷ 23 ∷ []) $ free1 ! $ move ! (20 ∷ 21 ∷ []) $ free1 ! $ move !
-            (18 ∷ 19 ∷ []) $ free1 ! $ move ! (16 ∷ 17 ∷ []) $ free1 ! $ move ! (14 ∷ 15 ∷ []) $ free1 ! $ move !
-            (12 ∷ 13 ∷ []) $ free1 ! $ move ! (10 ∷ 11 ∷ []) $ free1 ! $ move ! (8 ∷ 9 ∷ []) $ free1 ! $ move !
-            (6 ∷ 7 ∷ []) $ free1 ! $ move ! (4 ∷ 5 ∷ []) $ free1 ! $ move ! (2 ∷ 3 ∷ []) $ free1 ! $ free0 ! $
+        (18 ∷ 19 ∷ []) $ free1 ! $ move ! (16 ∷ 17 ∷ []) $ free1 ! $ move ! (14 ∷ 15 ∷ []) $ free1 ! $ move !
+        (12 ∷ 13 ∷ []) $ free1 ! $ move ! (10 ∷ 11 ∷ []) $ free1 ! $ move ! (8 ∷ 9 ∷ []) $ free1 ! $ move !
+        (6 ∷ 7 ∷ []) $ free1 ! $ move ! (4 ∷ 5 ∷ []) $ free1 ! $ move ! (2 ∷ 3 ∷ []) $ free1 ! $ free0 ! $
         by ! (exits n₁ n₂ b w made-is (same n₁ n₂ b e₁ e₂ e₃))))))))))))))))))))))))))
 
 module _ {M : Type 1} (𝓤 : URA M) (H : Heap 𝓤) (A : Atoms 𝓤) (W : Given 𝓤 H A) (mem : Memory → SProp 𝓤)
@@ -354,8 +355,10 @@ walk-holds : {M : Type 1} (𝓤 : URA M) (H : Heap 𝓤) (A : Atoms 𝓤) (W : G
     → Triple 𝓤 (𝓣 .C #section·next) (Next 𝓤 H A mem run) → Triple 𝓤 (𝓣 .C #section·left) (Left 𝓤 H A mem run)
     → Meets 𝓤 H A over.signature (WpFn 𝓤 H (𝓣 .C) (𝓣 .Λ) code.function) (over.spec 𝓤 H A mem run)
 walk-holds 𝓤 H A W mem run 𝓣 known-next known-left =
-    walk-meets 𝓤 H A over.ended stayed W (goes-none-slice 𝓤 H A W 1 (0 ∷ []) tt (plain (λ _. u8)) yes,
-    (goes-none 𝓤 H A W 1 (λ _. u8) yes (λ κs x f. refl), (goes-none 𝓤 H A W 1 (λ _. u8) yes (λ κs x f. refl), tt)))
+    walk-meets 𝓤 H A over.ended stayed W (
+      goes-none-slice 𝓤 H A W 1 (0 ∷ []) tt (plain (λ _. u8)) yes,
+      (goes-none 𝓤 H A W 1 (λ _. u8) yes (λ κs x f. refl), (goes-none 𝓤 H A W 1 (λ _. u8) yes (λ κs x f. refl), tt)),
+    )
     (over.clauses 𝓤 H A mem run) (WpFn 𝓤 H (𝓣 .C) (𝓣 .Λ) code.function) (WpFn-mono 𝓤 H (W .laws) 𝓣 code.function)
     (walk-walks 𝓤 H A W mem run (𝓣 .C) (𝓣 .Λ) (fmOf 𝓤 H (W .laws) 𝓣) known-next known-left)
 

@@ -43,8 +43,13 @@ module _ (s : List ℕ) (at size : ℕ) where
       record { counted = omega arith; begins = omega arith; ends = omega arith; within = omega arith }
   found-by false {count} {first} {end} e h =
       let ends : end ≡ endAt s at size = cc in
-      record { counted = cc; begins = cc; ends = ends; within = omega
-          (arith, ltb-false (length s) (endAt s at size) e) }
+      record {
+        counted = cc;
+        begins = cc;
+        ends = ends;
+        within = omega
+            (arith, ltb-false (length s) (endAt s at size) e);
+      }
 
   -- back: what records say
   pub section-found : {count first end : ℕ} → sectionAt s at size ≡ Records count first end

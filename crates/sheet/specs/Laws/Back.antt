@@ -173,7 +173,7 @@ cut-take zero i xs h = refl
 cut-take (suc m) i xs h =
     let k : i < length xs = omega arith in
     rw (drop-cons xs i 0 k) (ap (λ (l : List ℕ). getD xs i 0 ∷ l) (cut-take m (i + 1) xs (omega arith)
-        ∙ ap (λ (n : ℕ). take m (drop n xs)) (add-one i)))
+    ∙ ap (λ (n : ℕ). take m (drop n xs)) (add-one i)))
 
 module _ (xs ys zs : List ℕ) where
   pub split-back : (m i : ℕ) (s : List ℕ) (at : ℕ) → drop at s ≡ recordBytes m i xs ys zs

@@ -54,21 +54,21 @@ read-coded s code = go (sectionsOf s)
     go Torn = λ e. refl
     go (Both n m first) =
         with-coded (afterCodes (codesReading n s 1 0 0) n s code) (contentOf n m first s) refl
-            (after-coded (codesReading n s 1 0 0) n s code (codes-coded n s 1 0 0))
+        (after-coded (codesReading n s 1 0 0) n s code (codes-coded n s 1 0 0))
 
 -- ---- the code in the place that a refused sheet carries
 
 module _ (s : List ℕ) (r : Sheet) (h : ReadAs s r) (number place code : ℕ) (e : r .answer ≡ Refused number place code)
-    where
-  pub refused-answer : readOf s code .answer ≡ Refused number place code
-  refused-answer = ap (λ (x : Sheet). x .answer) (sym (h .sheet ∙ ap (readOf s) (ap faultOf e))) ∙ e
+  where
+    pub refused-answer : readOf s code .answer ≡ Refused number place code
+    refused-answer = ap (λ (x : Sheet). x .answer) (sym (h .sheet ∙ ap (readOf s) (ap faultOf e))) ∙ e
 
-  pub carried-code : cond (eqb number 5) (placeOf (Refused number place code)) 0 ≡ code
-  carried-code = go (eqb number 5) refl (subst Coded refused-answer (read-coded s code))
-    where
-      go : (t : Bool) → eqb number 5 ≡ t → Coded (Refused number place code) → cond t (cond t code place) 0 ≡ code
-      go true q z = refl
-      go false q z = sym (z q)
+    pub carried-code : cond (eqb number 5) (placeOf (Refused number place code)) 0 ≡ code
+    carried-code = go (eqb number 5) refl (subst Coded refused-answer (read-coded s code))
+      where
+        go : (t : Bool) → eqb number 5 ≡ t → Coded (Refused number place code) → cond t (cond t code place) 0 ≡ code
+        go true q z = refl
+        go false q z = sym (z q)
 
 -- ---- a sheet that is read carries no code
 

@@ -40,7 +40,7 @@ module _ (s : List ℕ) (bytes : Bytes s) where
       let c = one (at + 2) (at + 3) (omega arith) (omega arith) in
       let d = one (at + 3) next (omega arith) (omega arith) in
       let f = bytes-number (getD s at 0) (getD s (at + 1) 0) (getD s (at + 2) 0) (getD s (at + 3) 0) (bytes at)
-          (bytes (at + 1)) (bytes (at + 2)) (bytes (at + 3)) in
+      (bytes (at + 1)) (bytes (at + 2)) (bytes (at + 3)) in
       a
       ∙ ap (λ (l : List ℕ). getD s at 0 ∷ l) b
       ∙ ap (λ (l : List ℕ). getD s at 0 ∷ getD s (at + 1) 0 ∷ l) c
@@ -76,7 +76,7 @@ module _ (s : List ℕ) (bytes : Bytes s) where
         let q1 : cut m (i + 1) ys ≡ byteColumn m s (at + 1 + 6) = cc in
         let r1 : cut m (i + 1) zs ≡ amountColumn m s (at + 2 + 6) = cc in
         let ih = split-forth m (i + 1) (at + 6) next (omega arith) h p1 (q1 ∙ ap (λ (n : ℕ). byteColumn m s n) f)
-            (r1 ∙ ap (λ (n : ℕ). amountColumn m s n) g) in
+        (r1 ∙ ap (λ (n : ℕ). amountColumn m s n) g) in
         rw (p0, q0, r0)
         (ap (λ (l : List ℕ). (getD s at 0 ∷ getD s (at + 1) 0 ∷ bytesOf (fourBytesAt s (at + 2))) ++ l) ih
         ∙ sym (part-here at (omega arith)))
@@ -174,7 +174,7 @@ pub filled-forth : (n : ℕ) (s : List ℕ) → Bytes s → (at i p next : ℕ) 
 filled-forth zero s bytes at i p next ws z good nz l k e h =
     let q : next ≡ at = omega arith in
     let a : componentBytes (p + 1) (replicate z 0) ≡ [] = ap (λ (r : List ℕ). componentBytes (p + 1) r)
-        (sym (append-nil (replicate z 0))) ∙ zeros-bytes z (p + 1) [] in
+    (sym (append-nil (replicate z 0))) ∙ zeros-bytes z (p + 1) [] in
     let b : countOf (replicate z 0) ≡ 0 = ap countOf (sym (append-nil (replicate z 0))) ∙ zeros-count z [] in
     record {
       ys = replicate z 0;
@@ -188,9 +188,9 @@ filled-forth (suc n) s bytes at i p next ws z good nz l k e h =
     let o = zero-head n s at nz in
     let lw : length ws + (getD s at 0 - (p + 1)) ≡ getD s at 0 = omega arith in
     let lv : length ((ws ++ replicate (getD s at 0 - (p + 1)) 0) ++ (fourBytesAt s (at + 1) ∷ [])) ≡ getD s at 0 + 1 =
-        simp (length-append, length-replicate) (omega arith) in
+    simp (length-append, length-replicate) (omega arith) in
     filled-step n s bytes at p next ws z (getD s at 0 - (p + 1)) (CODES - (getD s at 0 + 1)) (getD s at 0)
-        (fourBytesAt s (at + 1)) refl refl
+    (fourBytesAt s (at + 1)) refl refl
     (omega arith) lw (omega arith) (omega arith) (o .0) (omega arith)
     (filled-forth n s bytes (at + 5) (i + 1) (getD s at 0) next ((ws ++ replicate (getD s at 0 - (p + 1)) 0)
     ++ (fourBytesAt s (at + 1) ∷ [])) (CODES - (getD s at 0 + 1)) (g .1) (o .1) lv (omega arith) (omega arith) h)
@@ -208,4 +208,4 @@ pub column-forth : (m : ℕ) (vs : List ℕ) → length vs ≡ m → m ≤ lengt
 column-forth m vs l h =
     let k : 0 + m ≤ length (padded vs) = omega arith in
     cut-take m 0 (padded vs) k ∙ ap (λ (n : ℕ). take n (padded vs)) (sym l)
-        ∙ take-append-seam vs (replicate (RECORDS - length vs) 0)
+    ∙ take-append-seam vs (replicate (RECORDS - length vs) 0)

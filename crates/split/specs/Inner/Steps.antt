@@ -17,4 +17,4 @@ insteadOf cells s c n e = cond (eqb e c) n (cellOf cells s e)
 unfoldable pub numberWith : List ℕ → List ℕ → ℕ → ℕ → ℕ → ℤ
 numberWith systems cells s c n =
     partialNumber (systemOf systems s) (insteadOf cells s c n (memberOf (systemOf systems s) 0))
-        (insteadOf cells s c n (memberOf (systemOf systems s) 1)) (insteadOf cells s c n (memberOf (systemOf systems s) 2))
+    (insteadOf cells s c n (memberOf (systemOf systems s) 1)) (insteadOf cells s c n (memberOf (systemOf systems s) 2))

@@ -34,11 +34,11 @@ start-clean mix ch k = record { none = λ s c l e. at s c l e (ltb s SYSTEMS) re
         let row : (0 + (s * COMPONENTS + c)) / COMPONENTS ≡ s = omega arith in
         let column : (0 + (s * COMPONENTS + c)) % COMPONENTS ≡ c = omega arith in
         getD-table (startCell mix ch k) CELLS 0 (s * COMPONENTS + c) (omega arith)
-            ∙ ap₂ (startAmount mix ch k) row column ∙ rw (e, startAmount)
+        ∙ ap₂ (startAmount mix ch k) row column ∙ rw (e, startAmount)
     at s c l e false h =
         let u = ltb-false s SYSTEMS h in
         let long : length (startOf mix ch k) ≤ s * COMPONENTS + c = rw (length-table (startCell mix ch k) CELLS 0)
-            (omega arith) in
+        (omega arith) in
         List·getD-eq-default (startOf mix ch k) 0 {n = s * COMPONENTS + c} long
 
 module _ (ch : List ℕ) (k : ℕ) (a : List ℕ) (d m : ℕ) (so : Sound ch k a) (fit : MayMove ch k a d m) where
@@ -60,7 +60,7 @@ module _ (ch : List ℕ) (k : ℕ) (a : List ℕ) (d m : ℕ) (so : Sound ch k a
       record {
         none = λ s c l e.
             cell-same a (giverOf m) (takerOf m) (componentOf m) d (so .stock .long) (omega arith) (omega arith)
-                (component-low ch k a d m so fit) (b .apart) s c
+            (component-low ch k a d m so fit) (b .apart) s c
             (other s c (giverOf m) l e (row-held ch k (giverOf m) (componentOf m) (b .from) (b .gives)))
             (other s c (takerOf m) l e (row-held ch k (takerOf m) (componentOf m) (b .to) (b .takes)))
             ∙ cl .none s c l e;

@@ -8,7 +8,8 @@ use native.Mathlib.Omega.{arith}
 use lib.IntN.{pos}
 use Rattle.integer.specs.Figures.{neg, MILLION}
 use Rattle.integer.specs.Fraction.{Within, Close}
-use Rattle.integer.specs.Laws.Distance.{close, looser, close-looser, close-whole, close-plus, close-times, within-plus, within-over}
+use Rattle.integer.specs.Laws.Distance.{close, looser, close-looser, close-whole, close-plus, close-times}
+use Rattle.integer.specs.Laws.Distance.{within-plus, within-over}
 use Rattle.formula.specs.Partial.{exactNumber}
 use Rattle.formula.specs.NineteenUnits.{partial-within}
 use Rattle.split.specs.Fold.{sumTo, sumToZ}
@@ -45,7 +46,7 @@ pub rating-within : (ch : List ℕ) (k : ℕ) (a : List ℕ) (n1 : ℕ) → None
 unfolding ratingOf exactRating
 rating-within ch k a n1 h t l =
     looser (within-plus (within-plus (mean-within ch k a h t) (close (inert-within n1 l)))
-        (close-whole (neg PURE_METHANE))) (omega arith)
+    (close-whole (neg PURE_METHANE))) (omega arith)
 
 sum-den : (ch : List ℕ) (k : ℕ) (a : List ℕ) → exactSum ch k a .den ≡ powersOf ch k a
 unfolding exactSum exactAt exactNumber powersOf partsOf

@@ -15,7 +15,8 @@ use Rattle.refusal.specs.Keys.{isIn}
 use Rattle.formula.specs.WorkingRule.{LARGEST}
 use Rattle.systems.specs.Systems.{COMPONENTS, candidates}
 use Rattle.split.specs.Fold.{sumTo}
-use Rattle.split.specs.Split.{SYSTEMS, CELLS, systemOf, partsOf, columnOf, rowNumber, Chosen, Stock, Sound, Clean, mixtureParts}
+use Rattle.split.specs.Split.{SYSTEMS, CELLS, systemOf, partsOf, columnOf, rowNumber, Chosen, Stock, Sound}
+use Rattle.split.specs.Split.{Clean, mixtureParts}
 use Rattle.split.specs.Rating.{someEmpty}
 use Rattle.split.specs.Start.{startOf, Shared}
 use Rattle.split.specs.Move.{imbalanceOf}
@@ -41,8 +42,10 @@ chosen-of ch k e =
       some = ltb-true 0 k (both-left (ltb 0 k) _ e);
       most = leb-true k SYSTEMS (both-left (leb k SYSTEMS) _ p);
       known =
-          λ s h. record { listed = all-each (λ r. isIn (systemOf ch r) candidates) k s
-          (both-right (leb k SYSTEMS) _ p) h };
+          λ s h. record {
+            listed = all-each (λ r. isIn (systemOf ch r) candidates) k s
+                (both-right (leb k SYSTEMS) _ p) h;
+          };
     }
 
 pub chosen-fits : (ch : List ℕ) (k : ℕ) → Chosen ch k → chosenFit ch k ≡ true
@@ -63,8 +66,11 @@ mixture-fits mix h = le-leb (sumTo (λ c. getD mix c 0) COMPONENTS) MILLION h
 pub sound-of : (ch : List ℕ) (k : ℕ) (a : List ℕ) → Stock ch k a → someEmpty ch k a ≡ false → Sound ch k a
 unfolding someEmpty
 sound-of ch k a st e =
-    record { stock = st; some = λ s h. above s
-    (eqb-false (partsOf ch a s) 0 (some-each (λ r. eqb (partsOf ch a r) 0) k s e h)) }
+    record {
+      stock = st;
+      some = λ s h. above s
+          (eqb-false (partsOf ch a s) 0 (some-each (λ r. eqb (partsOf ch a r) 0) k s e h));
+    }
   where
     above : (s : ℕ) → (partsOf ch a s ≡ 0 → ⊥) → 1 ≤ partsOf ch a s
     above s n = omega (arith, n)
@@ -101,8 +107,12 @@ module _ (mix ch : List ℕ) (k level : ℕ) where
   pub input-fits : SearchInput mix ch k level → searchFit mix ch k level ≡ true
   unfolding searchFit
   input-fits i =
-      rw (le-leb level FIRST_LEVEL (i .low), mixture-fits mix (i .few), chosen-fits ch k (i .chosen),
-      none-empty ch k (startOf mix ch k) (i .sound))
+      rw (
+        le-leb level FIRST_LEVEL (i .low),
+        mixture-fits mix (i .few),
+        chosen-fits ch k (i .chosen),
+        none-empty ch k (startOf mix ch k) (i .sound),
+      )
 
   -- it is enough that each chosen system contains a component of which there are as many parts as chosen systems
   pub enough-parts : level ≤ FIRST_LEVEL → sumTo (λ c. getD mix c 0) COMPONENTS ≤ MILLION → Chosen ch k

@@ -33,7 +33,7 @@ module _ (a : List ℕ) (f t c d : ℕ) (long : length a ≡ CELLS) (lf : f < SY
   unfolding shift
   cell-same s e p q =
       getD-set-other (set a (f * COMPONENTS + c) (getD a (f * COMPONENTS + c) 0 - d)) (t * COMPONENTS + c)
-          (s * COMPONENTS + e) (getD a (t * COMPONENTS + c) 0 + d) 0 q
+      (s * COMPONENTS + e) (getD a (t * COMPONENTS + c) 0 + d) 0 q
       ∙ getD-set-other a (f * COMPONENTS + c) (s * COMPONENTS + e) (getD a (f * COMPONENTS + c) 0 - d) 0 p
 
   -- of another row, or of another component
@@ -47,7 +47,7 @@ module _ (a : List ℕ) (f t c d : ℕ) (long : length a ≡ CELLS) (lf : f < SY
   unfolding shift
   cell-giver =
       getD-set-other (set a (f * COMPONENTS + c) (getD a (f * COMPONENTS + c) 0 - d)) (t * COMPONENTS + c)
-          (f * COMPONENTS + c) (getD a (t * COMPONENTS + c) 0 + d) 0 (λ z. ne (omega arith))
+      (f * COMPONENTS + c) (getD a (t * COMPONENTS + c) 0 + d) 0 (λ z. ne (omega arith))
       ∙ getD-set-same a (f * COMPONENTS + c) (getD a (f * COMPONENTS + c) 0 - d) 0 (omega (arith, long))
 
   pub cell-taker : cellOf after t c ≡ cellOf a t c + d
@@ -66,7 +66,7 @@ module _ (a : List ℕ) (f t c d : ℕ) (long : length a ≡ CELLS) (lf : f < SY
         go true z =
             let w : e ≡ c = eqb-true e c z in
             rw w (sum-shift (λ s. cellOf a s c) (λ s. cellOf after s c) k f t d kf kt ne had cell-giver cell-taker
-                (λ s m p q. cell-row s c lc p q))
+            (λ s m p q. cell-row s c lc p q))
         go false z = sum-same (λ s. cellOf after s e) (λ s. cellOf a s e) k (λ s m. cell-column s e l (eqb-false e c z))
 
     pub few-same : sumTo (columnOf k after) COMPONENTS ≡ sumTo (columnOf k a) COMPONENTS
@@ -87,8 +87,8 @@ module _ (a : List ℕ) (f t c d : ℕ) (long : length a ≡ CELLS) (lf : f < SY
       parts-other s h p q =
           let w = lows s h in
           ap₂ _+_ (ap₂ _+_ (cell-row s (memberOf (systemOf ch s) 0) (w .low0) p q)
-              (cell-row s (memberOf (systemOf ch s) 1) (w .low1) p q))
-              (cell-row s (memberOf (systemOf ch s) 2) (w .low2) p q)
+          (cell-row s (memberOf (systemOf ch s) 1) (w .low1) p q))
+          (cell-row s (memberOf (systemOf ch s) 2) (w .low2) p q)
 
       cell-more : (e : ℕ) → e < COMPONENTS → cellOf a t e ≤ cellOf after t e
       cell-more e l = go (eqb e c) refl
@@ -101,8 +101,12 @@ module _ (a : List ℕ) (f t c d : ℕ) (long : length a ≡ CELLS) (lf : f < SY
       unfolding partsOf
       parts-taker =
           let w = lows t kt in
-          omega (arith, cell-more (memberOf (systemOf ch t) 0) (w .low0),
-              cell-more (memberOf (systemOf ch t) 1) (w .low1), cell-more (memberOf (systemOf ch t) 2) (w .low2))
+          omega (
+            arith,
+            cell-more (memberOf (systemOf ch t) 0) (w .low0),
+            cell-more (memberOf (systemOf ch t) 1) (w .low1),
+            cell-more (memberOf (systemOf ch t) 2) (w .low2),
+          )
 
       pub parts-giver : hasOf (systemOf ch f) c ≡ true → partsOf ch after f + d ≡ partsOf ch a f
       unfolding partsOf
@@ -116,25 +120,42 @@ module _ (a : List ℕ) (f t c d : ℕ) (long : length a ≡ CELLS) (lf : f < SY
 
           at : (j : ℕ) → j < 3 → c ≡ memberOf (systemOf ch f) j → partsOf ch after f + d ≡ partsOf ch a f
           at zero l e =
-              omega (arith, here (memberOf (systemOf ch f) 0) e, cell-column f (memberOf (systemOf ch f) 1) (w .low1)
-              (λ z. w .ne10 (z ∙ e)), cell-column f (memberOf (systemOf ch f) 2) (w .low2) (λ z. w .ne20 (z ∙ e)))
+              omega (
+                arith,
+                here (memberOf (systemOf ch f) 0) e,
+                cell-column f (memberOf (systemOf ch f) 1) (w .low1)
+                    (λ z. w .ne10 (z ∙ e)),
+                cell-column f (memberOf (systemOf ch f) 2) (w .low2) (λ z. w .ne20 (z ∙ e)),
+              )
           at (suc zero) l e =
-              omega (arith, here (memberOf (systemOf ch f) 1) e, cell-column f (memberOf (systemOf ch f) 0) (w .low0)
-              (λ z. w .ne10 (sym (z ∙ e))), cell-column f (memberOf (systemOf ch f) 2) (w .low2)
-              (λ z. w .ne21 (z ∙ e)))
+              omega (
+                arith,
+                here (memberOf (systemOf ch f) 1) e,
+                cell-column f (memberOf (systemOf ch f) 0) (w .low0)
+                    (λ z. w .ne10 (sym (z ∙ e))),
+                cell-column f (memberOf (systemOf ch f) 2) (w .low2)
+                    (λ z. w .ne21 (z ∙ e)),
+              )
           at (suc (suc zero)) l e =
-              omega (arith, here (memberOf (systemOf ch f) 2) e, cell-column f (memberOf (systemOf ch f) 0) (w .low0)
-              (λ z. w .ne20 (sym (z ∙ e))), cell-column f (memberOf (systemOf ch f) 1) (w .low1)
-              (λ z. w .ne21 (sym (z ∙ e))))
+              omega (
+                arith,
+                here (memberOf (systemOf ch f) 2) e,
+                cell-column f (memberOf (systemOf ch f) 0) (w .low0)
+                    (λ z. w .ne20 (sym (z ∙ e))),
+                cell-column f (memberOf (systemOf ch f) 1) (w .low1)
+                    (λ z. w .ne21 (sym (z ∙ e))),
+              )
           at (suc (suc (suc j))) l e = absurd (omega arith)
 
       pub number-other : (s : ℕ) → s < k → (s ≡ f → ⊥) → (s ≡ t → ⊥) → rowNumber ch after s ≡ rowNumber ch a s
       unfolding rowNumber
       number-other s h p q =
           let w = lows s h in
-          rw (cell-row s (memberOf (systemOf ch s) 0) (w .low0) p q,
-              cell-row s (memberOf (systemOf ch s) 1) (w .low1) p q,
-              cell-row s (memberOf (systemOf ch s) 2) (w .low2) p q)
+          rw (
+            cell-row s (memberOf (systemOf ch s) 0) (w .low0) p q,
+            cell-row s (memberOf (systemOf ch s) 1) (w .low1) p q,
+            cell-row s (memberOf (systemOf ch s) 2) (w .low2) p q,
+          )
 
       some-left : hasOf (systemOf ch f) c ≡ true → d < partsOf ch a f → ((s : ℕ) → s < k → 1 ≤ partsOf ch a s)
           → (s : ℕ) → s < k → 1 ≤ partsOf ch after s

@@ -72,8 +72,11 @@ pub reached-kept : {ch : List ℕ} {k : ℕ} {limit level allowance : ℕ} {a b 
 reached-kept s start = record { sound = s; sums = λ c h. refl }
 reached-kept {ch} {k} {limit} {level} {allowance} s (moved {b = b} {l = l} {r = r} m x t) =
     let kept = reached-kept s x in
-    record { sound = sound-step ch k limit allowance b l r m (kept .sound) t; sums = λ c h. step-keeps ch k limit
-        allowance b l r m c (kept .sound) t h ∙ kept .sums c h }
+    record {
+      sound = sound-step ch k limit allowance b l r m (kept .sound) t;
+      sums = λ c h. step-keeps ch k limit
+          allowance b l r m c (kept .sound) t h ∙ kept .sums c h;
+    }
 reached-kept s (halved x t) = reached-kept s x
 
 -- the imbalance of a state that is reached has fallen with every round
@@ -128,12 +131,12 @@ on-rate ch k limit allowance a l r s true q e f t =
     (h, cc)
 on-rate ch k limit allowance a l r s false true e f t =
     let u = turn-refuse ch k limit allowance a l r (leb-false (spreadOf (rowNumber ch a) k) limit e)
-        (eqb-true r allowance f) in
+    (eqb-true r allowance f) in
     absurd (let z : _≡_ {A = ℕ} 0 1 = cc in omega arith)
 on-rate ch k limit allowance a l r s false false e f t =
     absurd (goes-rate l (firstOf ch k a (2 ^ l)) s _ _ refl refl
-        (turn-on ch k limit allowance a l r (leb-false (spreadOf (rowNumber ch a) k) limit e)
-        (eqb-false r allowance f) ∙ t))
+    (turn-on ch k limit allowance a l r (leb-false (spreadOf (rowNumber ch a) k) limit e)
+    (eqb-false r allowance f) ∙ t))
 
 pub rates : (ch : List ℕ) (k : ℕ) (limit allowance : ℕ) (a : List ℕ) (l r s : ℕ)
     → turnOf ch k limit allowance a l r ≡ Rate s → (spreadOf (rowNumber ch a) k ≤ limit)
@@ -207,7 +210,7 @@ module _ (ch : List ℕ) (k : ℕ) (limit few many : ℕ) (more : few ≤ many) 
       let v = moves ch k limit few a l r m t in
       let w : r < few = omega (arith, v .unspent) in
       run-move ch k limit many a l r f m (turn-more ch k limit few many a l r (v .unspent) (λ x. omega arith) ∙ t)
-          ∙ ih s q e (omega arith) f (omega arith)
+      ∙ ih s q e (omega arith) f (omega arith)
 
   halve-same : (a : List ℕ) (l r : ℕ) (o : Found) → turnOf ch k limit few a l r ≡ Halve → Same a (l - 1) r o
       → Same a l r o
@@ -216,7 +219,7 @@ module _ (ch : List ℕ) (k : ℕ) (limit few many : ℕ) (more : few ≤ many) 
       let v = halves ch k limit few a l r t in
       let u = under ch k limit few a l r t in
       run-halve ch k limit many a l r f (turn-more ch k limit few many a l r u (λ x. omega (arith, u)) ∙ t)
-          ∙ ih s q e h f (omega (arith, v))
+      ∙ ih s q e h f (omega (arith, v))
 
   rate-same : (a : List ℕ) (l r w : ℕ) → turnOf ch k limit few a l r ≡ Rate w → Same a l r (foundOf a (Balanced w r))
   rate-same a l r w t s q e h zero g = absurd (omega arith)
@@ -252,7 +255,7 @@ module _ (ch : List ℕ) (k : ℕ) (limit allowance : ℕ) where
   enough-at n j a l r h p q ih Halve e =
       let v = halves ch k limit allowance a l r e in
       run-halve ch k limit allowance a l r n e ∙ ih a (l - 1) r h (omega (arith, v)) (omega (arith, v))
-          ∙ sym (run-halve ch k limit allowance a l r j e)
+      ∙ sym (run-halve ch k limit allowance a l r j e)
 
   pub enough : (n j : ℕ) (a : List ℕ) (l r : ℕ) → r ≤ allowance → allowance - r + l < n → allowance - r + l < j
       → runOf ch k limit allowance n a l r ≡ runOf ch k limit allowance j a l r
@@ -260,4 +263,4 @@ module _ (ch : List ℕ) (k : ℕ) (limit allowance : ℕ) where
   enough (suc n) zero a l r h p q = absurd (omega arith)
   enough (suc n) (suc j) a l r h p q =
       enough-at n j a l r h p q (λ b l′ r′ h′ p′ q′. enough n j b l′ r′ h′ p′ q′) (turnOf ch k limit allowance a l r)
-          refl
+      refl

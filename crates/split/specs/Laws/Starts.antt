@@ -67,15 +67,15 @@ module _ (mix ch : List ℕ) (k : ℕ) (most : k ≤ SYSTEMS) where
       let row : (0 + (s * COMPONENTS + c)) / COMPONENTS ≡ s = omega arith in
       let col : (0 + (s * COMPONENTS + c)) % COMPONENTS ≡ c = omega arith in
       getD-table (startCell mix ch k) CELLS 0 (s * COMPONENTS + c) (omega arith) ∙ ap₂ (startAmount mix ch k) row col
-          ∙ rw (lt-ltb s k h, startAmount)
+      ∙ rw (lt-ltb s k h, startAmount)
 
   start-column : (c : ℕ) → c < COMPONENTS
       → columnOf k (startOf mix ch k) c ≡ sumTo (shareOf (getD mix c 0) (sharersOf ch c k)) (sharersOf ch c k)
   unfolding columnOf sharersOf
   start-column c l =
       sum-same (λ s. cellOf (startOf mix ch k) s c)
-          (λ s. cond (hasOf (systemOf ch s) c) (shareOf (getD mix c 0) (sharersOf ch c k) (sharersOf ch c s)) 0) k
-          (λ s h. cell-start s c h l)
+      (λ s. cond (hasOf (systemOf ch s) c) (shareOf (getD mix c 0) (sharersOf ch c k) (sharersOf ch c s)) 0) k
+      (λ s h. cell-start s c h l)
       ∙ ranked (λ s. hasOf (systemOf ch s) c) (shareOf (getD mix c 0) (sharersOf ch c k)) k
 
   -- of a component that a chosen system contains all is shared, and of another nothing
@@ -162,9 +162,9 @@ module _ (mix ch : List ℕ) (k : ℕ) (most : k ≤ SYSTEMS) (s : ℕ) (h : s <
       → 1 ≤ cellOf (startOf mix ch k) s c
   start-some c l u m =
       let n : 0 < sharersOf ch c k = some-sharer mix ch k s c h (systemOf ch s) true refl (sym u)
-          (sharersOf ch c k) refl refl in
+      (sharersOf ch c k) refl refl in
       rw (cell-start mix ch k most s c h l, u)
-          (share-some (getD mix c 0) (sharersOf ch c k) (sharersOf ch c s) n (omega (arith, sharers-le ch c k, m)))
+      (share-some (getD mix c 0) (sharersOf ch c k) (sharersOf ch c s) n (omega (arith, sharers-le ch c k, m)))
 
   -- so its row is not empty
   pub start-row : (c : ℕ) → c < COMPONENTS → hasOf (systemOf ch s) c ≡ true → k ≤ getD mix c 0

@@ -11,7 +11,8 @@ use Rattle.systems.specs.Systems.{COMPONENTS, memberOf}
 use Rattle.split.specs.Split.{SYSTEMS, cellOf, systemOf, columnOf, rowNumber, Sound}
 use Rattle.split.specs.Move.{MOVES, componentOf, giverOf, takerOf, movedOf}
 use Rattle.split.specs.Laws.Members.{Three}
-use Rattle.split.specs.Laws.Moves.{taken-fits, sound-after, number-other, column-same, cell-column, cell-giver, cell-taker}
+use Rattle.split.specs.Laws.Moves.{taken-fits, sound-after, number-other, column-same, cell-column}
+use Rattle.split.specs.Laws.Moves.{cell-giver, cell-taker}
 use Rattle.split.specs.Inner.Moves.{MayMove}
 use Rattle.split.specs.Laws.Tests.{Between, between-true, Affords, affords-true}
 use Rattle.split.specs.Inner.Steps.{insteadOf, numberWith}
@@ -33,8 +34,11 @@ module _ (a b : List ℕ) (s c n : ℕ) (w : Changed a b s c n) where
       (memberOf (systemOf ch s) 2) → numberWith ch a s c n ≡ rowNumber ch b s
   unfolding numberWith rowNumber
   number-with ch t =
-      rw (instead-is (memberOf (systemOf ch s) 0) (t .low0), instead-is (memberOf (systemOf ch s) 1) (t .low1),
-          instead-is (memberOf (systemOf ch s) 2) (t .low2))
+      rw (
+        instead-is (memberOf (systemOf ch s) 0) (t .low0),
+        instead-is (memberOf (systemOf ch s) 1) (t .low1),
+        instead-is (memberOf (systemOf ch s) 2) (t .low2),
+      )
 
 module _ (ch : List ℕ) (k : ℕ) (a : List ℕ) (d m : ℕ) (so : Sound ch k a) (fit : MayMove ch k a d m) where
   pub bt : Between ch k m
@@ -65,7 +69,7 @@ module _ (ch : List ℕ) (k : ℕ) (a : List ℕ) (d m : ℕ) (so : Sound ch k a
   unfolding movedOf
   sound-moved =
       sound-after a (giverOf m) (takerOf m) (componentOf m) d (so .stock .long) giver-low taker-low component-low
-          (bt .apart) k (bt .from) (bt .to) (af .had) ch (so .stock .chosen) (bt .gives) (af .kept) so
+      (bt .apart) k (bt .from) (bt .to) (af .had) ch (so .stock .chosen) (bt .gives) (af .kept) so
 
   -- the sum of each component stays
   pub moved-keeps : (c : ℕ) → c < COMPONENTS → columnOf k (movedOf a m d) c ≡ columnOf k a c
@@ -80,7 +84,7 @@ module _ (ch : List ℕ) (k : ℕ) (a : List ℕ) (d m : ℕ) (so : Sound ch k a
   unfolding movedOf
   rest-same s h p q =
       number-other a (giverOf m) (takerOf m) (componentOf m) d (so .stock .long) giver-low taker-low component-low
-          (bt .apart) k (bt .from) (bt .to) (af .had) ch (so .stock .chosen) s h p q
+      (bt .apart) k (bt .from) (bt .to) (af .had) ch (so .stock .chosen) s h p q
 
   -- the giver's row and the taker's change at the component only
   pub giver-changed : Changed a (movedOf a m d) (giverOf m) (componentOf m) (cellOf a (giverOf m) (componentOf m) - d)

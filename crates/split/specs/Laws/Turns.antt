@@ -81,11 +81,13 @@ module _ (ch : List ℕ) (k : ℕ) (limit allowance : ℕ) (a : List ℕ) (level
       absurd (let z : _≡_ {A = ℕ} 0 1 = cc in omega arith)
   on-move m false true e f t =
       let u = turn-refuse ch k limit allowance a level rounds (leb-false (spreadOf (rowNumber ch a) k) limit e)
-          (eqb-true rounds allowance f) in
+      (eqb-true rounds allowance f) in
       absurd (let z : _≡_ {A = ℕ} 0 1 = cc in omega arith)
-  on-move m false false e f t =
-      (eqb-false rounds allowance f, turn-on ch k limit allowance a level rounds
-      (leb-false (spreadOf (rowNumber ch a) k) limit e) (eqb-false rounds allowance f) ∙ t)
+  on-move m false false e f t = (
+    eqb-false rounds allowance f,
+    turn-on ch k limit allowance a level rounds
+        (leb-false (spreadOf (rowNumber ch a) k) limit e) (eqb-false rounds allowance f) ∙ t,
+  )
 
   on-halve : (p q : Bool) → leb (spreadOf (rowNumber ch a) k) limit ≡ p → eqb rounds allowance ≡ q
       → turnOf ch k limit allowance a level rounds ≡ Halve
@@ -95,11 +97,13 @@ module _ (ch : List ℕ) (k : ℕ) (limit allowance : ℕ) (a : List ℕ) (level
       absurd (let z : _≡_ {A = ℕ} 0 1 = cc in omega arith)
   on-halve false true e f t =
       let u = turn-refuse ch k limit allowance a level rounds (leb-false (spreadOf (rowNumber ch a) k) limit e)
-          (eqb-true rounds allowance f) in
+      (eqb-true rounds allowance f) in
       absurd (let z : _≡_ {A = ℕ} 0 1 = cc in omega arith)
-  on-halve false false e f t =
-      (eqb-false rounds allowance f, turn-on ch k limit allowance a level rounds
-      (leb-false (spreadOf (rowNumber ch a) k) limit e) (eqb-false rounds allowance f) ∙ t)
+  on-halve false false e f t = (
+    eqb-false rounds allowance f,
+    turn-on ch k limit allowance a level rounds
+        (leb-false (spreadOf (rowNumber ch a) k) limit e) (eqb-false rounds allowance f) ∙ t,
+  )
 
   pub record Moves (m : ℕ) : Type 0 where
     pub unspent : rounds ≡ allowance → ⊥
@@ -113,9 +117,13 @@ module _ (ch : List ℕ) (k : ℕ) (limit allowance : ℕ) (a : List ℕ) (level
       let g = goes-move level (firstOf ch k a (2 ^ level)) m _ _ refl refl (o .1) in
       let b : m < MOVES = omega arith in
       let can : canOf ch k a (2 ^ level) m ≡ true = first-holds (canOf ch k a (2 ^ level)) MOVES 0 m (g .0)
-          (omega arith) in
-      record { unspent = o .0; fit = can-fit ch k m a (2 ^ level) b can; lowers = can-true ch k m a
-          (2 ^ level) can .lowers }
+      (omega arith) in
+      record {
+        unspent = o .0;
+        fit = can-fit ch k m a (2 ^ level) b can;
+        lowers = can-true ch k m a
+            (2 ^ level) can .lowers;
+      }
 
   pub halves : turnOf ch k limit allowance a level rounds ≡ Halve → level ≡ 0 → ⊥
   halves t =
@@ -160,17 +168,22 @@ module _ (ch : List ℕ) (k : ℕ) (limit allowance : ℕ) (a : List ℕ) (level
   again-move S m b u h inv t =
       let mv = moves m t in
       let n : allowance - rounds + level ≡ suc (allowance - (rounds + 1) + level) = omega (arith, mv .unspent) in
-      rw u (omega (arith, mv .unspent), inv ∙ run-move (allowance - rounds + level) m t
-          ∙ ap (λ x. runOf ch k limit allowance x (stepOf a m level) level (rounds + 1)) n)
+      rw u (
+        omega (arith, mv .unspent),
+        inv ∙ run-move (allowance - rounds + level) m t
+            ∙ ap (λ x. runOf ch k limit allowance x (stepOf a m level) level (rounds + 1)) n,
+      )
 
   pub again-halve : (S : Found) → S ≡ runOf ch k limit allowance (suc (allowance - rounds + level)) a level rounds
       → turnOf ch k limit allowance a level rounds ≡ Halve
       → (1 ≤ level) × (S ≡ runOf ch k limit allowance (suc (allowance - rounds + (level - 1))) a (level - 1) rounds)
   again-halve S inv t =
       let z = halves t in
-      let n : allowance - rounds + level ≡ suc (allowance - rounds + (level - 1)) = omega (arith, z) in
-      (omega (arith, z), inv ∙ run-halve (allowance - rounds + level) t
-      ∙ ap (λ x. runOf ch k limit allowance x a (level - 1) rounds) n)
+      let n : allowance - rounds + level ≡ suc (allowance - rounds + (level - 1)) = omega (arith, z) in (
+        omega (arith, z),
+        inv ∙ run-halve (allowance - rounds + level) t
+            ∙ ap (λ x. runOf ch k limit allowance x a (level - 1) rounds) n,
+      )
 
 pub search-starts : (ch : List ℕ) (k : ℕ) (limit level allowance : ℕ) (a : List ℕ)
     → searchOf ch k limit level allowance a ≡ runOf ch k limit allowance (suc (allowance - 0 + level)) a level 0

@@ -14,7 +14,9 @@ use borrow.Author.Tests.{eqb-true, eqb-false, ltb-true, ltb-false, lt-ltb, le-lt
 use Rattle.refusal.specs.Keys.{isIn}
 use Rattle.systems.specs.Systems.{COMPONENTS, HYDROGEN, memberOf, hasOf, candidates}
 use Rattle.systems.specs.Laws.Table.{of-true, to-true, each}
-use Rattle.systems.specs.Choice.{countTo, fitnessOf, allTo, maskFrom, inMask, presentAt, presentOf, presentCount, maskOf, presentIn, standingOf, candidatesFor, candidatesOf, order, keep, chooseBy, chooseOf}
+use Rattle.systems.specs.Choice.{countTo, fitnessOf, allTo, maskFrom, inMask, presentAt, presentOf}
+use Rattle.systems.specs.Choice.{presentCount, maskOf, presentIn, standingOf, candidatesFor, candidatesOf}
+use Rattle.systems.specs.Choice.{order, keep, chooseBy, chooseOf}
 
 -- ---- masks
 

@@ -32,7 +32,7 @@ returns-2 c =
     let s = c .before .before in
     let a = s .args in
     sum-refused (a .system) (a .n1) (a .n2) (a .d) (s .pre .0) (s .pre .1) (sym (c .before .is-mixture .ensures)
-        ∙ c .if1 .left)
+    ∙ c .if1 .left)
 
 pub of-sum-spec : {M : Type 1} → statement M
 of-sum-spec = tie.close (tie.spec is-mixture-requires number-requires returns returns-2)

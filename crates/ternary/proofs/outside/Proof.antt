@@ -21,14 +21,14 @@ returns-2 : tie.Need-returns-2
 returns-2 c =
     let a = c .before .before .before .before .args in
     outside-17 (a .system) (a .d) (sym (c .before .before .before .is-system .ensures)
-        ∙ not-false _ (c .before .before .if1 .left))
+    ∙ not-false _ (c .before .before .if1 .left))
     (sym (c .before .is-mixture .ensures) ∙ c .if2 .taken)
 
 returns-3 : tie.Need-returns-3
 returns-3 c =
     let a = c .before .before .before .before .args in
     outside-12 (a .system) (a .d) (sym (c .before .before .before .is-system .ensures)
-        ∙ not-false _ (c .before .before .if1 .left))
+    ∙ not-false _ (c .before .before .if1 .left))
     (sym (c .before .is-mixture .ensures) ∙ c .if2 .left)
 
 pub outside-spec : {M : Type 1} → statement M

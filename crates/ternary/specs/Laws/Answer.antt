@@ -128,7 +128,7 @@ module _ (system n1 n2 n3 : ℕ) where
   unfolding partialOf
   partial-refusal =
       ranged (isSystem system) (isMixture (n1 + n2 + n3)) (sharesInRange system n1 n2 n3)
-          (partialNumber system n1 n2 n3)
+      (partialNumber system n1 n2 n3)
 
   -- within the ranges: the formula's answer
   pub partial-inside : sharesInRange system n1 n2 n3 ≡ true → formulaOf system n1 n2 n3 ≡ partialOf system n1 n2 n3

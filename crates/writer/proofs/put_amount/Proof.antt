@@ -48,7 +48,7 @@ returns : tie.Need-returns
 returns c =
     let a = c .args in
     four-bytes (a .b .now) _ _ _ _ (a .at) (a .x / 16777216) (a .x / 65536 % 256) (a .x / 256 % 256)
-        (a .x % 256) refl refl refl refl
+    (a .x % 256) refl refl refl refl
 
 pub put-amount-spec : {M : Type 1} → statement M
 put-amount-spec =

@@ -22,7 +22,7 @@ same-length : tie.Need-same-length
 same-length c =
     let a = c .before .before .before .before .before .args in
     length-run (set (a .b .now) (a .at) (a .code)) _ (a .at + 1) (bytesOf (a .x))
-        (c .before .before .put-amount .ensures) ∙ simp length-set
+    (c .before .before .put-amount .ensures) ∙ simp length-set
 
 returns : tie.Need-returns
 returns c =

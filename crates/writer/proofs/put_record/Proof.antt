@@ -23,13 +23,13 @@ same-length : tie.Need-same-length
 same-length c =
     let a = c .before .before .before .before .before .args in
     length-run (set (a .b .now) (a .at) (a .system)) _ (a .at + 1) (a .code ∷ bytesOf (a .x))
-        (c .before .before .put-component .ensures) ∙ simp length-set
+    (c .before .before .put-component .ensures) ∙ simp length-set
 
 returns : tie.Need-returns
 returns c =
     let a = c .before .before .before .before .before .args in
     byte-run (a .b .now) _ _ (a .at) (a .system) (a .code ∷ bytesOf (a .x)) refl
-        (c .before .before .put-component .ensures)
+    (c .before .before .put-component .ensures)
 
 pub put-record-spec : {M : Type 1} → statement M
 put-record-spec =

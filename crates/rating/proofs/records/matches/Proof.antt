@@ -16,8 +16,8 @@ returns : tie.Need-returns
 returns c =
     let b = c .before .before in
     match-is (b .args .found) (b .args .system) (b .args .code) _
-        (splitCode (componentAt (b .args .system) (b .args .j)))
-        (c .code-of .ensures ∙ ap splitCode (c .before .component .ensures .0))
+    (splitCode (componentAt (b .args .system) (b .args .j)))
+    (c .code-of .ensures ∙ ap splitCode (c .before .component .ensures .0))
 
 pub matches-spec : {M : Type 1} → statement M
 matches-spec = tie.close (tie.spec component-requires code-of-requires returns)

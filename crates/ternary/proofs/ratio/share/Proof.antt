@@ -45,7 +45,7 @@ returns c =
     let s = c .before .before .before in
     let x≤ = size-le (s .args .a) (s .fits .a) (s .pre .1) in
     share-is (s .args .a) _ (s .args .w .n) (s .args .w .d) (s .fits .a) (omega (arith, z-le _ x≤ (s .pre .2)))
-        (is-exact _ x≤ (s .pre .2) (c .if1 .taken))
+    (is-exact _ x≤ (s .pre .2) (c .if1 .taken))
 
 mul-rest : tie.Need-mul-rest
 mul-rest c =
@@ -82,14 +82,14 @@ returns-2 c =
     let s = c .before .before .before .before .before in
     let x≤ = size-le (s .args .a) (s .fits .a) (s .pre .1) in
     share-is (s .args .a) _ (s .args .w .n) (s .args .w .d) (s .fits .a) (omega (arith, z-le _ x≤ (s .pre .2)))
-        (is-less _ x≤ (s .pre .2) (omega arith))
+    (is-less _ x≤ (s .pre .2) (omega arith))
 
 returns-3 : tie.Need-returns-3
 returns-3 c =
     let s = c .before .before .before .before .before in
     let x≤ = size-le (s .args .a) (s .fits .a) (s .pre .1) in
     share-is (s .args .a) _ (s .args .w .n) (s .args .w .d) (s .fits .a) (omega (arith, z-le _ x≤ (s .pre .2)))
-        (is-more _ x≤ (s .pre .2) (omega arith))
+    (is-more _ x≤ (s .pre .2) (omega arith))
 
 pub share-spec : {M : Type 1} → statement M
 share-spec =
