@@ -25,8 +25,8 @@ pub enum Checked {
     Refused { number: u32, code: u32 },
 }
 
-// The least and the greatest amount of each code, as 001 Table 1 has them; 1 and 0, which no amount lies between, where
-// it may have none.
+// The least and the greatest amount of each code, as 001 Table 1 has them; 1 and 0, which no amount lies between,
+// where it may have none. One computation ties the table to the register.
 const RANGES: [[u32; 2]; CODES] = [
     // 0, no code
     [1, 0],

@@ -31,7 +31,8 @@ fn rated(sheet: &[u8]) -> Outcome
     rating::rate_sheet(sheet)
 }
 
-// The rating by the search, with figures that fit.
+// The rating by the search, with figures that fit. A lent array is copied to a value first, which tells the proof its
+// length.
 fn searched(amounts: [u32; CODES], allowance: u32) -> Outcome
     ensures { λ r. let answer = r .answer in ⌜ (r ≡ searchOutcome amounts allowance (faultOf answer))
         × (numberOf answer ≡ 5 → AtFault amounts (faultOf answer)) × SmallFigures answer ⌝ }

@@ -97,7 +97,8 @@ fn weighted(hydrogen: bool, i: usize, c: usize, x: u32) -> u64
     0
 }
 
-// The fitness of the candidate in place i times 480, and 1.
+// The fitness of the candidate in place i times 480, and 1. It adds the components that the candidate contains, where
+// the definition adds its three members.
 fn fitness(mix: [u32; COMPONENTS], hydrogen: bool, i: usize) -> u64
     requires { ⌜ i < length (candidatesFor hydrogen) ⌝ }
     ensures { λ r. ⌜ (r ≡ keyWeights mix (candidateAt hydrogen i) COMPONENTS + 1)
@@ -148,7 +149,8 @@ fn present(mix: [u32; COMPONENTS]) -> u32
     p
 }
 
-// How many components of a mixture are present.
+// How many components of a mixture are present. `choose` makes the mask once more, which costs nanoseconds and keeps
+// both total.
 pub fn present_count(mix: [u32; COMPONENTS]) -> u32
     ensures { λ r. ⌜ r ≡ presentCount mix ⌝ }
 {
@@ -172,7 +174,8 @@ fn key(mix: [u32; COMPONENTS], p: u32, top: u64, hydrogen: bool, i: usize) -> u6
     count(p, hydrogen, i) as u64 * top + fitness(mix, hydrogen, i)
 }
 
-// The keys of the candidates before one is chosen.
+// The keys of the candidates before one is chosen. They are worked out once; the greatest tells the system to take,
+// and is 0 once it is chosen.
 fn keys_of(mix: [u32; COMPONENTS], p: u32, hydrogen: bool) -> [u64; KEYS]
     requires { ⌜ p ≡ presentOf mix ⌝ }
     ensures { λ r. ⌜ Keyed hydrogen (standingOf mix) (replicate NUMBERS false) r ⌝ }
@@ -292,7 +295,7 @@ fn among_hydrocarbons(mix: [u32; COMPONENTS], p: u32) -> Choice
     listed(keys, false)
 }
 
-// The systems chosen for a mixture of so many parts of each component.
+// The systems chosen for a mixture of so many parts of each component. A standing fits 64 bits for all amounts.
 pub fn choose(mix: [u32; COMPONENTS]) -> Choice
     ensures { λ r. ⌜ r ≡ choiceOf mix ⌝ }
 {

@@ -52,7 +52,7 @@ fn put_byte(buffer: &mut [u8; LINE], at: usize, byte: u8) -> usize
     at + 1
 }
 
-// A word.
+// A word. An array that is lent as a slice tells the proof its length.
 fn put_word(buffer: &mut [u8], at: usize, word: &[u8]) -> usize
     requires { ⌜ at + length (now word) ≤ length (now buffer) ⌝ }
     ensures { λ r. ⌜ Put (now (buffer .entry)) at (now (word .entry)) (now (buffer .exit)) r ⌝ }

@@ -120,7 +120,8 @@ fn butane(a: &[u32; CODES]) -> u64
     t
 }
 
-// The components in tenths of a part.
+// The components in tenths of a part. They have 64 bits, so that any amounts may come; what follows needs only T
+// above 0 and no tenth above 10^12.
 fn tenths(a: &[u32; CODES]) -> [u64; COMPONENTS]
     ensures { λ r. ⌜ (r ≡ tenthsOf (now (a .entry))) × Limited r ⌝ }
 {

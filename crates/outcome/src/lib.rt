@@ -1,5 +1,5 @@
-// What an analysis or a sheet is answered with. The definitions of the answers and the theorems about them are in specs/;
-// the calls, which are proved equal to them, are in crate `rating`.
+// What an analysis or a sheet is answered with. The definitions of the answers and the theorems about them are in
+// specs/; the calls, which are proved equal to them, are in crate `rating`.
 use sheet::Split;
 use split::Answer;
 

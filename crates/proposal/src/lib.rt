@@ -1,4 +1,5 @@
-// What cells proposed as a split come to: refused 8 to 10, or rated; or unfit. No public function has a `requires`.
+// What cells proposed as a split come to: refused 8 to 10, or rated; or unfit. The definitions are in crate `split`,
+// Rating and Proposed. No public function has a `requires`.
 ghost use mathlib.Core.Path.{_≡_};
 ghost use Prim.Native.Nat.{_+_, _*_, _<_, _≤_};
 ghost use lib.IntN.{ℤ, pos, negsuc, natAbs, _+ℤ_, _*ℤ_};
@@ -170,8 +171,9 @@ fn fits(mix: [u32; COMPONENTS], choice: Choice, n1: u32) -> bool
 }
 
 // The answer to cells proposed as a split of a mixture among its chosen systems: refused 8 where they do not re-sum,
-// 9 where a system is empty, 10 where the spread is above the limit, else rated with the inert mixture's n1.
-// Systems that are no candidates, and a mixture or an n1 above a million parts, are unfit.
+// 9 where a system is empty, 10 where the spread is above the limit, else rated with the inert mixture's n1. Systems
+// that are no candidates, and a mixture or an n1 above a million parts, are unfit. Only cells that re-sum go on, so
+// each system has a million parts at most and every sum fits.
 pub fn proposed(
     limit: u64,
     choice: Choice,

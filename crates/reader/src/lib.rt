@@ -83,7 +83,8 @@ fn sections(s: &[u8]) -> Sections
     }
 }
 
-// The refusal of the code `c` after the code `p`, or 0: 2 unknown or legal in splits only, 3 retired, 4 not above `p`.
+// The refusal of the code `c` after the code `p`, or 0: 2 unknown or legal in splits only, 3 retired, 4 not above
+// `p`. One computation ties the tests to the register.
 fn code_refusal(c: u8, p: u8) -> u32
     ensures { λ r. ⌜ r ≡ codeRefusal c p ⌝ }
 {

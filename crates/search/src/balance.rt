@@ -1,4 +1,6 @@
-// The imbalance of some partial numbers, from two sums that a move changes in two places.
+// The imbalance of some partial numbers, from two sums that a move changes in two places: the squares of the
+// differences of every pair of k numbers are k times the sum of their squares less the square of their sum. Counted
+// from below every number, both sums are natural numbers and fit 64 bits for eight systems.
 ghost use mathlib.Core.Path.{_≡_};
 ghost use Prim.Native.Nat.{_+_, _*_, _-_, _<_, _≤_};
 ghost use lib.IntN.{natAbs};

@@ -1,4 +1,5 @@
-// The search for a split whose partial numbers agree. No public function has a `requires`.
+// The search for a split whose partial numbers agree. The definitions are in crate `split`, Move, Search and Find. No
+// public function has a `requires`.
 mod balance;
 mod moves;
 mod rounds;

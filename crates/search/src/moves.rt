@@ -1,4 +1,5 @@
-// Moves: which there are, what one does, and the first that lowers the imbalance.
+// Moves: which there are, what one does, and the first that lowers the imbalance. A trial copies neither cells nor
+// numbers, and the giver's work is done once for each component and giver.
 ghost use mathlib.Core.Path.{_≡_};
 ghost use mathlib.Core.Bool.{true};
 ghost use Prim.Native.Nat.{ℕ, _+_, _*_, _-_, _%_, _<_, _≤_};

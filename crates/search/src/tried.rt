@@ -1,5 +1,6 @@
 // The partial numbers that moves of one stride lead to, each worked out when it is first asked for and kept while its
-// row stays.
+// row stays. A move that is made forgets its two rows but for the two tries that would take it back; halving the
+// stride forgets all.
 ghost use mathlib.Core.Path.{_≡_};
 ghost use Prim.Native.Nat.{_+_, _*_, _<_, _≤_};
 ghost use lib.IntN.{natAbs};

@@ -48,7 +48,8 @@ fn wide(count: u8) -> usize
     count as usize
 }
 
-// The section whose count byte stands at `at`, its records `size` bytes each.
+// The section whose count byte stands at `at`, its records `size` bytes each. Count times size stays below 65026, so
+// that nothing wraps at any offset and size.
 pub fn section_at(s: &[u8], at: usize, size: u8) -> Section
     ensures { λ r. ⌜ r ≡ sectionAt (now (s .entry)) at size ⌝ }
 {

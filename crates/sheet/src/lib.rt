@@ -8,7 +8,8 @@ use analysis::Analysis;
 // The most components that a sheet lists.
 pub const LISTED: usize = 12;
 
-// Room for a split's records.
+// Room for a split's records. Who rates a shorter split does not read the places left over, who gives one writes
+// zeros there.
 pub const RECORDS: usize = 21;
 
 // The least and the most records of a sheet's split, where it has one.

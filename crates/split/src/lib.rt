@@ -1,4 +1,5 @@
-// The answers of a rating and of the search. The definitions and the theorems are in specs/.
+// The answers of a rating and of the search. The definitions and the theorems are in specs/; the code is in crates
+// `start`, `split_rows`, `proposal`, `turn` and `search`.
 
 use systems::COMPONENTS;
 use systems::SYSTEMS;

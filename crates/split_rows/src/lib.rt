@@ -1,5 +1,5 @@
-// The rows of a split: whether they can be worked on, their partial numbers, parts and spread. No public function has a
-// `requires`.
+// The rows of a split: whether they can be worked on, their partial numbers, parts and spread. The definitions are in
+// crate `split`, Split, Rating and Find, and in specs/Rows. No public function has a `requires`.
 ghost use mathlib.Core.Bool.{_&&_, cond};
 ghost use mathlib.Core.Path.{_≡_};
 ghost use Prim.Native.Nat.{_+_, _<_, _≤_};

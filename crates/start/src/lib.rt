@@ -1,4 +1,5 @@
-// The split that a search begins with. No public function has a `requires`.
+// The split that a search begins with. The definitions are in crate `split`, Start. No public function has a
+// `requires`.
 ghost use mathlib.Core.Path.{_≡_};
 ghost use Prim.Native.Nat.{_+_, _*_, _/_, _<_, _≤_, max, min};
 ghost use lib.ListN.{length, replicate};

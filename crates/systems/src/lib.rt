@@ -13,8 +13,10 @@ pub const HYDROGEN: usize = 4;
 // System numbers are below this one.
 const NUMBERS: usize = 9;
 
-// The systems' first, second and third components: an octal digit for each system number, from the right. System 1, the
-// second from the right, has 0, 4 and 1: methane, hydrogen and ethane. Numbers that are no candidates have COMPONENTS.
+// The systems' first, second and third components: an octal digit for each system number, from the right. System 1,
+// the second from the right, has 0, 4 and 1: methane, hydrogen and ethane. Numbers that are no candidates have
+// COMPONENTS. They are packed, since a `const` array that is read at a variable index is built again on the stack;
+// one computed test ties each to `members`.
 const FIRST: u64 = 0o000005205;
 
 const SECOND: u64 = 0o124415145;
@@ -59,7 +61,8 @@ const BITS: usize = 6;
 // All components, a bit for each, and 1.
 const MASKS: u64 = 32;
 
-// Whether the system contains component c.
+// Whether the system contains component c. A number that is no candidate has COMPONENTS in each place, so it has that
+// one, as in the definition; nothing asks.
 pub fn has(system: u8, c: usize) -> bool
     ensures { λ r. ⌜ r ≡ hasOf system c ⌝ }
 {

@@ -25,7 +25,8 @@ pub(crate) fn number(system: u32, n1: u32, n2: u32, d: u64) -> i64
     rows(&t, v, w)
 }
 
-// The rows in w, combined in v. Rows 4 to 7 have one coefficient each.
+// The rows in w, combined in v. Rows 4 to 7 have one coefficient each. They are calls with fixed places and lengths,
+// not a loop, so that the compiler unrolls them.
 fn rows(t: &[i64; 20], v: Ratio, w: Ratio) -> i64
     requires { ⌜ Bounded (now t) × (v .d ≡ w .d) × Digits v × Digits w ⌝ }
     ensures { λ r. ⌜ r ≡ worked (v .n) (w .n) (v .d) (rowsOf (inTable (now (t .entry)))) ⌝ }

@@ -1,4 +1,5 @@
-// What the search does before a round, and once it has looked for a move. No public function has a `requires`.
+// What the search does before a round, and once it has looked for a move. The definitions are in crate `split`,
+// Search, and in specs/Before. No public function has a `requires`.
 ghost use mathlib.Core.Path.{_≡_};
 ghost use Rattle.split.specs.Search.{goOn};
 ghost use Rattle.turn.specs.Before.{beforeOf};

@@ -152,7 +152,8 @@ fn put_sheet(a: [u32; CODES], split: Split, b: &mut [u8])
     put_split(split, b, at + 1);
 }
 
-// The sheet of the analysis and the split in the buffer, and its length; or a refusal, and the buffer as it was.
+// The sheet of the analysis and the split in the buffer, and its length; or a refusal, and the buffer as it was. The
+// answer is worked out from the length alone: no byte is stored before every refusal is ruled out.
 pub fn write(analysis: Analysis, split: Split, buffer: &mut [u8]) -> Written
     ensures { λ r. ⌜ WrittenAs (analysis .amounts) split (now (buffer .entry)) r (now (buffer .exit)) ⌝ }
 {
