@@ -118,6 +118,6 @@ pub keys-kept : (take BASE (keysOf register)
 unfolding statusOf
 keys-kept = (refl, refl)
 
-pub hydrogen-kept : statusOf 15 ≡ live 10 100000 false
+pub hydrogen-kept : (hydrogenCode ≡ 15) × (statusOf 15 ≡ live 10 100000 false)
 unfolding statusOf
-hydrogen-kept = refl
+hydrogen-kept = (refl, refl)

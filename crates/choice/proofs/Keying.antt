@@ -16,7 +16,7 @@ use lib.Seq.{getD-set-same, getD-set-other}
 use borrow.Author.Tests.{lt-ltb, le-ltb, eqb-true, eqb-false, eq-eqb, ne-eqb}
 use Rattle.refusal.specs.Keys.{isIn}
 use Rattle.systems.specs.Systems.{COMPONENTS, memberOf, hasOf, candidates}
-use Rattle.systems.specs.Choice.{NUMBERS, hydrocarbonOrder, order, fold, weightedParts, fitnessOf, allTo, maskFrom}
+use Rattle.systems.specs.Choice.{NUMBERS, hydrocarbonOrder, order, fold, weightedParts, fitnessOf, weightedTo, maskFrom}
 use Rattle.systems.specs.Choice.{maskOf, inMask, presentOf, presentIn, standingOf, candidatesFor, keep, isChosen}
 use Rattle.systems.specs.Choice.{oneIf, countOf, containingOf, scoreOf, betterOf, fittestOf, takeOf, passOf}
 use Rattle.systems.specs.Choice.{marksOf}
@@ -59,9 +59,9 @@ fitness-is hy mix i h =
 
 -- ---- the number present, and the standing
 
-pub all-next : (mix : List ℕ) (c k x : ℕ) → k ≡ allTo mix c + 1 → x ≡ weightedParts mix c
-    → k + x ≡ allTo mix (c + 1) + 1
-unfolding allTo
+pub all-next : (mix : List ℕ) (c k x : ℕ) → k ≡ weightedTo mix c + 1 → x ≡ weightedParts mix c
+    → k + x ≡ weightedTo mix (c + 1) + 1
+unfolding weightedTo
 all-next mix c k x e w = rw (add-one c) (omega (arith, e, w))
 
 -- a component more in front of a mask
@@ -96,14 +96,14 @@ unfolding presentIn
 count-is-present p system m n e f = rw (e, f) (refl, present-le p system)
 
 pub standing-is : (hy : Bool) (mix : List ℕ) (i p top n f : ℕ) → i < length (candidatesFor hy) → p ≡ presentOf mix
-    → top ≡ allTo mix COMPONENTS + 1 → n ≡ presentIn p (getD (candidatesFor hy) i 0)
+    → top ≡ weightedTo mix COMPONENTS + 1 → n ≡ presentIn p (getD (candidatesFor hy) i 0)
     → f ≡ keyWeights mix (getD (candidatesFor hy) i 0) COMPONENTS + 1
     → n * top + f ≡ standingOf mix (getD (candidatesFor hy) i 0) + 1
 unfolding standingOf
 standing-is hy mix i p top n f h e t q w =
     let g : f ≡ fitnessOf mix (getD (candidatesFor hy) i 0) + 1 = w ∙ ap (λ (x : ℕ). x + 1) (fitness-is hy mix i h) in
     rw (q, e, t, g) (sym (add-assoc
-    (presentIn (presentOf mix) (getD (candidatesFor hy) i 0) * (allTo mix COMPONENTS + 1))
+    (presentIn (presentOf mix) (getD (candidatesFor hy) i 0) * (weightedTo mix COMPONENTS + 1))
     (fitnessOf mix (getD (candidatesFor hy) i 0)) 1))
 
 -- the product fits

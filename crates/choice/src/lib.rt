@@ -7,7 +7,7 @@ ghost use Prim.Native.Nat.{ℕ, _+_, _*_, _<_, _≤_};
 ghost use mathlib.Core.List.{List};
 ghost use lib.ListN.{getD, length, replicate};
 ghost use Rattle.systems.specs.Systems.{COMPONENTS, hasOf};
-ghost use Rattle.systems.specs.Choice.{NUMBERS, weights, order, allTo, presentOf, presentCount, presentIn};
+ghost use Rattle.systems.specs.Choice.{NUMBERS, weights, order, weightedTo, presentOf, presentCount, presentIn};
 ghost use Rattle.systems.specs.Choice.{standingOf, candidatesFor, keep, takeOf, passOf, choiceFrom, chosenOf};
 ghost use Rattle.systems.specs.Choice.{chooseBy, hydrocarbonOrder, marksOf, choiceOf};
 ghost use Rattle.choice.specs.Inner.Keys.{candidateAt, MOST_WEIGHTED, KEYS, Keyed, keyWeights};
@@ -115,7 +115,7 @@ fn fitness(mix: [u32; COMPONENTS], hydrogen: bool, i: usize) -> u64
 
 // The weighted parts of all components, and 1: above every fitness times 480.
 fn above(mix: [u32; COMPONENTS]) -> u64
-    ensures { λ r. ⌜ (r ≡ allTo mix COMPONENTS + 1) × (r ≤ MOST_WEIGHTED * COMPONENTS + 1) ⌝ }
+    ensures { λ r. ⌜ (r ≡ weightedTo mix COMPONENTS + 1) × (r ≤ MOST_WEIGHTED * COMPONENTS + 1) ⌝ }
 {
     let mut k: u64 = 1;
     let mut c: usize = 0;
@@ -168,7 +168,7 @@ fn count(p: u32, hydrogen: bool, i: usize) -> u32
 // The key of the candidate in place i before it is chosen: the number present goes before the fitness.
 fn key(mix: [u32; COMPONENTS], p: u32, top: u64, hydrogen: bool, i: usize) -> u64
     requires { ⌜ (i < length (candidatesFor hydrogen)) × (p ≡ presentOf mix) ⌝ }
-    requires { ⌜ (top ≡ allTo mix COMPONENTS + 1) × (top ≤ MOST_WEIGHTED * COMPONENTS + 1) ⌝ }
+    requires { ⌜ (top ≡ weightedTo mix COMPONENTS + 1) × (top ≤ MOST_WEIGHTED * COMPONENTS + 1) ⌝ }
     ensures { λ r. ⌜ r ≡ standingOf mix (candidateAt hydrogen i) + 1 ⌝ }
 {
     count(p, hydrogen, i) as u64 * top + fitness(mix, hydrogen, i)
@@ -240,7 +240,7 @@ fn pass(keys: &mut [u64; KEYS], p: u32, wanted: usize)
 
 // The components present do so for one system each and then for two, among those of hydrocarbons: both in one loop,
 // which is quicker where there are four.
-fn hydrocarbon_turns(keys: &mut [u64; KEYS], p: u32)
+fn hydrocarbon_passes(keys: &mut [u64; KEYS], p: u32)
     ensures { λ _. ⌜ ((standing : ℕ → ℕ) → Keyed false standing (replicate NUMBERS false) (now (keys .entry))
         → Keyed false standing (marksOf standing (candidatesFor false) (keep p hydrocarbonOrder))
         (now (keys .exit))) ⌝ }
@@ -291,7 +291,7 @@ fn among_hydrocarbons(mix: [u32; COMPONENTS], p: u32) -> Choice
     ensures { λ r. ⌜ r ≡ choiceFrom (chooseBy (standingOf mix) (candidatesFor false) (keep p hydrocarbonOrder)) ⌝ }
 {
     let mut keys = keys_of(mix, p, false);
-    hydrocarbon_turns(&mut keys, p);
+    hydrocarbon_passes(&mut keys, p);
     listed(keys, false)
 }
 

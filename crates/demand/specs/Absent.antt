@@ -204,7 +204,7 @@ two-on = enough-on methaneEthane two-passes (omega (arith, two-count))
 
 pub two-systems : chooseOf (mixOf methaneEthane) ≡ 4 ∷ 8 ∷ []
 unfolding chooseOf marksOf passOf takeOf containingOf fittestOf betterOf scoreOf chosenOf listOf fold fitnessOf
-    standingOf choice.allTo keep inMask presentOf presentIn maskOf maskFrom ones hasOf memberOf candidatesOf
+    standingOf choice.weightedTo keep inMask presentOf presentIn maskOf maskFrom ones hasOf memberOf candidatesOf
 two-systems = ap chooseOf methane-ethane
 
 -- with six records, as the search finds them, it has a rating and a spread

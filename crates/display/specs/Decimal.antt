@@ -10,7 +10,7 @@ use lib.IntN.{ℤ, pos, negsuc}
 abbrev pub digit : ℕ → ℕ
 digit d = 48 + d
 
--- the digits of n, the last one split off so many times at most By `elim`: a computed `cond` of a recursion by a
+-- the digits of n, the last one split off so many times at most. By `elim`: a computed `cond` of a recursion by a
 -- large count takes more stack than the checker has.
 unfoldable pub digitsIn : ℕ → ℕ → List ℕ
 digitsIn zero n = digit n ∷ []

@@ -1,5 +1,5 @@
 -- The answers before request Seven, of four components (document 01, "The split and the rating", "The search"; document
--- 02, Five): `rating/specs/Rate` over the split and the search at BEFORE components. A mixture is of methane, ethane,
+-- 02, Five): `outcome/specs/Rate` over the split and the search at BEFORE components. A mixture is of methane, ethane,
 -- propane and butane. Assumes nothing.
 use mathlib.Core.List.{List}
 use mathlib.Core.Bool.{Bool, cond, _&&_}
@@ -30,7 +30,7 @@ use Rattle.kept.specs.BeforeCheck.{registerBefore}
 use Rattle.kept.specs.BeforeMixture.{simplifiedBefore, inertBefore}
 use Rattle.kept.specs.Widths.{BEFORE, componentIn, cellsIn, amountsIn, ratingIn, proposedIn, startIn, searchIn}
 
--- ---- the records: as in `rating/specs/Records`
+-- ---- the records: as in `outcome/specs/Records`
 
 unfoldable pub codeBefore : List ℕ → ℕ → ℕ → ℕ
 codeBefore systems count r =

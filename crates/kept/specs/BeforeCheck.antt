@@ -1,5 +1,4 @@
--- The check before document 02's Seven: by the register without code 15. An analysis without hydrogen is checked as
--- before, and one with hydrogen was refused. Assumes nothing.
+-- The check before document 02's Seven: by the register without code 15. Assumes nothing.
 use mathlib.Core.List.{List}
 use lib.ListN.{take}
 use Rattle.analysis.specs.Register.{BASE, Entry, register}

@@ -1,5 +1,4 @@
--- The simplified mixture before document 02's Seven: four components. An analysis without hydrogen keeps its four
--- amounts beside 0 of hydrogen, and its inert mixture. Assumes nothing.
+-- The simplified mixture before document 02's Seven: four components. Assumes nothing.
 use Prim.Native.Nat.{ℕ, _*_}
 use mathlib.Core.List.{List, [], _∷_}
 use Rattle.analysis.specs.Check.{totalOf}

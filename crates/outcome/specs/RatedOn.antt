@@ -1,5 +1,4 @@
--- The analyses that are rated on: 5, 6, 16 and then 13, which turns none away, let them pass. By cases. Assumes
--- nothing.
+-- The analyses that are rated on: 5, 6, 16 and then 13, which turns none away, let them pass. Assumes nothing.
 use mathlib.Core.Path.{_≡_}
 use mathlib.Core.List.{List}
 use Prim.Native.Nat.{ℕ}

@@ -32,7 +32,7 @@ unfoldable pub matchesAt : List ℕ → ℕ → List ℕ → List ℕ → ℕ �
 matchesAt systems count named codes r =
     eqb (getD named r 0) (systemAt systems count r) && eqb (getD codes r 0) (codeAt systems count r)
 
--- three records for each of the k systems, each of the system and the component expected of it
+-- three records for each of the systems, each of the system and the component expected of it
 unfoldable pub fitsOf : List ℕ → ℕ → ℕ → List ℕ → List ℕ → Bool
 fitsOf systems count records named codes =
     eqb records (3 * count) && allTo (matchesAt systems count named codes) records

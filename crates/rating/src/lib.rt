@@ -119,7 +119,7 @@ pub fn rate_sheet(s: &[u8]) -> Outcome
             number,
             place,
             code,
-        } => refused(number, carried(number, place, code)),
+        } => refused(number, carried(number, code, place)),
         Reading::Read => rate_read(analysis, split),
     }
 }
@@ -147,10 +147,10 @@ fn split_by(choice: Choice, mix: [u32; COMPONENTS], n1: u32, split: Split) -> An
     let count = choice.count;
     let systems = choice.systems;
     let records = split.count;
-    let found = split.systems;
+    let named = split.systems;
     let codes = split.codes;
     let amounts = split.amounts;
-    if !records::fits(systems, count, records, found, codes) {
+    if !records::fits(systems, count, records, named, codes) {
         return Answer::Refused {
             number: MISFIT,
             place: 0,
@@ -235,7 +235,7 @@ fn at_most(allowance: u32) -> u32
 }
 
 // The code at fault with 5, else the record's place.
-fn carried(number: u32, place: u32, code: u32) -> u32
+fn carried(number: u32, code: u32, place: u32) -> u32
     ensures { λ r. ⌜ r ≡ placeOf (Reading.Refused number place code) ⌝ }
 {
     if number == OUT_OF_RANGE { code } else { place }

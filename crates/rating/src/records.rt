@@ -55,7 +55,7 @@ pub(crate) fn split_of(systems: [u8; SYSTEMS], count: usize, cells: [u32; CELLS]
     requires { ⌜ Chosen systems count ⌝ }
     ensures { λ r. ⌜ r ≡ recordsOf systems count cells ⌝ }
 {
-    let mut found = [0u8; RECORDS];
+    let mut named = [0u8; RECORDS];
     let mut codes = [0u8; RECORDS];
     let mut amounts = [0u32; RECORDS];
     let last = records_of(count);
@@ -65,14 +65,14 @@ pub(crate) fn split_of(systems: [u8; SYSTEMS], count: usize, cells: [u32; CELLS]
         let j = r % 3;
         let system = systems[s];
         let c = component(system, j);
-        found[r] = system;
+        named[r] = system;
         codes[r] = code_of(c);
         amounts[r] = cells[s * COMPONENTS + c];
         r += 1;
     }
     Split {
         count: 3 * count,
-        systems: found,
+        systems: named,
         codes,
         amounts,
     }
@@ -102,11 +102,11 @@ pub(crate) fn cells_of(
 }
 
 // Whether a record is of the system and of the component of its jth record.
-fn matches(system: u8, j: usize, found: u8, code: u8) -> bool
+fn matches(system: u8, j: usize, named: u8, code: u8) -> bool
     requires { ⌜ Candidate system × (j < 3) ⌝ }
-    ensures { λ x. ⌜ x ≡ (eqb found system && eqb code (splitCode (componentAt system j))) ⌝ }
+    ensures { λ x. ⌜ x ≡ (eqb named system && eqb code (splitCode (componentAt system j))) ⌝ }
 {
-    (found == system) & (code == code_of(component(system, j)))
+    (named == system) & (code == code_of(component(system, j)))
 }
 
 // Whether the records, so many of each system and code, are those of the chosen systems.
@@ -114,11 +114,11 @@ pub(crate) fn fits(
     systems: [u8; SYSTEMS],
     count: usize,
     records: usize,
-    found: [u8; RECORDS],
+    named: [u8; RECORDS],
     codes: [u8; RECORDS],
 ) -> bool
     requires { ⌜ Chosen systems count × (3 * count ≤ RECORDS) ⌝ }
-    ensures { λ r. ⌜ r ≡ fitsOf systems count records found codes ⌝ }
+    ensures { λ r. ⌜ r ≡ fitsOf systems count records named codes ⌝ }
 {
     if records != 3 * count {
         return false;
@@ -128,9 +128,9 @@ pub(crate) fn fits(
         s -= 1;
         let system = systems[s];
         let r = 3 * s;
-        let first = matches(system, 0, found[r], codes[r]);
-        let second = matches(system, 1, found[r + 1], codes[r + 1]);
-        let third = matches(system, 2, found[r + 2], codes[r + 2]);
+        let first = matches(system, 0, named[r], codes[r]);
+        let second = matches(system, 1, named[r + 1], codes[r + 1]);
+        let third = matches(system, 2, named[r + 2], codes[r + 2]);
         if !(first & second & third) {
             return false;
         }

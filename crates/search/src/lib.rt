@@ -18,7 +18,7 @@ use systems::COMPONENTS;
 use systems::Choice;
 
 // The level of the largest first stride, 65536.
-const LEVEL: usize = 16;
+const FIRST_LEVEL: usize = 16;
 
 fn nothing() -> Found
     ensures { λ r. ⌜ r ≡ foundOf (replicate CELLS 0) Search.Unfit ⌝ }
@@ -40,7 +40,7 @@ pub fn find(
 ) -> Found
     ensures { λ r. ⌜ r ≡ findOf mix (choice .systems) (choice .count) limit level allowance ⌝ }
 {
-    if (LEVEL < level) | !split_rows::fit(mix, choice) {
+    if (FIRST_LEVEL < level) | !split_rows::fit(mix, choice) {
         return nothing();
     }
     let cells = start::start(mix, choice);

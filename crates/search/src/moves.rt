@@ -239,10 +239,10 @@ pub(crate) fn first_move(
     let was = imbalance(all, count);
     let mut n = 0;
     while n < MOVES {
-        let found = first_from(systems, count, cells, numbers, tried, stride, n, all, was);
+        let first = first_from(systems, count, cells, numbers, tried, stride, n, all, was);
         n += SYSTEMS;
-        if found < n {
-            return found;
+        if first < n {
+            return first;
         }
         if count <= giver(n) {
             n += PAIRS - n % PAIRS;

@@ -51,8 +51,8 @@ fn next_turn(
         Before::Spent => Turn::Refuse,
         Before::Open => {
             let stride = stride(level);
-            let found = first_move(systems, count, cells, numbers, tried, stride);
-            turn::go_on(level, found)
+            let first = first_move(systems, count, cells, numbers, tried, stride);
+            turn::go_on(level, first)
         }
     }
 }

@@ -36,10 +36,11 @@ codesReading (suc n) s at i p =
     (codesReading n s (at + COMPONENT_BYTES) (i + 1) (getD s at 0))
     (Refused (codeRefusal (getD s at 0) p) i 0)
 
--- the amounts `a`, with those of `n` records at `at` put in
+-- the amounts, with those of `n` records at `at` put in
 abbrev pub amountsFrom : ℕ → List ℕ → ℕ → List ℕ → List ℕ
-amountsFrom zero s at a = a
-amountsFrom (suc n) s at a = amountsFrom n s (at + COMPONENT_BYTES) (set a (getD s at 0) (fourBytesAt s (at + 1)))
+amountsFrom zero s at amounts = amounts
+amountsFrom (suc n) s at amounts =
+    amountsFrom n s (at + COMPONENT_BYTES) (set amounts (getD s at 0) (fourBytesAt s (at + 1)))
 
 -- is a component listed at 0 in `n` records at `at`?
 abbrev pub zeroListed : ℕ → List ℕ → ℕ → Bool

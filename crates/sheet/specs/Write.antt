@@ -18,24 +18,28 @@ use Rattle.sheet.specs.Sheet.{sheetOf}
 -- the number for an analysis and a split written into a buffer of `size` bytes: 1 for a count that no sheet has, then
 -- 5, 6 and 14; or 0
 unfoldable pub writeRefusal : List ℕ → Split → ℕ → ℕ
-writeRefusal a p size =
-    cond (allowedCount (p .count))
-    (cond (eqb (analysisRefusal a) 0) (cond (leb (length (sheetOf a p)) size) 0 SHORT_BLANK) (analysisRefusal a))
+writeRefusal analysis split size =
+    cond (allowedCount (split .count))
+    (cond (eqb (analysisRefusal analysis) 0)
+    (cond (leb (length (sheetOf analysis split)) size) 0 SHORT_BLANK)
+    (analysisRefusal analysis))
     TORN
 
 -- the answer; a refusal 5 carries `code`
 unfoldable pub writtenOf : List ℕ → Split → ℕ → ℕ → Written
-writtenOf a p size code =
-    cond (eqb (writeRefusal a p size) 0)
-    (Length (length (sheetOf a p)))
-    (Refused (writeRefusal a p size) (carried (writeRefusal a p size) code 0))
+writtenOf analysis split size code =
+    cond (eqb (writeRefusal analysis split size) 0)
+    (Length (length (sheetOf analysis split)))
+    (Refused (writeRefusal analysis split size) (carried (writeRefusal analysis split size) code 0))
 
 -- the buffer after it: the sheet's bytes at its start and the rest as it was, or all of it as it was
 unfoldable pub leftOf : List ℕ → Split → List ℕ → List ℕ
-leftOf a p b = cond (eqb (writeRefusal a p (length b)) 0) (sheetOf a p ++ drop (length (sheetOf a p)) b) b
+leftOf analysis split lent =
+    cond (eqb (writeRefusal analysis split (length lent)) 0)
+    (sheetOf analysis split ++ drop (length (sheetOf analysis split)) lent) lent
 
 -- the promise of the writer: answer and buffer are fixed but for the code of 5, and that is a code at fault
-pub record WrittenAs (a : List ℕ) (p : Split) (b : List ℕ) (r : Written) (left : List ℕ) : Type 0 where
-  pub answer : r ≡ writtenOf a p (length b) (faultOf r)
-  pub buffer : left ≡ leftOf a p b
-  pub code : numberOf r ≡ 5 → AtFault a (faultOf r)
+pub record WrittenAs (analysis : List ℕ) (split : Split) (lent : List ℕ) (r : Written) (left : List ℕ) : Type 0 where
+  pub answer : r ≡ writtenOf analysis split (length lent) (faultOf r)
+  pub buffer : left ≡ leftOf analysis split lent
+  pub code : numberOf r ≡ 5 → AtFault analysis (faultOf r)

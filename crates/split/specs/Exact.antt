@@ -1,5 +1,5 @@
--- The exact rating of a split, the same formulas with no fraction dropped, as a numerator over a denominator;
--- a rating is less than 40 units from it (document 01, "The split and the rating"). Assumes nothing.
+-- The exact rating of a split, the same formulas with no fraction dropped, as a numerator over a denominator
+-- (document 01, "The split and the rating"). Assumes nothing.
 use mathlib.Core.List.{List}
 use Prim.Native.Nat.{ℕ, zero, suc, _*_, _-_, _^_, _<_}
 use lib.IntN.{pos}

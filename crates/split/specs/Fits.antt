@@ -1,5 +1,4 @@
--- What a split is tested for, as propositions, and that the three tests say them
--- (document 01, "The split and the rating"). Assumes nothing.
+-- What a split is tested for, as propositions (document 01, "The split and the rating"). Assumes nothing.
 use mathlib.Core.Path.{_≡_}
 use mathlib.Core.List.{List}
 use Prim.Native.Nat.{ℕ, _<_}

@@ -14,7 +14,7 @@ use Rattle.split.specs.declared.Answer.the-variants.{Rated, Refused}
 use Rattle.split.specs.declared.Proposed.{Proposed}
 use Rattle.split.specs.declared.Proposed.the-variants.{Answered, Unfit}
 
--- an inert mixture's n1, a mixture of a million parts at most, chosen systems that are candidates n1 of 0 is let
+-- an inert mixture's n1, a mixture of a million parts at most, chosen systems that are candidates. An n1 of 0 is let
 -- pass: system 20's mixture has a million parts whatever it is.
 unfoldable pub proposalFit : List ℕ → List ℕ → ℕ → ℕ → Bool
 proposalFit mix systems count n1 = leb n1 MILLION && (mixtureFit mix && chosenFit systems count)

@@ -27,9 +27,9 @@ fitnessOf mix system =
     (memberOf system 2)
 
 -- the weighted parts of all components below n
-unfoldable pub allTo : List ℕ → ℕ → ℕ
-allTo mix zero = 0
-allTo mix (suc n) = allTo mix n + weightedParts mix n
+unfoldable pub weightedTo : List ℕ → ℕ → ℕ
+weightedTo mix zero = 0
+weightedTo mix (suc n) = weightedTo mix n + weightedParts mix n
 
 -- ---- the components present
 
@@ -71,7 +71,7 @@ abbrev pub standingBy : ℕ → ℕ → List ℕ → ℕ → ℕ
 standingBy present all mix system = presentIn present system * (all + 1) + fitnessOf mix system
 
 unfoldable pub standingOf : List ℕ → ℕ → ℕ
-standingOf mix system = standingBy (presentOf mix) (allTo mix COMPONENTS) mix system
+standingOf mix system = standingBy (presentOf mix) (weightedTo mix COMPONENTS) mix system
 
 -- ---- the choice
 
@@ -162,7 +162,7 @@ chooseBy key systems components = chosenOf systems (marksOf key systems componen
 -- the choice among some systems for a mixture of n components, in an order of them; absent ones are passed over
 abbrev pub chooseIn : ℕ → List ℕ → List ℕ → List ℕ → List ℕ
 chooseIn n systems components mix =
-    chooseBy (standingBy (presentTo n mix) (allTo mix n) mix) systems (keep (presentTo n mix) components)
+    chooseBy (standingBy (presentTo n mix) (weightedTo mix n) mix) systems (keep (presentTo n mix) components)
 
 -- the choice for a mixture
 unfoldable pub chooseOf : List ℕ → List ℕ

@@ -6,7 +6,7 @@ use lib.Count.{ones}
 use mathlib.Core.List.{List, [], _∷_}
 use Rattle.systems.specs.Systems.{memberOf, hasOf}
 use Rattle.systems.specs.Choice.{fold, containingOf, scoreOf, betterOf, fittestOf, takeOf, passOf, marksOf}
-use Rattle.systems.specs.Choice.{listOf, chosenOf, chooseOf, fitnessOf, standingOf, allTo, keep, inMask}
+use Rattle.systems.specs.Choice.{listOf, chosenOf, chooseOf, fitnessOf, standingOf, weightedTo, keep, inMask}
 use Rattle.systems.specs.Choice.{presentOf, presentIn, maskOf, maskFrom, candidatesOf}
 
 -- its simplified mixture
@@ -20,7 +20,7 @@ fitness = (refl, refl, refl, refl)
 
 pub choice : chooseOf tableA1 ≡ 4 ∷ 7 ∷ 8 ∷ []
 unfolding chooseOf marksOf passOf takeOf containingOf fittestOf betterOf scoreOf chosenOf listOf fold fitnessOf
-    standingOf allTo keep inMask presentOf presentIn maskOf maskFrom ones hasOf memberOf candidatesOf
+    standingOf weightedTo keep inMask presentOf presentIn maskOf maskFrom ones hasOf memberOf candidatesOf
 choice = refl
 
 -- example 3, simplified from 000's four decimals
@@ -29,7 +29,7 @@ example3 = 876849 ∷ 51356 ∷ 12236 ∷ 8574 ∷ 50985 ∷ []
 
 pub example3-choice : chooseOf example3 ≡ 1 ∷ 4 ∷ 5 ∷ 6 ∷ 8 ∷ []
 unfolding chooseOf marksOf passOf takeOf containingOf fittestOf betterOf scoreOf chosenOf listOf fold fitnessOf
-    standingOf allTo keep inMask presentOf presentIn maskOf maskFrom ones hasOf memberOf candidatesOf
+    standingOf weightedTo keep inMask presentOf presentIn maskOf maskFrom ones hasOf memberOf candidatesOf
 example3-choice = refl
 
 -- mixtures whose choice shows a rule: hydrogen's weight (with 95 of it 1, 4, 6, 7, 8);
@@ -57,5 +57,5 @@ pub choices : (chooseOf weighed ≡ 1 ∷ 4 ∷ 5 ∷ 6 ∷ 8 ∷ [])
     × (chooseOf ordered ≡ 2 ∷ 4 ∷ 5 ∷ 6 ∷ []) × (chooseOf orderedToo ≡ 2 ∷ 5 ∷ 6 ∷ 7 ∷ 8 ∷ [])
     × (chooseOf methaneButane ≡ 7 ∷ 8 ∷ [])
 unfolding chooseOf marksOf passOf takeOf containingOf fittestOf betterOf scoreOf chosenOf listOf fold fitnessOf
-    standingOf allTo keep inMask presentOf presentIn maskOf maskFrom ones hasOf memberOf candidatesOf
+    standingOf weightedTo keep inMask presentOf presentIn maskOf maskFrom ones hasOf memberOf candidatesOf
 choices = (refl, refl, refl, refl, refl)

@@ -11,7 +11,7 @@ use lib.ListN.{getD}
 use borrow.Author.Tests.{eqb-true, le-ltb}
 use Rattle.systems.specs.Systems.{COMPONENTS, HYDROGEN, memberOf, hydrocarbonSystems}
 use Rattle.systems.specs.Laws.Presence.{present-is}
-use Rattle.systems.specs.Choice.{weights, fitnessOf, allTo, maskFrom, inMask, presentAt, presentTo, presentOf}
+use Rattle.systems.specs.Choice.{weights, fitnessOf, weightedTo, maskFrom, inMask, presentAt, presentTo, presentOf}
 use Rattle.systems.specs.Choice.{presentIn, standingBy, candidatesFor, candidatesOf, keep, hydrocarbonOrder}
 use Rattle.systems.specs.Choice.{order, chooseBy, chooseIn, chooseOf, choiceFrom, choiceOf}
 
@@ -68,8 +68,8 @@ module _ (mix : List ℕ) (none : getD mix HYDROGEN 0 ≡ 0) where
   present-before = mask-short (presentAt mix) HYDROCARBONS 0 hydrogen-absent
 
   -- the parts weigh as much,
-  pub all-before : allTo mix COMPONENTS ≡ allTo mix HYDROCARBONS
-  unfolding allTo
+  pub all-before : weightedTo mix COMPONENTS ≡ weightedTo mix HYDROCARBONS
+  unfolding weightedTo
   all-before = omega (arith, none)
 
   -- and the candidates are the four
@@ -81,7 +81,7 @@ module _ (mix : List ℕ) (none : getD mix HYDROGEN 0 ≡ 0) where
   pub choose-before : chooseOf mix ≡ chooseBefore mix
   unfolding chooseOf presentOf
   choose-before =
-      ap₂ (chooseBy (standingBy (presentOf mix) (allTo mix COMPONENTS) mix)) candidates-before
+      ap₂ (chooseBy (standingBy (presentOf mix) (weightedTo mix COMPONENTS) mix)) candidates-before
       (keep-without (presentOf mix) not-in)
       ∙ ap₂ (λ (p all : ℕ). chooseBy (standingBy p all mix) hydrocarbonSystems (keep p hydrocarbonOrder))
       present-before all-before
@@ -94,8 +94,8 @@ module _ (mix : List ℕ) (none : getD mix HYDROGEN 0 ≡ 0) where
 
 -- two lists with the same amounts
 module _ (mix other : List ℕ) (same : (c : ℕ) → getD mix c 0 ≡ getD other c 0) where
-  all-same : (n : ℕ) → allTo mix n ≡ allTo other n
-  unfolding allTo
+  all-same : (n : ℕ) → weightedTo mix n ≡ weightedTo other n
+  unfolding weightedTo
   all-same zero = refl
   all-same (suc n) = ap₂ (λ (all x : ℕ). all + getD weights n 0 * x) (all-same n) (same n)
 

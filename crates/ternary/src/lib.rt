@@ -20,7 +20,7 @@ use refusal::NO_SYSTEM;
 use refusal::SHARE;
 
 // The largest sum of amounts, in parts.
-const LIMIT: u64 = 1000000;
+const MILLION: u64 = 1000000;
 
 // A partial number in units, or the number of a refusal.
 pub enum Partial {
@@ -78,7 +78,7 @@ pub fn in_range(system: u32, n1: u32, n2: u32, n3: u32) -> bool
 fn is_mixture(d: u64) -> bool
     ensures { λ r. ⌜ r ≡ isMixture d ⌝ }
 {
-    0 < d && d <= LIMIT
+    0 < d && d <= MILLION
 }
 
 // The amounts, added.

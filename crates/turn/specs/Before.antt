@@ -1,4 +1,4 @@
--- What is looked at before a round (document 01, "The search"), and that a turn does what it says. Assumes nothing.
+-- What is looked at before a round (document 01, "The search"), and what a turn then does. Assumes nothing.
 use Prim.Native.Nat.{ℕ}
 use mathlib.Core.Bool.{cond}
 use lib.Dec.{leb, eqb}

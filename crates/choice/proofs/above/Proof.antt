@@ -3,7 +3,7 @@ use Prim.Native.Nat.{_+_, _*_, _-_, _≤_}
 use mathlib.Core.Path.{_≡_, refl}
 use native.Mathlib.Omega.{arith}
 use Rattle.systems.specs.Systems.{COMPONENTS}
-use Rattle.systems.specs.Choice.{allTo}
+use Rattle.systems.specs.Choice.{weightedTo}
 use Rattle.choice.specs.Inner.Keys.{MOST_WEIGHTED}
 use Rattle.choice.proofs.Keying.{all-next}
 use borrow.Author.Needs.{needs}
@@ -12,13 +12,13 @@ use Rattle.choice.proofs.above.Tie as tie
 use Rattle.choice.proofs.weigh.Reads as weigh-reads
 
 abbrev Inv-loop : tie.InvT-loop
-Inv-loop m k₀ c₀ k c = (c ≤ COMPONENTS) × (k ≤ MOST_WEIGHTED * c + 1) × (k ≡ allTo m c + 1)
+Inv-loop m k₀ c₀ k c = (c ≤ COMPONENTS) × (k ≤ MOST_WEIGHTED * c + 1) × (k ≡ weightedTo m c + 1)
 
 abbrev μ-loop : tie.MeasureT-loop
 μ-loop m k₀ c₀ k c = COMPONENTS - c
 
 loop-holds : tie.Need-loop-holds Inv-loop μ-loop
-unfolding allTo
+unfolding weightedTo
 loop-holds c = (omega arith, omega arith, refl)
 
 mul-weigh : tie.Need-mul-weigh Inv-loop μ-loop

@@ -5,22 +5,22 @@ use Rattle.choice.proofs.among_hydrocarbons.Statement.{statement}
 use Rattle.choice.proofs.among_hydrocarbons.Tie as tie
 use Rattle.choice.proofs.keys_of.Reads as keys-of-reads
 use Rattle.choice.proofs.listed.Reads as listed-reads
-use Rattle.choice.proofs.hydrocarbon_turns.Reads as hydrocarbon-turns-reads
+use Rattle.choice.proofs.hydrocarbon_passes.Reads as hydrocarbon-passes-reads
 
 keys-of-requires : tie.Need-keys-of-requires
 keys-of-requires c κs = search needs
 
-hydrocarbon-turns-requires : tie.Need-hydrocarbon-turns-requires
-hydrocarbon-turns-requires c κs = search needs
+hydrocarbon-passes-requires : tie.Need-hydrocarbon-passes-requires
+hydrocarbon-passes-requires c κs = search needs
 
 listed-requires : tie.Need-listed-requires
 listed-requires c κs = search needs
 
 returns : tie.Need-returns
 returns c =
-    choice-is _ _ _ _ _ (c .before .hydrocarbon-turns .ensures _ (c .before .before .before .keys-of .ensures))
+    choice-is _ _ _ _ _ (c .before .hydrocarbon-passes .ensures _ (c .before .before .before .keys-of .ensures))
     (c .listed .ensures)
 
 pub among-hydrocarbons-spec : {M : Type 1} → statement M
 among-hydrocarbons-spec =
-    tie.close (tie.spec keys-of-requires hydrocarbon-turns-requires listed-requires returns)
+    tie.close (tie.spec keys-of-requires hydrocarbon-passes-requires listed-requires returns)

@@ -25,7 +25,7 @@ givesOf systems count cells stride move =
 unfoldable pub takesOf : List ℕ → ℕ → ℕ → ℕ → Bool
 takesOf systems c f t = not (eqb f t) && hasOf (systemOf systems t) c
 
--- no move below m can be made and lowers the imbalance
+-- no move below this one can be made and lowers the imbalance
 pub record Past (systems : List ℕ) (count : ℕ) (cells : List ℕ) (stride move : ℕ) : Type 0 where
   pub none : (s : ℕ) → s < move → canOf systems count cells stride s ≡ false
 

@@ -14,7 +14,7 @@ use borrow.Author.Tests.{eqb-true, eqb-false, ltb-true, ltb-false, lt-ltb, le-lt
 use Rattle.refusal.specs.Keys.{isIn}
 use Rattle.systems.specs.Systems.{COMPONENTS, HYDROGEN, memberOf, hasOf, candidates}
 use Rattle.systems.specs.Laws.Table.{of-true, to-true, each}
-use Rattle.systems.specs.Choice.{countTo, fitnessOf, allTo, maskFrom, inMask, presentAt, presentOf}
+use Rattle.systems.specs.Choice.{countTo, fitnessOf, weightedTo, maskFrom, inMask, presentAt, presentOf}
 use Rattle.systems.specs.Choice.{presentCount, maskOf, presentIn, standingOf, candidatesFor, candidatesOf}
 use Rattle.systems.specs.Choice.{order, keep, chooseBy, chooseOf}
 
@@ -214,10 +214,10 @@ offered-candidate present s = go (inMask present HYDROGEN)
     go false e = to-true (listed s) (each listed (candidatesFor false) tt s e)
 
 -- no candidate's fitness is above that of everything
-pub fitness-le : (mix : List ℕ) (s : ℕ) → isIn s candidates ≡ true → fitnessOf mix s ≤ allTo mix COMPONENTS
-unfolding Every allTo fitnessOf memberOf
+pub fitness-le : (mix : List ℕ) (s : ℕ) → isIn s candidates ≡ true → fitnessOf mix s ≤ weightedTo mix COMPONENTS
+unfolding Every weightedTo fitnessOf memberOf
 fitness-le mix =
-    every-in (λ s. fitnessOf mix s ≤ allTo mix COMPONENTS) candidates (
+    every-in (λ s. fitnessOf mix s ≤ weightedTo mix COMPONENTS) candidates (
       omega arith,
       (omega arith, (omega arith, (omega arith, (omega arith, (omega arith, (omega arith, omega arith)))))),
     )
@@ -235,7 +235,7 @@ pub standing-more : (mix : List ℕ) (s t : ℕ) → isIn s candidates ≡ true
     → standingOf mix s < standingOf mix t
 unfolding standingOf
 standing-more mix s t e h =
-    first-decides (presentIn (presentOf mix) s) (presentIn (presentOf mix) t) (allTo mix COMPONENTS + 1)
+    first-decides (presentIn (presentOf mix) s) (presentIn (presentOf mix) t) (weightedTo mix COMPONENTS + 1)
     (fitnessOf mix s) (fitnessOf mix t) (omega (arith, fitness-le mix s e)) h
 
 -- and of two with as many the fitter
@@ -244,7 +244,7 @@ pub standing-fitter : (mix : List ℕ) (s t : ℕ) → presentIn (presentOf mix)
 unfolding standingOf
 standing-fitter mix s t e =
     rw e
-    (go (presentIn (presentOf mix) t * (allTo mix COMPONENTS + 1)) (fitnessOf mix s) (fitnessOf mix t)
+    (go (presentIn (presentOf mix) t * (weightedTo mix COMPONENTS + 1)) (fitnessOf mix s) (fitnessOf mix t)
     (ltb (fitnessOf mix s) (fitnessOf mix t)) refl)
   where
     go : (a f g : ℕ) (b : Bool) → ltb f g ≡ b → ltb (a + f) (a + g) ≡ b

@@ -8,10 +8,10 @@ use Rattle.rating.proofs.records.fits.Statement.{statement}
 use Rattle.rating.proofs.records.fits.Tie as tie
 
 abbrev Inv-loop : tie.InvT-loop
-Inv-loop count records systems found codes s₀ s = Fitting systems count records found codes (3 * s)
+Inv-loop count records systems named codes s₀ s = Fitting systems count records named codes (3 * s)
 
 abbrev μ-loop : tie.MeasureT-loop
-μ-loop count records systems found codes s₀ s = s
+μ-loop count records systems named codes s₀ s = s
 
 mul-if1 : tie.Need-mul-if1 Inv-loop μ-loop
 mul-if1 c = omega (arith, c .pre .1)

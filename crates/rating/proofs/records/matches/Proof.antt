@@ -15,7 +15,7 @@ code-of-requires c κs = c .component .ensures .1
 returns : tie.Need-returns
 returns c =
     let b = c .before .before in
-    match-is (b .args .found) (b .args .system) (b .args .code) _
+    match-is (b .args .named) (b .args .system) (b .args .code) _
     (splitCode (componentAt (b .args .system) (b .args .j)))
     (c .code-of .ensures ∙ ap splitCode (c .before .component .ensures .0))
 

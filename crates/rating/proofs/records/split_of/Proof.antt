@@ -7,11 +7,11 @@ use Rattle.rating.proofs.records.split_of.Statement.{statement}
 use Rattle.rating.proofs.records.split_of.Tie as tie
 
 abbrev Inv-loop : tie.InvT-loop
-Inv-loop count systems cells found₀ codes₀ amounts₀ last r₀ found codes amounts r =
-    Recorded systems count cells found codes amounts r
+Inv-loop count systems cells named₀ codes₀ amounts₀ last r₀ named codes amounts r =
+    Recorded systems count cells named codes amounts r
 
 abbrev μ-loop : tie.MeasureT-loop
-μ-loop count systems cells found₀ codes₀ amounts₀ last r₀ found codes amounts r = last - r
+μ-loop count systems cells named₀ codes₀ amounts₀ last r₀ named codes amounts r = last - r
 
 records-of-requires : tie.Need-records-of-requires Inv-loop μ-loop
 records-of-requires c κs = c .pre .most
@@ -26,8 +26,8 @@ component-requires : tie.Need-component-requires Inv-loop μ-loop
 component-requires c κs =
     (c .before .before .before .pre .known _ (omega (arith, c .before .before .records-of .ensures .0)), omega arith)
 
-array-write-found : tie.Need-array-write-found Inv-loop μ-loop
-array-write-found c = search needs
+array-write-named : tie.Need-array-write-named Inv-loop μ-loop
+array-write-named c = search needs
 
 code-of-requires : tie.Need-code-of-requires Inv-loop μ-loop
 code-of-requires c κs = c .component .ensures .1
@@ -82,7 +82,7 @@ split-of-spec =
     loop-holds
     array-read-system
     component-requires
-    array-write-found
+    array-write-named
     code-of-requires
     array-write-codes
     mul-amounts

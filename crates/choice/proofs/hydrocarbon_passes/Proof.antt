@@ -1,4 +1,4 @@
--- `choice::hydrocarbon_turns` meets its contract. Assumes nothing.
+-- `choice::hydrocarbon_passes` meets its contract. Assumes nothing.
 use Prim.Native.Nat.{_+_, _*_, _-_, _%_, _≤_}
 use mathlib.Core.Path.{_∙_}
 use mathlib.Core.Bool.{false}
@@ -9,8 +9,8 @@ use Rattle.choice.proofs.Packed.{order-lt, order-next}
 use Rattle.choice.proofs.Keying.{wantedAt, turnAt}
 use Rattle.choice.proofs.Listing.{Turns, turns-none, turns-next, turns-over, turns-all}
 use borrow.Author.Needs.{needs}
-use Rattle.choice.proofs.hydrocarbon_turns.Statement.{statement}
-use Rattle.choice.proofs.hydrocarbon_turns.Tie as tie
+use Rattle.choice.proofs.hydrocarbon_passes.Statement.{statement}
+use Rattle.choice.proofs.hydrocarbon_passes.Tie as tie
 use Rattle.choice.proofs.ordered.Reads as ordered-reads
 use Rattle.choice.proofs.take.Reads as take-reads
 
@@ -74,8 +74,8 @@ loop-again c =
 returns : tie.Need-returns Inv-loop μ-loop
 returns c = turns-all _ _ _ _ (c .before .loop .inv .1) (c .before .loop .inv .0) (c .loop-test .left)
 
-pub hydrocarbon-turns-spec : {M : Type 1} → statement M
-hydrocarbon-turns-spec =
+pub hydrocarbon-passes-spec : {M : Type 1} → statement M
+hydrocarbon-passes-spec =
     tie.close
     (tie.spec
     Inv-loop
