@@ -18,7 +18,8 @@ use Rattle.split.specs.Rating.{resums, someEmpty, spreadOf, weightedOf, meanOf,
 use Rattle.split.specs.Find.{chosenFit, mixtureFit}
 use Rattle.split.specs.Laws.Sums.{resummed, parts-le}
 use Rattle.split.specs.Laws.Fits.{resums-yes, no-empty}
-use Rattle.split.specs.Proposed.{proposalFit, proposedAnswer, ratedOf, Proposal}
+use Rattle.split.specs.Proposed.{proposalFit, proposedAnswer}
+use Rattle.split.specs.Inner.Proposed.{ratedOf, Proposal}
 use Rattle.split.specs.Laws.Proposed.{proposal-of, answer-unfit, answer-unsummed, answer-empty, answer-rated}
 use Rattle.split.specs.declared.Answer.{Answer}
 use Rattle.split.specs.declared.Answer.the-variants.{Rated, Refused}

@@ -29,13 +29,15 @@ use Rattle.mixture.specs.Inert.{inertFirst}
 use Rattle.mixture.specs.Answers.{mixtureOf, inertN1}
 use Rattle.systems.specs.Choice.{presentCount, choiceOf}
 use Rattle.systems.specs.declared.Choice.{Choice}
-use Rattle.split.specs.Refused.{differ, wider}
+use Rattle.split.specs.Laws.Members.{differ}
+use Rattle.split.specs.Refused.{wider}
 use Rattle.split.specs.Split.{RECORDS, cellsOf, rowNumber}
 use Rattle.split.specs.Rating.{spreadOf, ratingOf, proposedOf, LIMIT}
 use Rattle.split.specs.Fits.{Fit}
 use Rattle.split.specs.AnswerCases.{numberOf, faultOf}
 use Rattle.split.specs.Rated.{IsRated, fit-rated}
-use Rattle.split.specs.Proposed.{Proposal, proposedAnswer}
+use Rattle.split.specs.Inner.Proposed.{Proposal}
+use Rattle.split.specs.Proposed.{proposedAnswer}
 use Rattle.split.specs.Laws.Proposed.{answer-proposed}
 use Rattle.split.specs.Search.{FIRST_LEVEL}
 use Rattle.split.specs.Find.{findOf}
@@ -47,8 +49,7 @@ use Rattle.split.specs.declared.Proposed.{Proposed}
 use Rattle.split.specs.declared.Proposed.the-variants.{Answered, Unfit}
 use Rattle.split.specs.declared.Found.{Found}
 use Rattle.outcome.specs.Records.{fitsOf}
-use Rattle.outcome.specs.Rate.{ROUNDS, FEWEST, mixOf, systemsFor, countFor, ratingRefusal, splitBy}
-use Rattle.outcome.specs.Rate.{splitAnswer, outcome, recordsOf, foundBy, foundOutcome, searched, searchOutcome}
+use Rattle.outcome.specs.Rate.{ROUNDS, FEWEST, mixOf, systemsFor, countFor, ratingRefusal, splitBy, splitAnswer, outcome, recordsOf, foundBy, foundOutcome, searched, searchOutcome}
 use Rattle.split.specs.Accuracy.{fit-few}
 use Rattle.split.specs.PutBack.{balance-fit}
 use Rattle.split.specs.Laws.Size.{rating-small}

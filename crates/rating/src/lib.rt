@@ -14,7 +14,7 @@ ghost use Rattle.sheet.specs.declared.Reading.the-variants.{Read};
 ghost use Rattle.split.specs.Split.{RECORDS};
 ghost use Rattle.split.specs.AnswerCases.{numberOf, faultOf};
 ghost use Rattle.split.specs.Rating.{ratingOf, LIMIT};
-ghost use Rattle.split.specs.Proposed.{Proposal};
+ghost use Rattle.split.specs.Inner.Proposed.{Proposal};
 ghost use Rattle.split.specs.Fits.{Fit};
 ghost use Rattle.outcome.specs.Rate.{ROUNDS, splitBy, splitAnswer, outcome, foundOutcome, searchOutcome};
 ghost use Rattle.outcome.specs.Rate.{readBy, sheetOutcome};

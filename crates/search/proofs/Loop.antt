@@ -28,8 +28,8 @@ use denote.Enum.Declared.{tagOf}
 use types.Run.{OneOf}
 use Rattle.turn.specs.declared.Before.{Before}
 use Rattle.turn.specs.declared.Before.the-variants.{Within, Spent, Open}
-use Rattle.turn.specs.Before.{beforeOf, doneBy}
-use Rattle.turn.specs.Laws.Before.{turn-before}
+use Rattle.turn.specs.Before.{beforeOf}
+use Rattle.turn.specs.Laws.Before.{doneBy, turn-before}
 use Rattle.split_rows.specs.Rows.{listed}
 use Rattle.split_rows.specs.Inner.Carried.{Held}
 use Rattle.search.specs.Inner.Tried.{TRIES, UNKNOWN, Tried}

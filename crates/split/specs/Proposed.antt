@@ -2,15 +2,11 @@
 -- Assumes nothing.
 use mathlib.Core.Bool.{Bool, _&&_, cond}
 use mathlib.Core.List.{List}
-use Prim.Native.Nat.{ℕ, _≤_}
-use lib.Dec.{ltb, leb}
+use Prim.Native.Nat.{ℕ}
+use lib.Dec.{leb}
 use Rattle.integer.specs.Figures.{MILLION}
-use Rattle.refusal.specs.Register.{WIDE}
-use Rattle.split.specs.Split.{rowNumber, Chosen, mixtureParts}
-use Rattle.split.specs.Rating.{spreadOf, ratingOf, proposedOf}
+use Rattle.split.specs.Rating.{proposedOf}
 use Rattle.split.specs.Find.{chosenFit, mixtureFit}
-use Rattle.split.specs.declared.Answer.{Answer}
-use Rattle.split.specs.declared.Answer.the-variants.{Rated, Refused}
 use Rattle.split.specs.declared.Proposed.{Proposed}
 use Rattle.split.specs.declared.Proposed.the-variants.{Answered, Unfit}
 
@@ -23,16 +19,3 @@ proposalFit mix systems count n1 = leb n1 MILLION && (mixtureFit mix && chosenFi
 unfoldable pub proposedAnswer : ℕ → List ℕ → ℕ → List ℕ → List ℕ → ℕ → Proposed
 proposedAnswer limit systems count mix cells n1 =
     cond (proposalFit mix systems count n1) (Answered (proposedOf limit systems count mix cells n1)) Unfit
-
--- the answer to a split that re-sums and has no empty system
-unfoldable pub ratedOf : ℕ → List ℕ → ℕ → List ℕ → ℕ → Answer
-ratedOf limit systems count cells n1 =
-    cond (ltb limit (spreadOf (rowNumber systems cells) count))
-    (Refused WIDE 0)
-    (Rated (ratingOf systems count cells n1) (spreadOf (rowNumber systems cells) count) 0)
-
--- input that is answered by the rules
-pub record Proposal (mix systems : List ℕ) (count n1 : ℕ) : Type 0 where
-  pub chosen : Chosen systems count
-  pub few : mixtureParts mix ≤ MILLION
-  pub inert : n1 ≤ MILLION

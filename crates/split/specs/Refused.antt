@@ -29,9 +29,6 @@ holds : (b : Bool) {P : Type 0} → (b ≡ false → P) → (P → ⊥) → b �
 holds true f n = refl
 holds false f n = absurd (n (f refl))
 
-pub differ : (b : Bool) → b ≡ true → b ≡ false → ⊥
-differ b p q = let z : _≡_ {A = ℕ} 0 1 = cc in omega arith
-
 -- what each number says of the tests
 at-8 : (b e w : Bool) (x : ℤ) (y : ℕ) → verdict b e w (Rated x y 0) ≡ Refused 8 0 → b ≡ false
 at-8 false e w x y h = refl

@@ -6,8 +6,7 @@ use mathlib.Core.List.{List, [], _∷_}
 use mathlib.Core.Bool.{Bool, true, false, not, _&&_}
 use native.Mathlib.Omega.{arith}
 use lib.Ieee.Fits.{and-i, and-l, and-r}
-use lib.Dec.{T, eqb, leb, leb→le, le→leb}
-use borrow.Author.Tests.{eqb-true, eq-eqb}
+use lib.Dec.{T, leb, leb→le, le→leb}
 use Rattle.refusal.specs.Keys.{isIn}
 use Rattle.systems.specs.Systems.{COMPONENTS, memberOf, hasOf, candidates}
 use Rattle.systems.specs.Laws.Table.{of-true, eachTo}
@@ -25,27 +24,6 @@ rises-lower b s (x ∷ systems) h t =
     and-i (leb b x) (rises x systems)
     (le→leb b x (omega (arith, leb→le s x (and-l (leb s x) (rises x systems) t))))
     (and-r (leb s x) (rises x systems) t)
-
-in-cases : (P : Type 0) (n x : ℕ) (xs : List ℕ) → isIn n (x ∷ xs) ≡ true
-    → (n ≡ x → P) → (isIn n xs ≡ true → P) → P
-unfolding isIn
-in-cases P n x xs h f g = go (eqb n x) refl
-  where
-    go : (b : Bool) → eqb n x ≡ b → P
-    go true e = f (eqb-true n x e)
-    go false e = g (rw (e, isIn) at h)
-
-pub in-here : (x : ℕ) (xs : List ℕ) → isIn x (x ∷ xs) ≡ true
-unfolding isIn
-in-here x xs = rw (eq-eqb x x refl, isIn)
-
-pub in-there : (n x : ℕ) (xs : List ℕ) → isIn n xs ≡ true → isIn n (x ∷ xs) ≡ true
-unfolding isIn
-in-there n x xs h = go (eqb n x) refl
-  where
-    go : (b : Bool) → eqb n x ≡ b → isIn n (x ∷ xs) ≡ true
-    go true e = rw (e, isIn)
-    go false e = rw (e, isIn) h
 
 module _ (key : ℕ → ℕ) (marks : List Bool) (c : ℕ) where
   abbrev score : ℕ → ℕ

@@ -10,7 +10,7 @@ use Rattle.integer.specs.Figures.{neg, MILLION}
 use Rattle.refusal.specs.Register.{EMPTY_SYSTEM, WIDE}
 use Rattle.split.specs.Fold.{sumTo, sumToZ}
 use Rattle.split.specs.Rating.{someEmpty, spreadOf, inertNumber, PURE_METHANE}
-use Rattle.split.specs.Proposed.{ratedOf}
+use Rattle.split.specs.Inner.Proposed.{ratedOf}
 use Rattle.split.specs.declared.Answer.{Answer}
 use Rattle.split.specs.declared.Answer.the-variants.{Rated, Refused}
 use Rattle.split_rows.specs.Rows.{listed}

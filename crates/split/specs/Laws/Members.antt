@@ -32,3 +32,6 @@ three system h = record {
   ne20 = λ e. omega (arith, members-apart system h 2 0 (omega arith) (omega arith) e);
   ne21 = λ e. omega (arith, members-apart system h 2 1 (omega arith) (omega arith) e);
 }
+
+pub differ : (b : Bool) → b ≡ true → b ≡ false → ⊥
+differ b p q = let z : _≡_ {A = ℕ} 0 1 = cc in omega arith

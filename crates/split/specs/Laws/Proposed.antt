@@ -16,7 +16,8 @@ use Rattle.split.specs.Laws.Finds.{chosen-of, chosen-fits, mixture-of, m
 use Rattle.split.specs.Rated.{proposed-unsummed, proposed-empty, proposed-wide, proposed-rated}
 use Rattle.split.specs.declared.Answer.the-variants.{Refused}
 use Rattle.split.specs.declared.Proposed.the-variants.{Answered, Unfit}
-use Rattle.split.specs.Proposed.{Proposal, proposedAnswer, proposalFit, ratedOf}
+use Rattle.split.specs.Inner.Proposed.{Proposal, ratedOf}
+use Rattle.split.specs.Proposed.{proposedAnswer, proposalFit}
 
 module _ (mix ch : List ℕ) (k n1 : ℕ) where
   pub proposal-of : proposalFit mix ch k n1 ≡ true → Proposal mix ch k n1

@@ -10,11 +10,9 @@ use lib.Dec.{T, ltb, leb, le→leb}
 use lib.ListN.{set}
 use borrow.Author.Tests.{ltb-true, ltb-false, not-true}
 use Rattle.refusal.specs.Keys.{isIn}
-use Rattle.systems.specs.Laws.Table.{of-true, to-true, every, each}
-use Rattle.systems.specs.Choice.{fold}
-use Rattle.systems.specs.Choice.{containingOf, openOf, fittestOf, takeOf}
-use Rattle.systems.specs.Choice.{passOf}
-use Rattle.systems.specs.Fittest.{in-here, in-there, rises, Fittest, fittest-is}
+use Rattle.systems.specs.Laws.Table.{of-true, to-true, every, each, in-here, in-there}
+use Rattle.systems.specs.Choice.{fold, containingOf, openOf, fittestOf, takeOf, passOf}
+use Rattle.systems.specs.Fittest.{rises, Fittest, fittest-is}
 
 -- the test passes at some number of the list
 abbrev pub some : (ℕ → Bool) → List ℕ → Bool

@@ -7,7 +7,7 @@ use mathlib.Core.List.{List, [], _∷_}
 use native.Mathlib.Omega.{arith}
 use lib.Ieee.Fits.{and-l, and-r}
 use lib.Dec.{T, eqb, eqb→eq}
-use borrow.Author.Tests.{eqb-true, eqb-false, not-true}
+use borrow.Author.Tests.{eqb-true, eqb-false, not-true, eq-eqb}
 use Rattle.refusal.specs.Keys.{isIn}
 use Rattle.systems.specs.Systems.{COMPONENTS, candidates, memberOf, hasOf, Candidate}
 
@@ -75,3 +75,24 @@ noneLacks c = not (hasOf 0 c)
 pub none-has : (c : ℕ) → c < COMPONENTS → hasOf 0 c ≡ false
 unfolding noneLacks hasOf memberOf
 none-has c h = not-true (hasOf 0 c) (to-true (noneLacks c) (eachTo noneLacks COMPONENTS tt c h))
+
+pub in-cases : (P : Type 0) (n x : ℕ) (xs : List ℕ) → isIn n (x ∷ xs) ≡ true
+    → (n ≡ x → P) → (isIn n xs ≡ true → P) → P
+unfolding isIn
+in-cases P n x xs h f g = go (eqb n x) refl
+  where
+    go : (b : Bool) → eqb n x ≡ b → P
+    go true e = f (eqb-true n x e)
+    go false e = g (rw (e, isIn) at h)
+
+pub in-here : (x : ℕ) (xs : List ℕ) → isIn x (x ∷ xs) ≡ true
+unfolding isIn
+in-here x xs = rw (eq-eqb x x refl, isIn)
+
+pub in-there : (n x : ℕ) (xs : List ℕ) → isIn n xs ≡ true → isIn n (x ∷ xs) ≡ true
+unfolding isIn
+in-there n x xs h = go (eqb n x) refl
+  where
+    go : (b : Bool) → eqb n x ≡ b → isIn n (x ∷ xs) ≡ true
+    go true e = rw (e, isIn)
+    go false e = rw (e, isIn) h

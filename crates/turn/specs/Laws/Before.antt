@@ -12,7 +12,15 @@ use Rattle.split.specs.Search.{goOn, turnOf}
 use Rattle.split.specs.declared.Turn.{Turn}
 use Rattle.split.specs.Laws.Turns.{turn-rate, turn-refuse, turn-on}
 use Rattle.turn.specs.declared.Before.the-variants.{Within, Spent, Open}
-use Rattle.turn.specs.Before.{beforeOf, doneBy}
+use Rattle.turn.specs.Before.{beforeOf}
+use Rattle.split.specs.declared.Turn.the-variants.{Rate, Refuse}
+use Rattle.turn.specs.declared.Before.{Before}
+
+-- what a turn does then: it rates with the spread, it refuses, or it does what a look for a move comes to
+abbrev pub doneBy : ℕ → Turn → Before → Turn
+doneBy spread next Within = Rate spread
+doneBy spread next Spent = Refuse
+doneBy spread next Open = next
 
 -- ---- from the tests
 
