@@ -20,6 +20,7 @@ use Rattle.split.specs.Laws.Fits.{resums-yes, yes-resums, empty-no, no-e
 use Rattle.split.specs.AnswerCases.{numberOf}
 use Rattle.split.specs.Rated.{IsRated, proposed-unsummed, proposed-empty, proposed-wide, fit-rated, rated-fit}
 use Rattle.split.specs.declared.Answer.the-variants.{Rated, Refused}
+use Rattle.split.specs.Laws.Members.{differ}
 
 fails : (b : Bool) {P : Type 0} → (b ≡ true → P) → (P → ⊥) → b ≡ false
 fails true f n = absurd (n (f refl))

@@ -9,7 +9,7 @@ use lib.Ieee.Fits.{and-i, and-l, and-r}
 use lib.Dec.{T, leb, leb→le, le→leb}
 use Rattle.refusal.specs.Keys.{isIn}
 use Rattle.systems.specs.Systems.{COMPONENTS, memberOf, hasOf, candidates}
-use Rattle.systems.specs.Laws.Table.{of-true, eachTo}
+use Rattle.systems.specs.Laws.Table.{of-true, eachTo, in-cases, in-here, in-there}
 use Rattle.systems.specs.Laws.Scores.{score-open, score-closed, open-of-score, better-before, better-cases}
 use Rattle.systems.specs.Choice.{fold, isChosen, openOf, scoreOf, betterOf, fittestOf}
 
