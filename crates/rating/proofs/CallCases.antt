@@ -49,7 +49,8 @@ use Rattle.split.specs.declared.Proposed.{Proposed}
 use Rattle.split.specs.declared.Proposed.the-variants.{Answered, Unfit}
 use Rattle.split.specs.declared.Found.{Found}
 use Rattle.outcome.specs.Records.{fitsOf}
-use Rattle.outcome.specs.Rate.{ROUNDS, FEWEST, mixOf, systemsFor, countFor, ratingRefusal, splitBy, splitAnswer, outcome, recordsOf, foundBy, foundOutcome, searched, searchOutcome}
+use Rattle.outcome.specs.Rate.{ROUNDS, FEWEST, mixOf, systemsFor, countFor, ratingRefusal, splitBy, splitAnswer}
+use Rattle.outcome.specs.Rate.{outcome, recordsOf, foundBy, foundOutcome, searched, searchOutcome}
 use Rattle.split.specs.Accuracy.{fit-few}
 use Rattle.split.specs.PutBack.{balance-fit}
 use Rattle.split.specs.Laws.Size.{rating-small}

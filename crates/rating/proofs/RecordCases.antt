@@ -12,7 +12,8 @@ use borrow.Author.Tests.{lt-ltb, le-ltb, ltb-true, ltb-false, eq-eqb, ne-eqb, eq
 use Rattle.systems.specs.Systems.{COMPONENTS, hasOf, candidates, Candidate}
 use Rattle.systems.specs.Laws.Table.{every, everyTo, eachTo, each-candidate}
 use Rattle.split.specs.Fold.{allTo, table}
-use Rattle.split.specs.Split.{CELLS, RECORDS, cellOf, systemOf, heldOf, rankOf, componentAt, cellsOf, amountsOf, Chosen, amountAt, cellAt}
+use Rattle.split.specs.Split.{CELLS, RECORDS, cellOf, systemOf, heldOf, rankOf, componentAt, cellsOf, amountsOf}
+use Rattle.split.specs.Split.{Chosen, amountAt, cellAt}
 use Rattle.split.specs.Laws.Tables.{length-table, getD-table}
 use Rattle.split.specs.Laws.Clean.{held-row, row-held}
 use Rattle.split.specs.Laws.Places.{rank-lt, component-rank, component-lt, component-has, rank-component}

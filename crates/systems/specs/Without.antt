@@ -11,7 +11,8 @@ use lib.ListN.{getD}
 use borrow.Author.Tests.{eqb-true, le-ltb}
 use Rattle.systems.specs.Systems.{COMPONENTS, HYDROGEN, memberOf, hydrocarbonSystems}
 use Rattle.systems.specs.Laws.Presence.{present-is}
-use Rattle.systems.specs.Choice.{weights, fitnessOf, weightedTo, maskFrom, inMask, presentAt, presentTo, presentOf}
+use Rattle.systems.specs.Choice.{weights, fitnessOf, weightedTo, maskFrom, inMask, presentAt, presentTo}
+use Rattle.systems.specs.Choice.{presentOf}
 use Rattle.systems.specs.Choice.{presentIn, standingBy, candidatesFor, candidatesOf, keep, hydrocarbonOrder}
 use Rattle.systems.specs.Choice.{order, chooseBy, chooseIn, chooseOf, choiceFrom, choiceOf}
 

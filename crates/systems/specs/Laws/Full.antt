@@ -16,7 +16,10 @@ use Rattle.systems.specs.Laws.Table.{of-true, every, each, none-has, in-
 use Rattle.systems.specs.Laws.Scores.{score-open, score-closed, better-cases}
 use Rattle.systems.specs.Laws.Presence.{standing-fitter, choose-is}
 use Rattle.systems.specs.Without.{HYDROCARBONS, present-before}
-use Rattle.systems.specs.Choice.{NUMBERS, hydrocarbonOrder, order, fold, maskFrom, maskOf, inMask, presentAt, presentTo, presentOf, presentIn, keep, fitnessOf, standingOf, isChosen, containingOf, openOf, scoreOf, betterOf, fittestOf, takeOf, passOf, marksOf, candidatesOf, chosenOf, chooseBy, chooseOf}
+use Rattle.systems.specs.Choice.{NUMBERS, hydrocarbonOrder, order, fold, maskFrom, maskOf, inMask, presentAt}
+use Rattle.systems.specs.Choice.{presentTo, presentOf, presentIn, keep, fitnessOf, standingOf, isChosen}
+use Rattle.systems.specs.Choice.{containingOf, openOf, scoreOf, betterOf, fittestOf, takeOf, passOf, marksOf}
+use Rattle.systems.specs.Choice.{candidatesOf, chosenOf, chooseBy, chooseOf}
 
 ltb-suc : (a b : ℕ) → ltb (a + 1) (b + 1) ≡ ltb a b
 ltb-suc a b = go (ltb a b) refl
