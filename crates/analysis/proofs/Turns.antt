@@ -12,7 +12,7 @@ use Rattle.analysis.specs.Register.{CODES}
 use Rattle.analysis.specs.declared.Checked.{Checked}
 use Rattle.analysis.specs.declared.Checked.the-variants.{InRange, Refused}
 use Rattle.analysis.specs.Check.{inRange, allInRange, totalOf, totalFits, refusalByTests, analysisRefusal}
-use Rattle.analysis.specs.Check.{AtFault, checkedOf, Checking, Fault}
+use Rattle.analysis.specs.Check.{AtFault, checkedOf, Checking}
 use Rattle.analysis.specs.CheckedCases.{numberOf, faultOf}
 use Rattle.analysis.specs.Laws.Ranges.{answer-number}
 
@@ -129,6 +129,12 @@ own-code r n fault false true p q e =
     let f : r ≡ Refused n fault = rw (p, q) at e in
     rw (p, q) (f ∙ ap (Refused n) (sym (ap faultOf f)))
 own-code r n fault false false p q e = rw (p, q) (rw (p, q) at e)
+
+-- what a search for a code at fault finds: `r`, or CODES where there is none
+record Fault (a : List ℕ) (r : ℕ) : Type 0 where
+  within : r ≤ CODES
+  ranges : eqb r CODES ≡ allInRange 0 a
+  fault : r < CODES → AtFault a r
 
 module _ (a : List ℕ) (fault sum code : ℕ) (r : Checked) (z : code ≤ 0) (w : Walked a fault sum code)
     (e : r ≡ checkedOf (refusalByTests (eqb fault CODES) (totalFits sum)) fault) where

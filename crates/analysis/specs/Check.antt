@@ -87,9 +87,3 @@ checkedOf n code = cond (eqb n 0) InRange (Refused n (carried n code 0))
 pub record Checking (a : List ℕ) (r : Checked) : Type 0 where
   pub answer : r ≡ checkedOf (analysisRefusal a) (faultOf r)
   pub code : numberOf r ≡ 5 → AtFault a (faultOf r)
-
--- what a search for a code at fault finds: `r`, or CODES where there is none
-pub record Fault (a : List ℕ) (r : ℕ) : Type 0 where
-  pub within : r ≤ CODES
-  pub ranges : eqb r CODES ≡ allInRange 0 a
-  pub fault : r < CODES → AtFault a r

@@ -38,9 +38,9 @@ use Rattle.split.specs.declared.Answer.the-variants.{Rated, Refused}
 use Rattle.split.specs.declared.Search.{Search}
 use Rattle.split.specs.declared.Search.the-variants.{Balanced, Unbalanced, Unfit}
 use Rattle.split.specs.declared.Found.{Found}
-use Rattle.outcome.specs.Records.{splitCode, systemAt, codeAt, codesOf, systemsOf, matchesAt, fitsOf}
+use Rattle.outcome.specs.Records.{splitCode, systemAt, codeAt, codesOf, systemsOf, matchesAt, fitsOf, recordsOf}
 use Rattle.outcome.specs.Rate.{ROUNDS, mixOf, systemsFor, countFor, ratingRefusal, checkedBy, splitBy, splitAnswer}
-use Rattle.outcome.specs.Rate.{outcome, recordsOf, foundBy, foundOutcome, searchOutcomeBy, searchOutcome}
+use Rattle.outcome.specs.Rate.{outcome, foundBy, foundOutcome, searchOutcomeBy, searchOutcome}
 use Rattle.outcome.specs.Rate.{sheetOutcome}
 use Rattle.outcome.specs.LeftOut.{mixture-number}
 use Rattle.outcome.specs.RatedOn.{RatedOn}

@@ -2,7 +2,7 @@
 -- (document 01, "The split and the rating", "The search", "What is turned away"). Assumes nothing.
 use mathlib.Core.Bool.{cond}
 use mathlib.Core.List.{List}
-use Prim.Native.Nat.{ℕ, _*_, min}
+use Prim.Native.Nat.{ℕ, min}
 use lib.Dec.{eqb, ltb}
 use Rattle.refusal.specs.Keys.{each}
 use Rattle.refusal.specs.Register.{MISFIT, NO_SYSTEM, TOO_FEW, carried}
@@ -18,7 +18,7 @@ use Rattle.mixture.specs.Simplification.{simplifiedOf}
 use Rattle.mixture.specs.Inert.{inertFirst}
 use Rattle.systems.specs.Choice.{presentCount, chooseOf, choiceOf}
 use Rattle.systems.specs.declared.Choice.{Choice}
-use Rattle.split.specs.Split.{cellsOf, amountsOf}
+use Rattle.split.specs.Split.{cellsOf}
 use Rattle.split.specs.Rating.{ratingOf, proposedOf, LIMIT}
 use Rattle.split.specs.Start.{startOf}
 use Rattle.split.specs.Search.{FIRST_LEVEL, searchOf}
@@ -28,7 +28,7 @@ use Rattle.split.specs.declared.Answer.the-variants.{Rated, Refused}
 use Rattle.split.specs.declared.Search.{Search}
 use Rattle.split.specs.declared.Search.the-variants.{Balanced, Unbalanced, Unfit}
 use Rattle.split.specs.declared.Found.{Found}
-use Rattle.outcome.specs.Records.{systemsOf, codesOf, fitsOf}
+use Rattle.outcome.specs.Records.{fitsOf, recordsOf}
 use Rattle.outcome.specs.declared.Outcome.{Outcome}
 
 -- the most rounds
@@ -86,17 +86,6 @@ unfoldable pub splitAnswer : List ℕ → Split → ℕ → Answer
 splitAnswer analysis split code = splitAnswerBy (ratingRefusal analysis) (choiceOf (mixOf analysis)) analysis split code
 
 -- ---- the search
-
--- the split of the cells, as records
-abbrev pub recordsOf : List ℕ → ℕ → List ℕ → Split
-recordsOf systems count cells =
-    record {
-      count = 3 * count;
-      systems = systemsOf systems count;
-      codes = codesOf systems count;
-      amounts = amountsOf
-          systems count cells;
-    }
 
 abbrev pub outcome : Answer → Split → Outcome
 outcome answer split = record { answer = answer; split = split }

@@ -5,7 +5,12 @@ use mathlib.Core.Bool.{Bool, cond, _&&_}
 use lib.Dec.{ltb, eqb}
 use lib.ListN.{getD}
 use Rattle.split.specs.Fold.{allTo, table}
-use Rattle.split.specs.Split.{RECORDS, systemOf, componentAt}
+use Rattle.sheet.specs.declared.Split.{Split}
+use Rattle.split.specs.Split.{RECORDS, systemOf, componentAt, amountsOf}
+
+-- the most systems that a split has room for
+abbrev pub ROWS : ℕ
+ROWS = RECORDS / 3
 
 -- the code of a component in a split: methane, ethane, propane, butanes, hydrogen
 abbrev pub codes : List ℕ
@@ -36,3 +41,14 @@ matchesAt systems count named codes r =
 unfoldable pub fitsOf : List ℕ → ℕ → ℕ → List ℕ → List ℕ → Bool
 fitsOf systems count records named codes =
     eqb records (3 * count) && allTo (matchesAt systems count named codes) records
+
+-- the split of the cells, as records
+abbrev pub recordsOf : List ℕ → ℕ → List ℕ → Split
+recordsOf systems count cells =
+    record {
+      count = 3 * count;
+      systems = systemsOf systems count;
+      codes = codesOf systems count;
+      amounts = amountsOf
+          systems count cells;
+    }

@@ -22,8 +22,13 @@ use systems::COMPONENTS;
 use systems::Choice;
 use systems::SYSTEMS;
 
-// All parts of a mixture.
+// All parts of a mixture, as an amount and as a divisor.
 const MILLION: u32 = 1000000;
+
+const PARTS: i64 = 1000000;
+
+// The partial number of pure methane, 100.0003, in units.
+const PURE_METHANE: i64 = 1000003000;
 
 // The system of the inert mixture.
 const INERT: u32 = 20;
@@ -113,7 +118,7 @@ fn rating_of(sum: i64, inert: i64) -> i64
     requires { ⌜ (natAbs sum ≤ LARGEST * MILLION) × (natAbs inert ≤ LARGEST) ⌝ }
     ensures { λ r. ⌜ r ≡ quotZ sum (pos MILLION) +ℤ inert +ℤ neg PURE_METHANE ⌝ }
 {
-    sum / 1000000 + inert - 1000003000
+    sum / PARTS + inert - PURE_METHANE
 }
 
 fn refused(number: u32) -> Answer

@@ -1,7 +1,7 @@
 -- What the public calls meet: the check's answer, the values of an analysis in range, what the search found. Assumes
 -- nothing.
 use mathlib.Core.Path.{_≡_, refl, sym, ap, ap₂, _∙_, subst}
-use mathlib.Core.Bool.{Bool, true, false, cond}
+use mathlib.Core.Bool.{Bool, true, false, not, cond}
 use mathlib.Core.List.{List}
 use mathlib.Core.Logic.{_⊎_, inl, inr}
 use Prim.Native.Nat.{ℕ, _*_, _^_, _≤_, _<_, min}
@@ -13,7 +13,7 @@ use lib.Signed.{mag}
 use mir.Syntax.{w64}
 use mir.Val.{toZ, ofZ}
 use lib.ListN.{length, replicate}
-use borrow.Author.Tests.{eq-eqb}
+use borrow.Author.Tests.{eq-eqb, not-true, not-false}
 use Rattle.integer.specs.Laws.Ring.{mag-le}
 use Rattle.refusal.specs.Register.{TOO_FEW}
 use Rattle.analysis.specs.Register.{CODES}
@@ -48,9 +48,9 @@ use Rattle.split.specs.declared.Search.the-variants.{Balanced, Unbalanced}
 use Rattle.split.specs.declared.Proposed.{Proposed}
 use Rattle.split.specs.declared.Proposed.the-variants.{Answered, Unfit}
 use Rattle.split.specs.declared.Found.{Found}
-use Rattle.outcome.specs.Records.{fitsOf}
+use Rattle.outcome.specs.Records.{ROWS, fitsOf, recordsOf}
 use Rattle.outcome.specs.Rate.{ROUNDS, FEWEST, mixOf, systemsFor, countFor, ratingRefusal, splitBy, splitAnswer}
-use Rattle.outcome.specs.Rate.{outcome, recordsOf, foundBy, foundOutcome, searched, searchOutcome}
+use Rattle.outcome.specs.Rate.{outcome, foundBy, foundOutcome, searched, searchOutcome}
 use Rattle.split.specs.Accuracy.{fit-few}
 use Rattle.split.specs.PutBack.{balance-fit}
 use Rattle.split.specs.Laws.Size.{rating-small}
@@ -174,8 +174,8 @@ module _ (a : List ℕ) (long : length a ≡ CODES) (passed : analysisRefusal a 
     split-in p r e = e ∙ rw (choice-is, mix-is, inert-is, on)
 
     -- the search, of which the guarded one is the same
-    module _ (allowance most : ℕ) (l : most ≡ min allowance 4000) (found : Found)
-        (f : found ≡ findOf mix (choice .systems) (choice .count) 500000 16 most) where
+    module _ (allowance most : ℕ) (l : most ≡ min allowance ROUNDS) (found : Found)
+        (f : found ≡ findOf mix (choice .systems) (choice .count) LIMIT FIRST_LEVEL most) where
       found-is : found ≡ searched a allowance
       found-is =
           f ∙ rw (choice-is, mix-is, l)
@@ -185,10 +185,10 @@ module _ (a : List ℕ) (long : length a ≡ CODES) (passed : analysisRefusal a 
       found-cells : (s r : ℕ) → found .search ≡ Balanced s r
           → Fit LIMIT (choice .systems) (choice .count) mix (found .cells)
       found-cells s r e =
-          let b = find-balanced mix (choice .systems) (choice .count) 500000 16 most s r
+          let b = find-balanced mix (choice .systems) (choice .count) LIMIT FIRST_LEVEL most s r
           (ap (λ (x : Found). x .search) (sym f) ∙ e) in
-          rw f (balance-fit mix (choice .systems) (choice .count) 500000 most
-          (findOf mix (choice .systems) (choice .count) 500000 16 most .cells) s r b
+          rw f (balance-fit mix (choice .systems) (choice .count) LIMIT most
+          (findOf mix (choice .systems) (choice .count) LIMIT FIRST_LEVEL most .cells) s r b
           (λ c l. rw (choice-is, mix-is) (shared a on c l)))
 
       pub found-fit : FoundFit mix (choice .systems) (choice .count) found
@@ -221,9 +221,9 @@ module _ (ch : List ℕ) (k : ℕ) (mix : List ℕ) (n1 : ℕ) where
 
   pub fitting : (p : Split) (cells : List ℕ) → fitsOf ch k (p .count) (p .systems) (p .codes) ≡ true
       → cells ≡ cellsOf ch k (p .amounts)
-      → proposedOf 500000 ch k mix cells n1 ≡ splitBy ch k mix n1 p
+      → proposedOf LIMIT ch k mix cells n1 ≡ splitBy ch k mix n1 p
   unfolding splitBy
-  fitting p cells e q = ap (λ (l : List ℕ). proposedOf 500000 ch k mix l n1) q ∙ rw e
+  fitting p cells e q = ap (λ (l : List ℕ). proposedOf LIMIT ch k mix l n1) q ∙ rw e
 
   -- fit input is answered, under any limit
   module _ (limit : ℕ) (cells : List ℕ) (h : Proposal mix ch k n1) (y : Proposed)
@@ -237,10 +237,10 @@ module _ (ch : List ℕ) (k : ℕ) (mix : List ℕ) (n1 : ℕ) where
     answered-is x u = let same = sym u ∙ z ∙ answer-proposed mix ch k n1 limit cells h in cc
 
   -- cells that are fit are rated, also under a wider limit
-  module _ (limit : ℕ) (cells : List ℕ) (f : Fit 500000 ch k mix cells) (x : Answer)
-      (e : x ≡ proposedOf limit ch k mix cells n1) (l : 500000 ≤ limit) where
+  module _ (limit : ℕ) (cells : List ℕ) (f : Fit LIMIT ch k mix cells) (x : Answer)
+      (e : x ≡ proposedOf limit ch k mix cells n1) (l : LIMIT ≤ limit) where
     rated : x ≡ Rated (ratingOf ch k cells n1) (spreadOf (rowNumber ch cells) k) 0
-    rated = e ∙ wider 500000 limit ch k mix cells n1 _ _ _ l (fit-rated 500000 ch k mix cells n1 f)
+    rated = e ∙ wider LIMIT limit ch k mix cells n1 _ _ _ l (fit-rated LIMIT ch k mix cells n1 f)
 
     pub rating-is : (w : ℤ) (s r : ℕ) → x ≡ Rated w s r → w ≡ ratingOf ch k cells n1
     rating-is w s r q =
@@ -249,6 +249,27 @@ module _ (ch : List ℕ) (k : ℕ) (mix : List ℕ) (n1 : ℕ) where
 
     pub not-refused : (number place : ℕ) → x ≡ Refused number place → ⊥
     not-refused number place q = subst IsRated (sym rated ∙ q) tt
+
+-- ---- a proposed split: whether its records fit, and the answer to its cells
+
+-- as many as there is room for count
+rows-room : (k : ℕ) → 3 * k ≤ RECORDS → min k ROWS ≡ k
+rows-room k h = omega arith
+
+module _ (ch : List ℕ) (k : ℕ) (mix : List ℕ) (n1 : ℕ) (p : Split) (b : Bool)
+    (room : 3 * k ≤ RECORDS) (e : b ≡ fitsOf ch (min k ROWS) (p .count) (p .systems) (p .codes)) where
+  same : b ≡ fitsOf ch k (p .count) (p .systems) (p .codes)
+  same = e ∙ ap (λ (n : ℕ). fitsOf ch n (p .count) (p .systems) (p .codes)) (rows-room k room)
+
+  pub split-misfit : not b ≡ true → Refused 7 0 ≡ splitBy ch k mix n1 p
+  split-misfit t = misfit ch k mix n1 p (sym same ∙ not-true b t)
+
+  pub split-fitting : (cells : List ℕ) (r : Answer) (y : Proposed) → Proposal mix ch k n1 → not b ≡ false
+      → cells ≡ cellsOf ch (min k ROWS) (p .amounts)
+      → y ≡ proposedAnswer LIMIT ch k mix cells n1 → y ≡ Answered r → r ≡ splitBy ch k mix n1 p
+  split-fitting cells r y h t q z u =
+      answered-is ch k mix n1 LIMIT cells h y z r u ∙ fitting ch k mix n1 p cells (sym same ∙ not-false b t)
+      (q ∙ ap (λ (n : ℕ). cellsOf ch n (p .amounts)) (rows-room k room))
 
 pub found-none : (ch : List ℕ) (k n1 : ℕ) (f : Found) → f .search ≡ Unbalanced
     → outcome (Refused 11 0) noSplit ≡ foundOutcome ch k n1 f
@@ -290,14 +311,16 @@ search-away-is a allowance number code r t e =
     (search-away a allowance number code t, t .fault)
 
 pub found-is-some : (ch : List ℕ) (k n1 : ℕ) (f : Found) (s r : ℕ) (w w′ : ℤ) (p : Split) → f .search ≡ Balanced s r
-    → w′ ≡ w → w ≡ ratingOf ch k (f .cells) n1 → p ≡ recordsOf ch k (f .cells)
+    → 3 * k ≤ RECORDS → w′ ≡ w → w ≡ ratingOf ch k (f .cells) n1 → p ≡ recordsOf ch (min k ROWS) (f .cells)
     → outcome (Rated w′ s r) p ≡ foundOutcome ch k n1 f
-found-is-some ch k n1 f s r w w′ p e same q h =
-    ap₂ (λ (x : ℤ) (y : Split). outcome (Rated x s r) y) (same ∙ q) h ∙ found-some ch k n1 f s r e
+found-is-some ch k n1 f s r w w′ p e room same q h =
+    ap₂ (λ (x : ℤ) (y : Split). outcome (Rated x s r) y) (same ∙ q)
+    (h ∙ ap (λ (n : ℕ). recordsOf ch n (f .cells)) (rows-room k room))
+    ∙ found-some ch k n1 f s r e
 
 -- a rating in its 64 bits
 pub rating-value : (ch : List ℕ) (k : ℕ) (mix : List ℕ) (n1 limit : ℕ) (cells : List ℕ) → Proposal mix ch k n1
-    → Fit 500000 ch k mix cells → (x : Answer) → x ≡ proposedOf limit ch k mix cells n1 → 500000 ≤ limit
+    → Fit LIMIT ch k mix cells → (x : Answer) → x ≡ proposedOf limit ch k mix cells n1 → LIMIT ≤ limit
     → (w : ℤ) (s r : ℕ) → x ≡ Rated w s r → toZ w64 (ofZ w64 w) ≡ ratingOf ch k cells n1
 rating-value ch k mix n1 limit cells h f x e l w s r q =
     let is = rating-is ch k mix n1 limit cells f x e l w s r q in

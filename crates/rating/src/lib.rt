@@ -2,8 +2,6 @@
 //
 // No public function has a `requires`. What they promise is in crate `outcome`, specs/Rate.antt; the third demand,
 // which is proved of those promises, is in crate `demand`, specs/Demand.antt.
-mod records;
-
 ghost use mathlib.Core.Path.{_≡_};
 ghost use Prim.Native.Nat.{_*_, _≤_, min};
 ghost use Rattle.analysis.specs.Check.{analysisRefusal, AtFault};
@@ -150,7 +148,7 @@ fn split_by(choice: Choice, mix: [u32; COMPONENTS], n1: u32, split: Split) -> An
     let named = split.systems;
     let codes = split.codes;
     let amounts = split.amounts;
-    if !records::fits(systems, count, records, named, codes) {
+    if !split_records::fits(systems, count, records, named, codes) {
         return Answer::Refused {
             number: MISFIT,
             place: 0,
@@ -160,7 +158,7 @@ fn split_by(choice: Choice, mix: [u32; COMPONENTS], n1: u32, split: Split) -> An
         LIMIT,
         choice,
         mix,
-        records::cells_of(systems, count, amounts),
+        split_records::cells_of(systems, count, amounts),
         n1,
     ))
 }
@@ -182,7 +180,7 @@ fn answer_of(proposed: Proposed) -> Answer
 // What a search that was made came to: a rating with its split, or 11.
 fn found_outcome(choice: Choice, mix: [u32; COMPONENTS], n1: u32, found: Found) -> Outcome
     requires { ⌜ Proposal mix (choice .systems) (choice .count) n1
-        × FoundFit mix (choice .systems) (choice .count) found ⌝ }
+        × FoundFit mix (choice .systems) (choice .count) found × (3 * choice .count ≤ RECORDS) ⌝ }
     ensures { λ r. ⌜ r ≡ foundOutcome (choice .systems) (choice .count) n1 found ⌝ }
 {
     let search = found.search;
@@ -198,7 +196,7 @@ fn found_outcome(choice: Choice, mix: [u32; COMPONENTS], n1: u32, found: Found) 
                 spread,
                 rounds,
             },
-            split: records::split_of(systems, count, cells),
+            split: split_records::split_of(systems, count, cells),
         },
     }
 }

@@ -19,19 +19,6 @@ use Rattle.split_rows.specs.declared.Rows.{Rows}
 abbrev pub listed : List ℤ → ℕ → ℤ
 listed numbers i = getD numbers i (pos 0)
 
--- row s's parts as a row of the system
-unfoldable pub partsIn : ℕ → List ℕ → ℕ → ℕ
-partsIn system cells s =
-    cellOf cells s (memberOf system 0) + cellOf cells s (memberOf system 1) + cellOf cells s (memberOf system 2)
-
--- its partial number, or why it has none
-unfoldable pub answerIn : ℕ → List ℕ → ℕ → Partial
-answerIn system cells s =
-    cond (isIn system candidates)
-    (formulaOf system (cellOf cells s (memberOf system 0)) (cellOf cells s (memberOf system 1))
-    (cellOf cells s (memberOf system 2)))
-    (Refused NO_SYSTEM)
-
 -- row s has a partial number: its system is a candidate and its parts make a mixture
 unfoldable pub rowFit : List ℕ → List ℕ → ℕ → Bool
 rowFit systems cells s = isIn (systemOf systems s) candidates && isMixture (partsOf systems cells s)

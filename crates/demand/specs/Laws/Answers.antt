@@ -28,9 +28,9 @@ use Rattle.split.specs.declared.Answer.the-variants.{Rated, Refused}
 use Rattle.split.specs.declared.Search.{Search}
 use Rattle.split.specs.declared.Search.the-variants.{Balanced, Unbalanced, Unfit}
 use Rattle.split.specs.declared.Found.{Found}
-use Rattle.outcome.specs.Records.{systemAt, codeAt, systemsOf, codesOf, matchesAt, fitsOf}
+use Rattle.outcome.specs.Records.{systemAt, codeAt, systemsOf, codesOf, matchesAt, fitsOf, recordsOf}
 use Rattle.outcome.specs.Rate.{ROUNDS, mixOf, systemsFor, countFor, ratingRefusal, checkedBy, splitBy, splitAnswer}
-use Rattle.outcome.specs.Rate.{recordsOf, outcome, foundBy, foundOutcome, searched, searchOutcome}
+use Rattle.outcome.specs.Rate.{outcome, foundBy, foundOutcome, searched, searchOutcome}
 use Rattle.outcome.specs.RatedOn.{RatedOn}
 use Rattle.outcome.specs.Laws.Ready.{room, shared, input}
 use Rattle.outcome.specs.declared.Outcome.{Outcome}

@@ -7,7 +7,7 @@ use lib.IntN.{ℤ, pos, negsuc, negℤ, _+ℤ_, _*ℤ_, *ℤ-comm, *ℤ-one, one
 use lib.Signed.{_≤ℤ_, _<ℤ_}
 use Rattle.integer.specs.Laws.Ring.{distr}
 use Rattle.integer.specs.Laws.Order.{sub-lt, ≤ℤ-more, <ℤ-more}
-use Rattle.integer.specs.Floor.{floorOver, restOver}
+use Rattle.integer.specs.Floor.{floorOver}
 
 pub neg-split : (q d r : ℕ) → r < d → negsuc q *ℤ pos d +ℤ pos r ≡ negsuc (q * d + (d - 1 - r))
 neg-split q d r h =
@@ -29,6 +29,11 @@ pub floor-unique : (z q : ℤ) (d r : ℕ) → r < d → z ≡ q *ℤ pos d +ℤ
 floor-unique z (pos q) d r h e = ap (λ (y : ℤ). floorOver y d) e ∙ ap pos (quot q d r h)
 floor-unique z (negsuc q) d r h e =
     ap (λ (y : ℤ). floorOver y d) (e ∙ neg-split q d r h) ∙ ap negsuc (quot q d (d - 1 - r) (omega arith))
+
+-- what it leaves, from 0 to below d
+abbrev pub restOver : ℤ → ℕ → ℕ
+restOver (pos a) d = a % d
+restOver (negsuc a) d = d - 1 - a % d
 
 pub rest-lt : (z : ℤ) (d : ℕ) → 0 < d → restOver z d < d
 rest-lt (pos a) d h = N.mod-lt a h

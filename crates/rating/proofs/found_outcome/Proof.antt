@@ -40,7 +40,7 @@ returns-2 c =
 returns-3 : tie.Need-returns-3
 returns-3 c = let b = c .before .before .before .before .before .before .before in
     found-is-some _ _ _ (b .args .found) _ _ (c .before .rating-of .result) _ _
-    (c .before .before .before .search .given .1)
+    (c .before .before .before .search .given .1) (b .pre .2)
     (read-back (c .before .rating-of .result) (c .before .rating-of .ok)) (c .before .rating-of .ensures)
     (c .split-of .ensures)
 

@@ -1,7 +1,7 @@
 -- `rating::rate_by_search` meets its contract. Assumes nothing.
 use Rattle.analysis.specs.Register.{CODES}
 use Rattle.rating.proofs.CallCases.{in-range, turned-away, search-away-is, count-few, count-enough}
-use Rattle.rating.proofs.CallCases.{given-proposal, found-fit, search-in, search-not-five}
+use Rattle.rating.proofs.CallCases.{given-proposal, given-room, found-fit, search-in, search-not-five}
 use mathlib.Core.Path.{_≡_}
 use native.Mathlib.Omega.{arith}
 use lib.ListN.{length}
@@ -67,6 +67,7 @@ found-outcome-requires c κs =
       given-proposal a l p on _ _ _ (s .1 .0) (h .choose .ensures) (s .1 .1),
       found-fit a l p on _ _ _ (s .1 .0) (h .choose .ensures) (s .1 .1)
           (b .before .args .allowance) _ (c .before .at-most .ensures) _ (c .find .ensures),
+      given-room a l p on _ _ _ (s .1 .0) (h .choose .ensures) (s .1 .1),
     )
 
 returns-2 : tie.Need-returns-2

@@ -9,6 +9,7 @@ use lib.Dec.{eqb, ltb, leb}
 use borrow.Author.Tests.{eq-eqb, ne-eqb, le-leb, lt-leb, le-ltb, leb-true, leb-false, ltb-true, ltb-false, eqb-true}
 use borrow.Author.Tests.{eqb-false}
 use Rattle.refusal.specs.Keys.{isIn}
+use Rattle.refusal.specs.Register.{TORN, SHORT_BLANK}
 use Rattle.refusal.specs.Laws.Keys.{each-passes}
 use Rattle.analysis.specs.Register.{CODES, Entry, unknown, register, keysOf, statusIn, statusOf}
 use Rattle.analysis.specs.Check.{analysisRefusal}
@@ -301,7 +302,7 @@ module _ (a : List ℕ) (p : Split) where
       unfolding writeRefusal
       number-check n = rw (h, ne-eqb _ _ n)
 
-      pub number-short : analysisRefusal a ≡ 0 → size < length (sheetOf a p) → writeRefusal a p size ≡ 14
+      pub number-short : analysisRefusal a ≡ 0 → size < length (sheetOf a p) → writeRefusal a p size ≡ SHORT_BLANK
       unfolding writeRefusal
       number-short e l = rw (h, eq-eqb _ _ e, lt-leb _ _ l)
 
@@ -317,7 +318,7 @@ module _ (a : List ℕ) (p : Split) where
       where
         go : (t u v : Bool) → allowedCount (p .count) ≡ t → eqb (analysisRefusal a) 0 ≡ u
             → leb (length (sheetOf a p)) size ≡ v
-            → cond t (cond u (cond v 0 14) (analysisRefusal a)) 1 ≡ 0 → (allowedCount (p .count) ≡ true)
+            → cond t (cond u (cond v 0 SHORT_BLANK) (analysisRefusal a)) TORN ≡ 0 → (allowedCount (p .count) ≡ true)
             × (analysisRefusal a ≡ 0) × (length (sheetOf a p) ≤ size)
         go true true true e f g h = (e, eqb-true _ _ f, leb-true _ _ g)
         go true true false e f g h = absurd (omega arith)

@@ -9,6 +9,7 @@ use Rattle.refusal.specs.Keys.{allIn, isIn}
 use Rattle.formula.specs.WorkingRule.{sumAbs}
 use Rattle.formula.specs.Coefficients.{placeIn, keepsRule, isSystem, kept, systems}
 use Rattle.systems.specs.Systems.{COMPONENTS, candidates, memberOf, Candidate}
+use Rattle.systems.specs.Choice.{NUMBERS}
 use Rattle.systems.specs.Laws.Members.{candidate-le, member-none}
 use Rattle.systems.specs.Laws.Table.{eachTo, each-candidate, to-true}
 
@@ -34,18 +35,18 @@ same-is false false t = refl
 abbrev agree : ℕ → Bool
 agree system = same (ltb (memberOf system 0) COMPONENTS) (isIn system candidates)
 
-none-above : (system : ℕ) → 9 ≤ system → (b : Bool) → isIn system candidates ≡ b → false ≡ b
+none-above : (system : ℕ) → NUMBERS ≤ system → (b : Bool) → isIn system candidates ≡ b → false ≡ b
 none-above system h true e = absurd (omega (arith, candidate-le system (record { listed = e })))
 none-above system h false e = refl
 
 pub candidate-is : (system r : ℕ) → r ≡ memberOf system 0 → ltb r COMPONENTS ≡ isIn system candidates
 unfolding memberOf isIn
-candidate-is system r p = ap (λ x. ltb x COMPONENTS) p ∙ go (ltb system 9) refl
+candidate-is system r p = ap (λ x. ltb x COMPONENTS) p ∙ go (ltb system NUMBERS) refl
   where
-    go : (b : Bool) → ltb system 9 ≡ b → ltb (memberOf system 0) COMPONENTS ≡ isIn system candidates
+    go : (b : Bool) → ltb system NUMBERS ≡ b → ltb (memberOf system 0) COMPONENTS ≡ isIn system candidates
     go true e =
         same-is (ltb (memberOf system 0) COMPONENTS) (isIn system candidates)
-        (eachTo agree 9 tt system (ltb-true system 9 e))
+        (eachTo agree NUMBERS tt system (ltb-true system NUMBERS e))
     go false e =
-        let h = ltb-false system 9 e in
+        let h = ltb-false system NUMBERS e in
         ap (λ x. ltb x COMPONENTS) (member-none system 0 h) ∙ none-above system h (isIn system candidates) refl

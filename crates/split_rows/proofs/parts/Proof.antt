@@ -1,5 +1,5 @@
 -- `split_rows::parts` meets its contract. Assumes nothing.
-use Rattle.split_rows.specs.Rows.{partsIn}
+use Rattle.split_rows.specs.Inner.Row.{partsIn}
 use mathlib.Core.Path.{ap₂}
 use Prim.Native.Nat.{_+_, _-_}
 use native.Mathlib.Omega.{arith}

@@ -33,7 +33,8 @@ use Rattle.split.specs.Laws.Members.{both-right}
 use Rattle.split.specs.Rating.{someEmpty, spreadOf}
 use Rattle.split.specs.Laws.Rows.{parts-few}
 use Rattle.split.specs.Laws.Fits.{empty-no}
-use Rattle.split_rows.specs.Rows.{listed, partsIn, answerIn, rowFit, rowsFit, upTo, none, rowsOf}
+use Rattle.split_rows.specs.Rows.{listed, rowFit, rowsFit, upTo, none, rowsOf}
+use Rattle.split_rows.specs.Inner.Row.{partsIn, answerIn}
 use Rattle.split_rows.specs.Inner.Small.{Small}
 use Rattle.split_rows.specs.Inner.Carried.{Held}
 use Rattle.split_rows.specs.declared.Rows.{Rows}

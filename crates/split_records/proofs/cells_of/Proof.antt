@@ -1,22 +1,30 @@
--- `rating::records::cells_of` meets its contract. Assumes nothing.
-use Prim.Native.Nat.{_*_, _-_}
+-- `split_records::cells_of` meets its contract. Assumes nothing.
+use Prim.Native.Nat.{_*_, _-_, min}
+use mathlib.Core.Logic.{⊎-elim}
 use native.Mathlib.Omega.{arith}
 use borrow.Author.Needs.{needs}
-use Rattle.rating.proofs.RecordCases.{Celled, celled-none, celled-row, celled-all}
-use Rattle.rating.proofs.records.cells_of.Statement.{statement}
-use Rattle.rating.proofs.records.cells_of.Tie as tie
+use Rattle.outcome.specs.Records.{ROWS}
+use Rattle.split_records.proofs.RecordCases.{Celled, celled-none, celled-row, celled-over, celled-all}
+use Rattle.split_records.proofs.cells_of.Statement.{statement}
+use Rattle.split_records.proofs.cells_of.Tie as tie
 
 abbrev Inv-loop : tie.InvT-loop
-Inv-loop count systems amounts out₀ s₀ out s = Celled systems count amounts out (3 * s)
+Inv-loop count systems amounts out₀ rows s₀ out s = Celled systems (min count ROWS) amounts out (3 * s)
 
 abbrev μ-loop : tie.MeasureT-loop
-μ-loop count systems amounts out₀ s₀ out s = count - s
+μ-loop count systems amounts out₀ rows s₀ out s = rows - s
+
+lesser-requires : tie.Need-lesser-requires Inv-loop μ-loop
+lesser-requires c κs = search needs
 
 loop-holds : tie.Need-loop-holds Inv-loop μ-loop
-loop-holds c = celled-none _ _ _ (c .pre .0)
+loop-holds c = celled-none _ _ _ (omega arith)
 
 array-read-system : tie.Need-array-read-system Inv-loop μ-loop
 array-read-system c = search needs
+
+component-requires : tie.Need-component-requires Inv-loop μ-loop
+component-requires c κs = search needs
 
 mul-i : tie.Need-mul-i Inv-loop μ-loop
 mul-i c = search needs
@@ -29,9 +37,6 @@ mul-out c = search needs
 
 array-read-out : tie.Need-array-read-out Inv-loop μ-loop
 array-read-out c = search needs
-
-component-requires : tie.Need-component-requires Inv-loop μ-loop
-component-requires c κs = (c .before .before .pre .0 .known _ (c .loop-test .taken), omega arith)
 
 add-out : tie.Need-add-out Inv-loop μ-loop
 add-out c = search needs
@@ -52,7 +57,7 @@ array-read-out-2 : tie.Need-array-read-out-2 Inv-loop μ-loop
 array-read-out-2 c = search needs
 
 component-requires-2 : tie.Need-component-requires-2 Inv-loop μ-loop
-component-requires-2 c κs = (c .before .before .before .pre .0 .known _ (c .before .loop-test .taken), omega arith)
+component-requires-2 c κs = search needs
 
 add-out-3 : tie.Need-add-out-3 Inv-loop μ-loop
 add-out-3 c = search needs
@@ -73,8 +78,7 @@ array-read-out-3 : tie.Need-array-read-out-3 Inv-loop μ-loop
 array-read-out-3 c = search needs
 
 component-requires-3 : tie.Need-component-requires-3 Inv-loop μ-loop
-component-requires-3 c κs =
-    (c .before .before .before .before .pre .0 .known _ (c .before .before .loop-test .taken), omega arith)
+component-requires-3 c κs = search needs
 
 add-out-5 : tie.Need-add-out-5 Inv-loop μ-loop
 add-out-5 c = search needs
@@ -93,12 +97,20 @@ loop-less c = search needs
 
 loop-again : tie.Need-loop-again Inv-loop μ-loop
 loop-again c =
-    let l = c .before .before .before .before in
-    celled-row _ _ _ (l .before .pre .0) _ _ _ _ _ (c .before .before .before .loop-test .taken) (l .loop .inv)
-    (c .before .before .component .ensures .0) (c .before .component2 .ensures .0) (c .component3 .ensures .0)
+    let f = c .before .component .ensures .0 in
+    let t = c .before .before .loop-test .taken in
+    let l = c .before .before .before in
+    let n = l .before .lesser .ensures in
+    ⊎-elim
+    (λ w. rw (w .3) (celled-row _ _ _ (omega arith) _ _ _ _ _ (omega (arith, t, n)) (w .0 .taken) (l .loop .inv) f
+    (w .1 .ensures .0) (w .2 .ensures .0)))
+    (λ w. rw (w .1) (celled-over _ _ _ (omega arith) _ _ _ (omega (arith, t, n)) (w .0 .left) (l .loop .inv) f))
+    (c .if1 .came)
 
 returns : tie.Need-returns Inv-loop μ-loop
-returns c = celled-all _ _ _ (c .before .before .pre .0) _ _ (c .before .loop .inv) (omega (arith, c .loop-test .left))
+returns c =
+    celled-all _ _ _ (omega arith) _ _ (c .before .loop .inv)
+    (omega (arith, c .loop-test .left, c .before .before .lesser .ensures))
 
 pub cells-of-spec : {M : Type 1} → statement M
 cells-of-spec =
@@ -106,13 +118,14 @@ cells-of-spec =
     (tie.spec
     Inv-loop
     μ-loop
+    lesser-requires
     loop-holds
     array-read-system
+    component-requires
     mul-i
     mul-r
     mul-out
     array-read-out
-    component-requires
     add-out
     mul-out-2
     array-write-out

@@ -1,57 +1,130 @@
 -- The records of a split and its cells: the packed tables, the arrays as they fill, and the cases of the definitions.
 -- Assumes nothing.
-use Prim.Native.Nat.{ℕ, suc, _+_, _*_, _-_, _/_, _%_, _^_, _≤_, _<_}
+use Prim.Native.Nat.{ℕ, zero, suc, _+_, _*_, _-_, _/_, _%_, _^_, _≤_, _<_, min, max}
 use mathlib.Core.Path.{_≡_, refl, sym, ap, ap₂, _∙_, subst}
 use mathlib.Core.Bool.{Bool, true, false, not, cond, _&&_}
 use mathlib.Core.List.{List}
 use native.Mathlib.Omega.{arith}
+use lib.Ieee.Fits.{and-l}
 use lib.Dec.{T, ltb, eqb, eqb→eq}
 use lib.ListN.{getD, set, length, replicate, length-set, getD-replicate}
 use lib.Seq.{getD-set-same, getD-set-other, ext-getD}
 use borrow.Author.Tests.{lt-ltb, le-ltb, ltb-true, ltb-false, eq-eqb, ne-eqb, eqb-true, eqb-false, not-true, not-false}
-use Rattle.systems.specs.Systems.{COMPONENTS, hasOf, candidates, Candidate}
-use Rattle.systems.specs.Laws.Table.{every, everyTo, eachTo, each-candidate}
-use Rattle.split.specs.Fold.{allTo, table}
+use Rattle.systems.specs.Systems.{COMPONENTS, memberOf, hasOf, candidates, Candidate}
+use Rattle.systems.specs.Choice.{NUMBERS}
+use Rattle.systems.specs.Laws.Members.{member-none}
+use Rattle.systems.specs.Laws.Table.{everyTo, eachTo, of-true, to-true}
+use Rattle.refusal.specs.Keys.{isIn}
+use Rattle.split.specs.Fold.{allTo, first, table}
 use Rattle.split.specs.Split.{CELLS, RECORDS, cellOf, systemOf, heldOf, rankOf, componentAt, cellsOf, amountsOf}
-use Rattle.split.specs.Split.{Chosen, amountAt, cellAt}
+use Rattle.split.specs.Split.{amountAt, cellAt}
+use Rattle.split.specs.Laws.Folds.{first-holds}
 use Rattle.split.specs.Laws.Tables.{length-table, getD-table}
 use Rattle.split.specs.Laws.Clean.{held-row, row-held}
 use Rattle.split.specs.Laws.Places.{rank-lt, component-rank, component-lt, component-has, rank-component}
 use Rattle.sheet.specs.declared.Split.{Split}
-use Rattle.outcome.specs.Records.{splitCode, systemAt, codeAt, systemsOf, codesOf, matchesAt, fitsOf}
-use Rattle.split.specs.Inner.Proposed.{Proposal}
-use Rattle.split.specs.Proposed.{proposedAnswer}
-use Rattle.split.specs.declared.Answer.{Answer}
-use Rattle.split.specs.declared.Answer.the-variants.{Refused}
-use Rattle.split.specs.declared.Proposed.{Proposed}
-use Rattle.split.specs.declared.Proposed.the-variants.{Answered}
-use Rattle.outcome.specs.Rate.{splitBy, recordsOf}
-use Rattle.rating.proofs.CallCases.{misfit, fitting, answered-is}
+use Rattle.outcome.specs.Records.{ROWS, splitCode, systemAt, codeAt, systemsOf, codesOf, matchesAt, fitsOf, recordsOf}
 
--- ---- the packed tables
+-- ---- a system's members, rising
 
-abbrev pub rising : ℕ → ℕ → ℕ → ℕ
-rising packed system j = packed / 2 ^ (system * 6 + j * 2) % 4 + j
+abbrev pub lowest : ℕ → ℕ → ℕ → ℕ
+lowest a b c = min (min a b) c
 
-abbrev pub rises : ℕ → ℕ → ℕ → Bool
-rises packed system j = eqb (rising packed system j) (componentAt system j)
+abbrev pub middle : ℕ → ℕ → ℕ → ℕ
+middle a b c = max (min a b) (min (max a b) c)
 
-abbrev pub risesAll : ℕ → ℕ → Bool
-risesAll packed system = everyTo (rises packed system) 3
+abbrev pub highest : ℕ → ℕ → ℕ → ℕ
+highest a b c = max (max a b) c
 
-pub component-is : (packed : ℕ) → T (every (risesAll packed) candidates) → (system j : ℕ) → Candidate system → j < 3
-    → (rising packed system j ≡ componentAt system j) × (rising packed system j < COMPONENTS)
-component-is packed t system j k h =
-    let e = eqb→eq (rising packed system j) (componentAt system j)
-    (eachTo (rises packed system) 3 (each-candidate (risesAll packed) t system k) j h) in
-    (e, rw e (component-lt system k j h))
+-- that of the members which f takes is the component of the jth record
+abbrev pub taken : (ℕ → ℕ → ℕ → ℕ) → ℕ → ℕ → Bool
+taken f j system = eqb (f (memberOf system 0) (memberOf system 1) (memberOf system 2)) (componentAt system j)
+
+-- a number past the table has no component
+component-none : (system j : ℕ) → NUMBERS ≤ system → componentAt system j ≡ COMPONENTS
+unfolding componentAt first hasOf
+component-none system j h = rw (member-none system 0 h, member-none system 1 h, member-none system 2 h)
+
+first-le : (p : ℕ → Bool) (n i : ℕ) → first p n i ≤ i + n
+unfolding first
+first-le p zero i = omega arith
+first-le p (suc n) i = go (p i) (first-le p n (i + 1))
+  where
+    go : (b : Bool) → first p n (i + 1) ≤ i + 1 + n → cond b i (first p n (i + 1)) ≤ i + suc n
+    go true h = omega arith
+    go false h = omega arith
+
+component-le : (system j : ℕ) → componentAt system j ≤ COMPONENTS
+unfolding componentAt
+component-le system j = first-le _ COMPONENTS 0
+
+pub component-is : (f : ℕ → ℕ → ℕ → ℕ) (j : ℕ) → T (everyTo (taken f j) NUMBERS)
+    → f COMPONENTS COMPONENTS COMPONENTS ≡ COMPONENTS
+    → (system i r : ℕ) → r ≡ f (memberOf system 0) (memberOf system 1) (memberOf system 2) → i ≡ j
+    → (r ≡ componentAt system i) × (r ≤ COMPONENTS)
+component-is f j t none system i r e same =
+    let is : r ≡ componentAt system i = e ∙ go (ltb system NUMBERS) refl ∙ ap (componentAt system) (sym same) in
+    (is, rw is (component-le system i))
+  where
+    go : (b : Bool) → ltb system NUMBERS ≡ b
+        → f (memberOf system 0) (memberOf system 1) (memberOf system 2) ≡ componentAt system j
+    go true h =
+        eqb→eq (f (memberOf system 0) (memberOf system 1) (memberOf system 2)) (componentAt system j)
+        (eachTo (taken f j) NUMBERS t system (ltb-true system NUMBERS h))
+    go false h =
+        let l = ltb-false system NUMBERS h in
+        rw (member-none system 0 l, member-none system 1 l, member-none system 2 l)
+        (none ∙ sym (component-none system j l))
+
+-- ---- the codes, packed
 
 abbrev pub coded : ℕ → ℕ → Bool
 coded packed c = eqb (packed / 2 ^ (c * 4) % 16) (splitCode c)
 
-pub code-is : (packed : ℕ) → T (everyTo (coded packed) COMPONENTS) → (c : ℕ) → c < COMPONENTS
+pub code-is : (packed : ℕ) → T (everyTo (coded packed) (COMPONENTS + 1)) → (c : ℕ) → c ≤ COMPONENTS
     → packed / 2 ^ (c * 4) % 16 ≡ splitCode c
-code-is packed t c h = eqb→eq (packed / 2 ^ (c * 4) % 16) (splitCode c) (eachTo (coded packed) COMPONENTS t c h)
+code-is packed t c h =
+    eqb→eq (packed / 2 ^ (c * 4) % 16) (splitCode c) (eachTo (coded packed) (COMPONENTS + 1) t c (omega arith))
+
+-- ---- a system that contains a component is a candidate
+
+abbrev implies : Bool → Bool → Bool
+implies true y = y
+implies false y = true
+
+of-implies : (x y : Bool) → x ≡ true → T (implies x y) → T y
+of-implies true y e t = t
+of-implies false y e t = absurd (of-true false e)
+
+abbrev listed : ℕ → Bool
+listed system = everyTo (λ c. implies (hasOf system c) (isIn system candidates)) COMPONENTS
+
+has-none : (system c : ℕ) → NUMBERS ≤ system → c < COMPONENTS → hasOf system c ≡ false
+unfolding hasOf
+has-none system c l h =
+    let n : eqb c COMPONENTS ≡ false = ne-eqb c COMPONENTS (λ q. absurd (omega arith)) in
+    rw (member-none system 0 l, member-none system 1 l, member-none system 2 l, n)
+
+has-candidate : (system c : ℕ) → c < COMPONENTS → hasOf system c ≡ true → Candidate system
+unfolding hasOf memberOf isIn
+has-candidate system c h e = go (ltb system NUMBERS) refl
+  where
+    go : (b : Bool) → ltb system NUMBERS ≡ b → Candidate system
+    go true t =
+        record {
+          listed = to-true (isIn system candidates) (of-implies (hasOf system c) (isIn system candidates) e
+              (eachTo (λ c. implies (hasOf system c) (isIn system candidates)) COMPONENTS
+              (eachTo listed NUMBERS tt system (ltb-true system NUMBERS t)) c h));
+        }
+    go false t = absurd (of-true false (sym (has-none system c (ltb-false system NUMBERS t) h) ∙ e))
+
+-- so is one whose first record is of a component
+first-candidate : (system : ℕ) → componentAt system 0 < COMPONENTS → Candidate system
+unfolding componentAt
+first-candidate system h =
+    let m = componentAt system 0 in
+    let is = first-holds (λ c. hasOf system c && eqb (rankOf system c) 0) COMPONENTS 0 m refl (omega arith) in
+    has-candidate system m h (to-true (hasOf system m) (and-l (hasOf system m) (eqb (rankOf system m) 0) (of-true _ is)))
 
 -- ---- one record
 
@@ -134,15 +207,14 @@ module _ (ch : List ℕ) (k : ℕ) (a : List ℕ) where
         amounted = part-none (amountAt ch k a);
       }
 
-  module _ (found codes amounts : List ℕ) (r last : ℕ) (e : (last ≤ 3 * k) × (last ≤ RECORDS)
-      × (last < RECORDS → last ≡ 3 * k)) where
+  module _ (found codes amounts : List ℕ) (r last : ℕ) (e : last ≡ 3 * k) (room : k ≤ ROWS) where
     pub recorded-next : (c code : ℕ) → Recorded ch k a found codes amounts r → r < last
         → c ≡ componentAt (systemOf ch (r / 3)) (r % 3) → code ≡ splitCode c
         → Recorded ch k a (set found r (systemOf ch (r / 3))) (set codes r code) (set amounts r (cellOf a (r / 3) c))
         (r + 1)
     recorded-next c code d h p q =
-        let w : r < 3 * k = omega (arith, e .0) in
-        let l : r < RECORDS = omega (arith, e .1) in
+        let w : r < 3 * k = omega arith in
+        let l : r < RECORDS = omega arith in
         record {
           most = omega arith;
           systems = part-next (systemAt ch k) found r (systemOf ch (r / 3)) l (d .systems) (system-in ch k r w);
@@ -153,19 +225,17 @@ module _ (ch : List ℕ) (k : ℕ) (a : List ℕ) where
         }
 
     pub recorded-all : Recorded ch k a found codes amounts r → last ≤ r
-        → _≡_ {A = Split} (record { count = 3 * k; systems = found; codes = codes; amounts = amounts })
+        → _≡_ {A = Split} (record { count = last; systems = found; codes = codes; amounts = amounts })
         (recordsOf ch k a)
     unfolding systemsOf codesOf amountsOf
     recorded-all d h =
-        let past : (j : ℕ) → r ≤ j → j < RECORDS → 3 * k ≤ j = λ j b t. let q : last < RECORDS = omega arith in
-        omega (arith, e .2 q) in
         let f : found ≡ systemsOf ch k = part-all (systemAt ch k) found r (d .systems)
-        (λ j b t. system-past ch k j (past j b t)) in
+        (λ j b t. system-past ch k j (omega arith)) in
         let g : codes ≡ codesOf ch k = part-all (codeAt ch k) codes r (d .coded′)
-        (λ j b t. code-past ch k j (past j b t)) in
+        (λ j b t. code-past ch k j (omega arith)) in
         let m : amounts ≡ amountsOf ch k a = part-all (amountAt ch k a) amounts r (d .amounted)
-        (λ j b t. amount-past ch k j a (past j b t)) in
-        λ i. record { count = 3 * k; systems = f i; codes = g i; amounts = m i }
+        (λ j b t. amount-past ch k j a (omega arith)) in
+        λ i. record { count = e i; systems = f i; codes = g i; amounts = m i }
 
 -- ---- the cells as the records fill them
 
@@ -180,7 +250,7 @@ pub record Celled (ch : List ℕ) (k : ℕ) (xs out : List ℕ) (r : ℕ) : Type
       → getD out i 0 ≡ getD xs (recordOf ch i) 0
   rest : (i : ℕ) → i < CELLS → heldOf ch k (i / COMPONENTS) (i % COMPONENTS) ≡ false → getD out i 0 ≡ 0
 
-module _ (ch : List ℕ) (k : ℕ) (xs : List ℕ) (chosen : Chosen ch k) where
+module _ (ch : List ℕ) (k : ℕ) (xs : List ℕ) (room : k ≤ ROWS) where
   pub celled-none : Celled ch k xs (replicate CELLS 0) 0
   celled-none =
       record {
@@ -191,23 +261,25 @@ module _ (ch : List ℕ) (k : ℕ) (xs : List ℕ) (chosen : Chosen ch k) where
             CELLS i 0 0 l;
       }
 
-  -- a held cell's record is one of its row's three
+  -- a held cell's system is a candidate
+  held-known : (i : ℕ) → heldOf ch k (i / COMPONENTS) (i % COMPONENTS) ≡ true → Candidate (systemOf ch (i / COMPONENTS))
+  held-known i h =
+      has-candidate (systemOf ch (i / COMPONENTS)) (i % COMPONENTS) (omega arith)
+      (held-row ch k (i / COMPONENTS) (i % COMPONENTS) h .1)
+
+  -- and its record is one of its row's three
   record-row : (i : ℕ) → heldOf ch k (i / COMPONENTS) (i % COMPONENTS) ≡ true → (recordOf ch i / 3 ≡ i / COMPONENTS)
       × (recordOf ch i % 3 ≡ rankOf (systemOf ch (i / COMPONENTS)) (i % COMPONENTS)) × (recordOf ch i < 3 * k)
   record-row i h =
       let w = held-row ch k (i / COMPONENTS) (i % COMPONENTS) h in
-      let l = rank-lt (systemOf ch (i / COMPONENTS)) (chosen .known (i / COMPONENTS) (w .0)) (i % COMPONENTS)
-      (omega arith) (w .1) in
+      let l = rank-lt (systemOf ch (i / COMPONENTS)) (held-known i h) (i % COMPONENTS) (omega arith) (w .1) in
       row-of (i / COMPONENTS) (rankOf (systemOf ch (i / COMPONENTS)) (i % COMPONENTS)) l (w .0)
     where
       row-of : (s p : ℕ) → p < 3 → s < k → ((3 * s + p) / 3 ≡ s) × ((3 * s + p) % 3 ≡ p) × (3 * s + p < 3 * k)
       row-of s p l b = (omega arith, omega arith, omega arith)
 
   module _ (out : List ℕ) (r c : ℕ) (d : Celled ch k xs out r) (h : r < 3 * k)
-      (e : c ≡ componentAt (systemOf ch (r / 3)) (r % 3)) where
-    known : Candidate (systemOf ch (r / 3))
-    known = chosen .known (r / 3) (omega arith)
-
+      (e : c ≡ componentAt (systemOf ch (r / 3)) (r % 3)) (known : Candidate (systemOf ch (r / 3))) where
     low : c < COMPONENTS
     low = rw e (component-lt (systemOf ch (r / 3)) known (r % 3) (omega arith))
 
@@ -218,7 +290,7 @@ module _ (ch : List ℕ) (k : ℕ) (xs : List ℕ) (chosen : Chosen ch k) where
     rank = rw e (rank-component (systemOf ch (r / 3)) known (r % 3) (omega arith))
 
     cell-low : r / 3 * COMPONENTS + c < CELLS
-    cell-low = omega (arith, low, chosen .most)
+    cell-low = omega (arith, low)
 
     -- the cell's row and component
     row-is : (r / 3 * COMPONENTS + c) / COMPONENTS ≡ r / 3
@@ -247,7 +319,7 @@ module _ (ch : List ℕ) (k : ℕ) (xs : List ℕ) (chosen : Chosen ch k) where
         let place : rankOf (systemOf ch (i / COMPONENTS)) (i % COMPONENTS) ≡ r % 3 = sym (t .1)
         ∙ ap (λ (x : ℕ). x % 3) q in
         let column : i % COMPONENTS ≡ c =
-        sym (component-rank (systemOf ch (i / COMPONENTS)) (chosen .known (i / COMPONENTS) (w .0)) (i % COMPONENTS)
+        sym (component-rank (systemOf ch (i / COMPONENTS)) (held-known i b) (i % COMPONENTS)
         (omega arith) (w .1))
         ∙ ap₂ (λ (s p : ℕ). componentAt (systemOf ch s) p) row place
         ∙ sym e in
@@ -291,31 +363,58 @@ module _ (ch : List ℕ) (k : ℕ) (xs : List ℕ) (chosen : Chosen ch k) where
             omega arith
 
   -- the jth record of row s, and a row's three
-  celled-at : (out : List ℕ) (s j c : ℕ) → s < k → j < 3 → Celled ch k xs out (3 * s + j)
+  celled-at : (out : List ℕ) (s j c : ℕ) → Candidate (systemOf ch s) → s < k → j < 3 → Celled ch k xs out (3 * s + j)
       → c ≡ componentAt (systemOf ch s) j
       → Celled ch k xs (set out (s * COMPONENTS + c) (getD xs (3 * s + j) 0)) (3 * s + j + 1)
-  celled-at out s j c h l d e =
+  celled-at out s j c known h l d e =
       let row : (3 * s + j) / 3 ≡ s = omega arith in
       let place : (3 * s + j) % 3 ≡ j = omega arith in
       subst (λ (x : ℕ). Celled ch k xs (set out (x * COMPONENTS + c) (getD xs (3 * s + j) 0)) (3 * s + j + 1)) row
       (celled-next out (3 * s + j) c d (omega arith)
-      (e ∙ sym (ap₂ (λ (x y : ℕ). componentAt (systemOf ch x) y) row place)))
+      (e ∙ sym (ap₂ (λ (x y : ℕ). componentAt (systemOf ch x) y) row place))
+      (subst (λ (x : ℕ). Candidate (systemOf ch x)) (sym row) known))
 
-  pub celled-row : (out : List ℕ) (s c₀ c₁ c₂ : ℕ) → s < k → Celled ch k xs out (3 * s)
+  pub celled-row : (out : List ℕ) (s c₀ c₁ c₂ : ℕ) → s < k → c₀ < COMPONENTS → Celled ch k xs out (3 * s)
       → c₀ ≡ componentAt (systemOf ch s) 0 → c₁ ≡ componentAt (systemOf ch s) 1 → c₂ ≡ componentAt (systemOf ch s) 2
       → Celled ch k xs
       (set (set (set out (s * COMPONENTS + c₀) (getD xs (3 * s) 0)) (s * COMPONENTS + c₁) (getD xs (3 * s + 1) 0))
       (s * COMPONENTS + c₂) (getD xs (3 * s + 2) 0)) (3 * (s + 1))
-  celled-row out s c₀ c₁ c₂ h d e₀ e₁ e₂ =
+  celled-row out s c₀ c₁ c₂ h low d e₀ e₁ e₂ =
+      let known = first-candidate (systemOf ch s) (omega (arith, e₀)) in
       let zeroth : 3 * s + 0 ≡ 3 * s = omega arith in
       let next : 3 * s + 0 + 1 ≡ 3 * s + 1 = omega arith in
       let after : 3 * s + 1 + 1 ≡ 3 * s + 2 = omega arith in
       let end : 3 * s + 2 + 1 ≡ 3 * (s + 1) = omega arith in
-      let first = celled-at out s 0 c₀ h (omega arith) (subst (Celled ch k xs out) (sym zeroth) d) e₀ in
+      let first = celled-at out s 0 c₀ known h (omega arith) (subst (Celled ch k xs out) (sym zeroth) d) e₀ in
       let moved = ap₂ (λ (x y : ℕ). Celled ch k xs (set out (s * COMPONENTS + c₀) (getD xs x 0)) y) zeroth next in
-      let second = celled-at _ s 1 c₁ h (omega arith) (subst (λ (T : Type 0). T) moved first) e₁ in
-      let third = celled-at _ s 2 c₂ h (omega arith) (subst (Celled ch k xs _) after second) e₂ in
+      let second = celled-at _ s 1 c₁ known h (omega arith) (subst (λ (T : Type 0). T) moved first) e₁ in
+      let third = celled-at _ s 2 c₂ known h (omega arith) (subst (Celled ch k xs _) after second) e₂ in
       subst (Celled ch k xs _) end third
+
+  -- a row whose system is no candidate has no cell
+  pub celled-over : (out : List ℕ) (s c₀ : ℕ) → s < k → COMPONENTS ≤ c₀ → Celled ch k xs out (3 * s)
+      → c₀ ≡ componentAt (systemOf ch s) 0 → Celled ch k xs out (3 * (s + 1))
+  celled-over out s c₀ h high d e =
+      record {
+        most = omega arith;
+        long = d .long;
+        put = λ i l b t. at i l b t (ltb (recordOf ch i) (3 * s)) refl;
+        rest = d .rest;
+      }
+    where
+      none : Candidate (systemOf ch s) → ⊥
+      none known = let l = component-lt (systemOf ch s) known 0 (omega arith) in omega arith
+
+      at : (i : ℕ) → i < CELLS → heldOf ch k (i / COMPONENTS) (i % COMPONENTS) ≡ true → recordOf ch i < 3 * (s + 1)
+          → (b : Bool) → ltb (recordOf ch i) (3 * s) ≡ b → getD out i 0 ≡ getD xs (recordOf ch i) 0
+      at i l b t true q = d .put i l b (ltb-true (recordOf ch i) (3 * s) q)
+      at i l b t false q =
+          let below = ltb-false (recordOf ch i) (3 * s) q in
+          let row : i / COMPONENTS ≡ s = sym (record-row i b .0) ∙ third (recordOf ch i) below t in
+          absurd (none (subst (λ (x : ℕ). Candidate (systemOf ch x)) row (held-known i b)))
+        where
+          third : (r : ℕ) → 3 * s ≤ r → r < 3 * (s + 1) → r / 3 ≡ s
+          third r below t = omega arith
 
   pub celled-all : (out : List ℕ) (r : ℕ) → Celled ch k xs out r → 3 * k ≤ r → out ≡ cellsOf ch k xs
   unfolding cellsOf
@@ -354,9 +453,9 @@ unfolding allTo
 all-none p r h = let q : r ≡ 0 = omega arith in ap (allTo p) q
 
 module _ (ch : List ℕ) (k count : ℕ) (systems codes : List ℕ) where
-  pub fits-other : (count ≡ 3 * k → ⊥) → fitsOf ch k count systems codes ≡ false
+  pub fits-other : (rows : ℕ) → rows ≡ k → (count ≡ 3 * rows → ⊥) → fitsOf ch k count systems codes ≡ false
   unfolding fitsOf
-  fits-other h = rw (ne-eqb count (3 * k) h)
+  fits-other rows e h = rw (ne-eqb count (3 * k) (λ q. h (q ∙ ap (λ (n : ℕ). 3 * n) (sym e))))
 
   fits-all : count ≡ 3 * k → fitsOf ch k count systems codes ≡ allTo (matchesAt ch k systems codes) count
   unfolding fitsOf
@@ -376,8 +475,12 @@ module _ (ch : List ℕ) (k count : ℕ) (systems codes : List ℕ) where
     pub most : r ≤ 3 * k
     rest : fitsOf ch k count systems codes ≡ allTo (matchesAt ch k systems codes) r
 
-  pub fitting-none : count ≡ 3 * k → Fitting (3 * k)
-  fitting-none h = record { most = omega arith; rest = fits-all h ∙ ap (allTo (matchesAt ch k systems codes)) h }
+  pub fitting-none : (rows : ℕ) → rows ≡ k → count ≡ 3 * rows → Fitting (3 * rows)
+  fitting-none rows e h =
+      record {
+        most = omega arith;
+        rest = fits-all (h ∙ ap (λ (n : ℕ). 3 * n) e) ∙ ap (allTo (matchesAt ch k systems codes)) h;
+      }
 
   -- record r, as the jth of row s
   abbrev recordFits : ℕ → ℕ → ℕ → Bool
@@ -438,16 +541,3 @@ pub match-is : (found system code x expected : ℕ) → x ≡ expected
     → (eqb found system && eqb code x) ≡ (eqb found system && eqb code expected)
 match-is found system code x expected e =
     both-is (eqb found system) (eqb code x) ∙ ap (λ (n : ℕ). (eqb found system && eqb code n)) e
-
--- ---- a proposed split: whether its records fit, and the answer to its cells
-
-module _ (ch : List ℕ) (k : ℕ) (mix : List ℕ) (n1 : ℕ) (p : Split) (b : Bool)
-    (e : b ≡ fitsOf ch k (p .count) (p .systems) (p .codes)) where
-  pub split-misfit : not b ≡ true → Refused 7 0 ≡ splitBy ch k mix n1 p
-  split-misfit t = misfit ch k mix n1 p (sym e ∙ not-true b t)
-
-  pub split-fitting : (cells : List ℕ) (r : Answer) (y : Proposed) → Proposal mix ch k n1 → not b ≡ false
-      → cells ≡ cellsOf ch k (p .amounts)
-      → y ≡ proposedAnswer 500000 ch k mix cells n1 → y ≡ Answered r → r ≡ splitBy ch k mix n1 p
-  split-fitting cells r y h t q z u =
-      answered-is ch k mix n1 500000 cells h y z r u ∙ fitting ch k mix n1 p cells (sym e ∙ not-false b t) q

@@ -1,30 +1,34 @@
--- `rating::records::split_of` meets its contract. Assumes nothing.
-use Prim.Native.Nat.{_-_}
+-- `split_records::split_of` meets its contract. Assumes nothing.
+use Prim.Native.Nat.{ℕ, _*_, _-_, min}
+use mathlib.Core.Path.{ap}
 use native.Mathlib.Omega.{arith}
 use borrow.Author.Needs.{needs}
-use Rattle.rating.proofs.RecordCases.{Recorded, recorded-none, recorded-next, recorded-all}
-use Rattle.rating.proofs.records.split_of.Statement.{statement}
-use Rattle.rating.proofs.records.split_of.Tie as tie
+use Rattle.outcome.specs.Records.{ROWS}
+use Rattle.split_records.proofs.RecordCases.{Recorded, recorded-none, recorded-next, recorded-all}
+use Rattle.split_records.proofs.split_of.Statement.{statement}
+use Rattle.split_records.proofs.split_of.Tie as tie
 
 abbrev Inv-loop : tie.InvT-loop
 Inv-loop count systems cells named₀ codes₀ amounts₀ last r₀ named codes amounts r =
-    Recorded systems count cells named codes amounts r
+    Recorded systems (min count ROWS) cells named codes amounts r
 
 abbrev μ-loop : tie.MeasureT-loop
 μ-loop count systems cells named₀ codes₀ amounts₀ last r₀ named codes amounts r = last - r
 
-records-of-requires : tie.Need-records-of-requires Inv-loop μ-loop
-records-of-requires c κs = c .pre .most
+lesser-requires : tie.Need-lesser-requires Inv-loop μ-loop
+lesser-requires c κs = search needs
+
+mul-last : tie.Need-mul-last Inv-loop μ-loop
+mul-last c = omega (arith, c .lesser .ensures)
 
 loop-holds : tie.Need-loop-holds Inv-loop μ-loop
 loop-holds c = recorded-none _ _ _
 
 array-read-system : tie.Need-array-read-system Inv-loop μ-loop
-array-read-system c = omega (arith, c .before .before .records-of .ensures .1)
+array-read-system c = omega (arith, c .before .before .lesser .ensures)
 
 component-requires : tie.Need-component-requires Inv-loop μ-loop
-component-requires c κs =
-    (c .before .before .before .pre .known _ (omega (arith, c .before .before .records-of .ensures .0)), omega arith)
+component-requires c κs = omega arith
 
 array-write-named : tie.Need-array-write-named Inv-loop μ-loop
 array-write-named c = search needs
@@ -61,16 +65,15 @@ loop-less c = search needs
 
 loop-again : tie.Need-loop-again Inv-loop μ-loop
 loop-again c =
-    recorded-next _ _ _ _ _ _ _ _ (c .before .before .before .before .records-of .ensures) _ _
+    let l = c .before .before .before .before .lesser .ensures in
+    recorded-next _ _ _ _ _ _ _ _ (ap (λ (n : ℕ). 3 * n) l) (omega arith) _ _
     (c .before .before .before .loop .inv) (c .before .before .loop-test .taken) (c .before .component .ensures .0)
     (c .code-of .ensures)
 
-mul-t32 : tie.Need-mul-t32 Inv-loop μ-loop
-mul-t32 c = search needs
-
 returns : tie.Need-returns Inv-loop μ-loop
 returns c =
-    recorded-all _ _ _ _ _ _ _ _ (c .before .before .records-of .ensures) (c .before .loop .inv) (c .loop-test .left)
+    recorded-all _ _ _ _ _ _ _ _ (ap (λ (n : ℕ). 3 * n) (c .before .before .lesser .ensures)) (omega arith)
+    (c .before .loop .inv) (c .loop-test .left)
 
 pub split-of-spec : {M : Type 1} → statement M
 split-of-spec =
@@ -78,7 +81,8 @@ split-of-spec =
     (tie.spec
     Inv-loop
     μ-loop
-    records-of-requires
+    lesser-requires
+    mul-last
     loop-holds
     array-read-system
     component-requires
@@ -94,5 +98,4 @@ split-of-spec =
     add-r
     loop-less
     loop-again
-    mul-t32
     returns)

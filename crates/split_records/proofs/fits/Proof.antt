@@ -1,55 +1,56 @@
--- `rating::records::fits` meets its contract. Assumes nothing.
+-- `split_records::fits` meets its contract. Assumes nothing.
 use native.Mathlib.Omega.{arith}
-use Prim.Native.Nat.{_*_}
+use Prim.Native.Nat.{_*_, min}
 use mathlib.Core.Path.{sym}
 use borrow.Author.Needs.{needs}
-use Rattle.rating.proofs.RecordCases.{Fitting, fits-other, fitting-none, row-fails, row-fits, fitting-all}
-use Rattle.rating.proofs.records.fits.Statement.{statement}
-use Rattle.rating.proofs.records.fits.Tie as tie
+use Rattle.outcome.specs.Records.{ROWS}
+use Rattle.split_records.proofs.RecordCases.{Fitting, fits-other, fitting-none, row-fails, row-fits, fitting-all}
+use Rattle.split_records.proofs.fits.Statement.{statement}
+use Rattle.split_records.proofs.fits.Tie as tie
 
 abbrev Inv-loop : tie.InvT-loop
-Inv-loop count records systems named codes s₀ s = Fitting systems count records named codes (3 * s)
+Inv-loop count records systems named codes rows s₀ s = Fitting systems (min count ROWS) records named codes (3 * s)
 
 abbrev μ-loop : tie.MeasureT-loop
-μ-loop count records systems named codes s₀ s = s
+μ-loop count records systems named codes rows s₀ s = s
+
+lesser-requires : tie.Need-lesser-requires Inv-loop μ-loop
+lesser-requires c κs = search needs
 
 mul-if1 : tie.Need-mul-if1 Inv-loop μ-loop
-mul-if1 c = omega (arith, c .pre .1)
+mul-if1 c = omega (arith, c .lesser .ensures)
 
 returns : tie.Need-returns Inv-loop μ-loop
-returns c = sym (fits-other _ _ _ _ _ (c .if1 .taken))
+returns c = sym (fits-other _ _ _ _ _ _ (c .before .lesser .ensures) (c .if1 .taken))
 
 loop-holds : tie.Need-loop-holds Inv-loop μ-loop
-loop-holds c = fitting-none _ _ _ _ _ (c .if1 .left)
+loop-holds c = fitting-none _ _ _ _ _ _ (c .before .lesser .ensures) (c .if1 .left)
 
 sub-s : tie.Need-sub-s Inv-loop μ-loop
 sub-s c = search needs
 
 array-read-system : tie.Need-array-read-system Inv-loop μ-loop
-array-read-system c = omega (arith, c .before .loop .inv .most, c .before .before .before .pre .1, c .loop-test .taken)
+array-read-system c = omega (arith, c .before .loop .inv .most, c .before .before .before .lesser .ensures, c .loop-test .taken)
 
 mul-r : tie.Need-mul-r Inv-loop μ-loop
-mul-r c = omega (arith, c .before .loop .inv .most, c .before .before .before .pre .1, c .loop-test .taken)
+mul-r c = omega (arith, c .before .loop .inv .most, c .before .before .before .lesser .ensures, c .loop-test .taken)
 
 array-read-matches : tie.Need-array-read-matches Inv-loop μ-loop
-array-read-matches c = omega (arith, c .before .loop .inv .most, c .before .before .before .pre .1, c .loop-test .taken)
+array-read-matches c = omega (arith, c .before .loop .inv .most, c .before .before .before .lesser .ensures, c .loop-test .taken)
 
 array-read-matches-2 : tie.Need-array-read-matches-2 Inv-loop μ-loop
 array-read-matches-2 c =
-    omega (arith, c .before .loop .inv .most, c .before .before .before .pre .1, c .loop-test .taken)
+    omega (arith, c .before .loop .inv .most, c .before .before .before .lesser .ensures, c .loop-test .taken)
 
 matches-requires : tie.Need-matches-requires Inv-loop μ-loop
-matches-requires c κs = (
-  c .before .before .before .pre .0 .known _ (omega (arith, c .before .loop .inv .most, c .loop-test .taken)),
-  omega arith,
-)
+matches-requires c κs = omega arith
 
 add-matches : tie.Need-add-matches Inv-loop μ-loop
 add-matches c =
     omega (
       arith,
       c .before .before .loop .inv .most,
-      c .before .before .before .before .pre .1,
+      c .before .before .before .before .lesser .ensures,
       c .before .loop-test .taken,
     )
 
@@ -58,7 +59,7 @@ array-read-matches-3 c =
     omega (
       arith,
       c .before .before .loop .inv .most,
-      c .before .before .before .before .pre .1,
+      c .before .before .before .before .lesser .ensures,
       c .before .loop-test .taken,
     )
 
@@ -67,7 +68,7 @@ add-matches-2 c =
     omega (
       arith,
       c .before .before .loop .inv .most,
-      c .before .before .before .before .pre .1,
+      c .before .before .before .before .lesser .ensures,
       c .before .loop-test .taken,
     )
 
@@ -76,23 +77,19 @@ array-read-matches-4 c =
     omega (
       arith,
       c .before .before .loop .inv .most,
-      c .before .before .before .before .pre .1,
+      c .before .before .before .before .lesser .ensures,
       c .before .loop-test .taken,
     )
 
 matches-requires-2 : tie.Need-matches-requires-2 Inv-loop μ-loop
-matches-requires-2 c κs = (
-  c .before .before .before .before .pre .0 .known _
-      (omega (arith, c .before .before .loop .inv .most, c .before .loop-test .taken)),
-  omega arith,
-)
+matches-requires-2 c κs = omega arith
 
 add-matches-3 : tie.Need-add-matches-3 Inv-loop μ-loop
 add-matches-3 c =
     omega (
       arith,
       c .before .before .before .loop .inv .most,
-      c .before .before .before .before .before .pre .1,
+      c .before .before .before .before .before .lesser .ensures,
       c .before .before .loop-test .taken,
     )
 
@@ -101,7 +98,7 @@ array-read-matches-5 c =
     omega (
       arith,
       c .before .before .before .loop .inv .most,
-      c .before .before .before .before .before .pre .1,
+      c .before .before .before .before .before .lesser .ensures,
       c .before .before .loop-test .taken,
     )
 
@@ -110,7 +107,7 @@ add-matches-4 c =
     omega (
       arith,
       c .before .before .before .loop .inv .most,
-      c .before .before .before .before .before .pre .1,
+      c .before .before .before .before .before .lesser .ensures,
       c .before .before .loop-test .taken,
     )
 
@@ -119,16 +116,12 @@ array-read-matches-6 c =
     omega (
       arith,
       c .before .before .before .loop .inv .most,
-      c .before .before .before .before .before .pre .1,
+      c .before .before .before .before .before .lesser .ensures,
       c .before .before .loop-test .taken,
     )
 
 matches-requires-3 : tie.Need-matches-requires-3 Inv-loop μ-loop
-matches-requires-3 c κs = (
-  c .before .before .before .before .before .pre .0 .known _
-      (omega (arith, c .before .before .before .loop .inv .most, c .before .before .loop-test .taken)),
-  omega arith,
-)
+matches-requires-3 c κs = omega arith
 
 returns-2 : tie.Need-returns-2 Inv-loop μ-loop
 returns-2 c =
@@ -158,6 +151,7 @@ fits-spec =
     (tie.spec
     Inv-loop
     μ-loop
+    lesser-requires
     mul-if1
     returns
     loop-holds

@@ -1,10 +1,10 @@
--- `rating::records::matches` meets its contract. Assumes nothing.
+-- `split_records::matches` meets its contract. Assumes nothing.
 use mathlib.Core.Path.{ap, _∙_}
 use Rattle.split.specs.Split.{componentAt}
 use Rattle.outcome.specs.Records.{splitCode}
-use Rattle.rating.proofs.RecordCases.{match-is}
-use Rattle.rating.proofs.records.matches.Statement.{statement}
-use Rattle.rating.proofs.records.matches.Tie as tie
+use Rattle.split_records.proofs.RecordCases.{match-is}
+use Rattle.split_records.proofs.matches.Statement.{statement}
+use Rattle.split_records.proofs.matches.Tie as tie
 
 component-requires : tie.Need-component-requires
 component-requires c κs = c .pre

@@ -1,9 +1,9 @@
--- `rating::records::code_of` meets its contract. Assumes nothing.
+-- `split_records::code_of` meets its contract. Assumes nothing.
 use Rattle.outcome.specs.Records.{splitCode}
-use Rattle.rating.proofs.RecordCases.{code-is}
+use Rattle.split_records.proofs.RecordCases.{code-is}
 use borrow.Author.Needs.{needs}
-use Rattle.rating.proofs.records.code_of.Statement.{statement}
-use Rattle.rating.proofs.records.code_of.Tie as tie
+use Rattle.split_records.proofs.code_of.Statement.{statement}
+use Rattle.split_records.proofs.code_of.Tie as tie
 
 mul-result : tie.Need-mul-result
 mul-result c = search needs

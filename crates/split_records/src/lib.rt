@@ -1,0 +1,148 @@
+// The records of a split: whether they are those of the chosen systems, their amounts as cells, and cells as records.
+// The definitions are in crate `outcome`, Records, and in crate `split`, Split. No public function has a `requires`: of
+// more systems than a split has room for, the first count.
+ghost use mathlib.Core.Bool.{_&&_};
+ghost use mathlib.Core.Path.{_≡_};
+ghost use Prim.Native.Nat.{_<_, _≤_, min, max};
+ghost use lib.Dec.{eqb};
+ghost use Rattle.systems.specs.Systems.{COMPONENTS};
+ghost use Rattle.split.specs.Split.{componentAt, cellsOf};
+ghost use Rattle.outcome.specs.Records.{ROWS, splitCode, fitsOf, recordsOf};
+use sheet::RECORDS;
+use sheet::Split;
+use split::CELLS;
+use systems::COMPONENTS;
+use systems::SYSTEMS;
+
+// The most systems that a split has room for.
+const ROWS: usize = RECORDS / 3;
+
+// The components' codes in a split, a hexadecimal digit each, from the right: methane 1, ethane 2, propane 3, butane
+// 14, hydrogen 15; 0 for COMPONENTS.
+const CODES: u64 = 0xFE321;
+
+fn lesser(a: usize, b: usize) -> usize
+    ensures { λ r. ⌜ r ≡ min a b ⌝ }
+{
+    if a < b { a } else { b }
+}
+
+fn greater(a: usize, b: usize) -> usize
+    ensures { λ r. ⌜ r ≡ max a b ⌝ }
+{
+    if a < b { b } else { a }
+}
+
+// The component of a system's jth record: its members rise in the records, whatever their order in the formula. A
+// number that is no candidate has COMPONENTS.
+fn component(system: u8, j: usize) -> usize
+    requires { ⌜ j < 3 ⌝ }
+    ensures { λ r. ⌜ (r ≡ componentAt system j) × (r ≤ COMPONENTS) ⌝ }
+{
+    let a = systems::member(system, 0);
+    let b = systems::member(system, 1);
+    let c = systems::member(system, 2);
+    let low = lesser(a, b);
+    let high = greater(a, b);
+    if j == 0 {
+        return lesser(low, c);
+    }
+    if j == 1 {
+        return greater(low, lesser(high, c));
+    }
+    greater(high, c)
+}
+
+// A component's code in a split.
+fn code_of(c: usize) -> u8
+    requires { ⌜ c ≤ COMPONENTS ⌝ }
+    ensures { λ r. ⌜ r ≡ splitCode c ⌝ }
+{
+    ((CODES >> (c * 4)) % 16) as u8
+}
+
+// The split of the cells, as records.
+pub fn split_of(systems: [u8; SYSTEMS], count: usize, cells: [u32; CELLS]) -> Split
+    ensures { λ r. ⌜ r ≡ recordsOf systems (min count ROWS) cells ⌝ }
+{
+    let mut named = [0u8; RECORDS];
+    let mut codes = [0u8; RECORDS];
+    let mut amounts = [0u32; RECORDS];
+    let last = 3 * lesser(count, ROWS);
+    let mut r = 0;
+    while r < last {
+        let s = r / 3;
+        let j = r % 3;
+        let system = systems[s];
+        let c = component(system, j);
+        named[r] = system;
+        codes[r] = code_of(c);
+        amounts[r] = cells[s * COMPONENTS + c];
+        r += 1;
+    }
+    Split {
+        count: last,
+        systems: named,
+        codes,
+        amounts,
+    }
+}
+
+// The records' amounts in their cells, system by system.
+pub fn cells_of(systems: [u8; SYSTEMS], count: usize, amounts: [u32; RECORDS]) -> [u32; CELLS]
+    ensures { λ r. ⌜ r ≡ cellsOf systems (min count ROWS) amounts ⌝ }
+{
+    let mut out = [0u32; CELLS];
+    let rows = lesser(count, ROWS);
+    let mut s = 0;
+    while s < rows {
+        let system = systems[s];
+        let first = component(system, 0);
+        if first < COMPONENTS {
+            let i = s * COMPONENTS;
+            let r = 3 * s;
+            out[i + first] = amounts[r];
+            out[i + component(system, 1)] = amounts[r + 1];
+            out[i + component(system, 2)] = amounts[r + 2];
+        }
+        s += 1;
+    }
+    out
+}
+
+// Whether a record is of the system and of the component of its jth record.
+fn matches(system: u8, j: usize, named: u8, code: u8) -> bool
+    requires { ⌜ j < 3 ⌝ }
+    ensures { λ x. ⌜ x ≡ (eqb named system && eqb code (splitCode (componentAt system j))) ⌝ }
+{
+    (named == system) & (code == code_of(component(system, j)))
+}
+
+// Whether the records, so many of each system and code, are those of the chosen systems.
+pub fn fits(
+    systems: [u8; SYSTEMS],
+    count: usize,
+    records: usize,
+    named: [u8; RECORDS],
+    codes: [u8; RECORDS],
+) -> bool
+    ensures { λ r. ⌜ r ≡ fitsOf systems (min count ROWS) records named codes ⌝ }
+{
+    let rows = lesser(count, ROWS);
+    if records != 3 * rows {
+        return false;
+    }
+    let mut s = rows;
+    while 0 < s {
+        s -= 1;
+        let system = systems[s];
+        let r = 3 * s;
+        let first = matches(system, 0, named[r], codes[r]);
+        let second = matches(system, 1, named[r + 1], codes[r + 1]);
+        let third = matches(system, 2, named[r + 2], codes[r + 2]);
+        if !(first & second & third) {
+            return false;
+        }
+    }
+    true
+}
