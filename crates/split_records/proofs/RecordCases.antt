@@ -28,10 +28,10 @@ use Rattle.outcome.specs.Records.{ROWS, splitCode, systemAt, codeAt, systemsOf,
 -- ---- a system's members, rising
 
 abbrev pub lowest : ℕ → ℕ → ℕ → ℕ
-lowest a b c = min (min a b) c
+lowest a b c = min a b
 
 abbrev pub middle : ℕ → ℕ → ℕ → ℕ
-middle a b c = max (min a b) (min (max a b) c)
+middle a b c = min (max a b) c
 
 abbrev pub highest : ℕ → ℕ → ℕ → ℕ
 highest a b c = max (max a b) c

@@ -33,22 +33,21 @@ fn greater(a: usize, b: usize) -> usize
     if a < b { b } else { a }
 }
 
-// The component of a system's jth record: its members rise in the records, whatever their order in the formula. A
-// number that is no candidate has COMPONENTS.
+// The component of a system's jth record: its members rise in the records, whatever their order in the formula. The
+// third is never the least. A number that is no candidate has COMPONENTS.
 fn component(system: u8, j: usize) -> usize
     requires { ⌜ j < 3 ⌝ }
     ensures { λ r. ⌜ (r ≡ componentAt system j) × (r ≤ COMPONENTS) ⌝ }
 {
     let a = systems::member(system, 0);
     let b = systems::member(system, 1);
-    let c = systems::member(system, 2);
-    let low = lesser(a, b);
-    let high = greater(a, b);
     if j == 0 {
-        return lesser(low, c);
+        return lesser(a, b);
     }
+    let c = systems::member(system, 2);
+    let high = greater(a, b);
     if j == 1 {
-        return greater(low, lesser(high, c));
+        return lesser(high, c);
     }
     greater(high, c)
 }
