@@ -60,11 +60,11 @@ component-le system j = first-le _ COMPONENTS 0
 
 pub component-is : (f : ℕ → ℕ → ℕ → ℕ) (j : ℕ) → T (everyTo (taken f j) NUMBERS)
     → f COMPONENTS COMPONENTS COMPONENTS ≡ COMPONENTS
-    → (system i r : ℕ) → r ≡ f (memberOf system 0) (memberOf system 1) (memberOf system 2) → i ≡ j
-    → (r ≡ componentAt system i) × (r ≤ COMPONENTS)
-component-is f j t none system i r e same =
-    let is : r ≡ componentAt system i = e ∙ go (ltb system NUMBERS) refl ∙ ap (componentAt system) (sym same) in
-    (is, rw is (component-le system i))
+    → (system r : ℕ) → r ≡ f (memberOf system 0) (memberOf system 1) (memberOf system 2)
+    → (r ≡ componentAt system j) × (r ≤ COMPONENTS)
+component-is f j t none system r e =
+    let is : r ≡ componentAt system j = e ∙ go (ltb system NUMBERS) refl in
+    (is, rw is (component-le system j))
   where
     go : (b : Bool) → ltb system NUMBERS ≡ b
         → f (memberOf system 0) (memberOf system 1) (memberOf system 2) ≡ componentAt system j
@@ -482,12 +482,12 @@ module _ (ch : List ℕ) (k count : ℕ) (systems codes : List ℕ) where
         rest = fits-all (h ∙ ap (λ (n : ℕ). 3 * n) e) ∙ ap (allTo (matchesAt ch k systems codes)) h;
       }
 
-  -- record r, as the jth of row s
+  -- record r, as one of component c in row s
   abbrev recordFits : ℕ → ℕ → ℕ → Bool
-  recordFits r s j =
-      (eqb (getD systems r 0) (systemOf ch s) && eqb (getD codes r 0) (splitCode (componentAt (systemOf ch s) j)))
+  recordFits r s c = (eqb (getD systems r 0) (systemOf ch s) && eqb (getD codes r 0) (splitCode c))
 
-  record-fits : (s j : ℕ) → s < k → j < 3 → matchesAt ch k systems codes (3 * s + j) ≡ recordFits (3 * s + j) s j
+  record-fits : (s j : ℕ) → s < k → j < 3 → matchesAt ch k systems codes (3 * s + j)
+      ≡ recordFits (3 * s + j) s (componentAt (systemOf ch s) j)
   record-fits s j h l =
       let row : (3 * s + j) / 3 ≡ s = omega arith in
       let place : (3 * s + j) % 3 ≡ j = omega arith in
@@ -496,8 +496,10 @@ module _ (ch : List ℕ) (k count : ℕ) (systems codes : List ℕ) where
       (eqb (getD codes (3 * s + j) 0) (splitCode (componentAt (systemOf ch x) y)))) row place
 
   -- a row's three, of the rows below n the last
-  module _ (n s : ℕ) (f : Fitting (3 * n)) (h : n ≡ s + 1) (x y z : Bool)
-      (e₀ : x ≡ recordFits (3 * s) s 0) (e₁ : y ≡ recordFits (3 * s + 1) s 1) (e₂ : z ≡ recordFits (3 * s + 2) s 2)
+  module _ (n s : ℕ) (f : Fitting (3 * n)) (h : n ≡ s + 1) (x y z : Bool) (c₀ c₁ c₂ : ℕ)
+      (q₀ : c₀ ≡ componentAt (systemOf ch s) 0) (q₁ : c₁ ≡ componentAt (systemOf ch s) 1)
+      (q₂ : c₂ ≡ componentAt (systemOf ch s) 2) (e₀ : x ≡ recordFits (3 * s) s c₀)
+      (e₁ : y ≡ recordFits (3 * s + 1) s c₁) (e₂ : z ≡ recordFits (3 * s + 2) s c₂)
     where
       in-range : s < k
       in-range = omega (arith, f .most)
@@ -510,9 +512,11 @@ module _ (ch : List ℕ) (k count : ℕ) (systems codes : List ℕ) where
           let p₁ : suc (3 * s) ≡ 3 * s + 1 = omega arith in
           let p₂ : suc (suc (3 * s)) ≡ 3 * s + 2 = omega arith in
           let m₀ = ap (matchesAt ch k systems codes) p₀ ∙ record-fits s 0 in-range (omega arith)
-          ∙ ap (λ (r : ℕ). recordFits r s 0) (sym p₀) ∙ sym e₀ in
-          let m₁ = ap (matchesAt ch k systems codes) p₁ ∙ record-fits s 1 in-range (omega arith) ∙ sym e₁ in
-          let m₂ = ap (matchesAt ch k systems codes) p₂ ∙ record-fits s 2 in-range (omega arith) ∙ sym e₂ in
+          ∙ ap₂ (λ (r c : ℕ). recordFits r s c) (sym p₀) (sym q₀) ∙ sym e₀ in
+          let m₁ = ap (matchesAt ch k systems codes) p₁ ∙ record-fits s 1 in-range (omega arith)
+          ∙ ap (recordFits (3 * s + 1) s) (sym q₁) ∙ sym e₁ in
+          let m₂ = ap (matchesAt ch k systems codes) p₂ ∙ record-fits s 2 in-range (omega arith)
+          ∙ ap (recordFits (3 * s + 2) s) (sym q₂) ∙ sym e₂ in
           ap (allTo (matchesAt ch k systems codes)) q ∙ three-last (matchesAt ch k systems codes) (3 * s) x y z m₀ m₁ m₂
 
       pub row-fails : not ((x && y) && z) ≡ true → false ≡ fitsOf ch k count systems codes

@@ -8,6 +8,7 @@ ghost use lib.Dec.{eqb};
 ghost use Rattle.systems.specs.Systems.{COMPONENTS};
 ghost use Rattle.split.specs.Split.{componentAt, cellsOf};
 ghost use Rattle.outcome.specs.Records.{ROWS, splitCode, fitsOf, recordsOf};
+ghost use Rattle.split_records.specs.Inner.Components.{Three};
 use sheet::RECORDS;
 use sheet::Split;
 use split::CELLS;
@@ -33,23 +34,45 @@ fn greater(a: usize, b: usize) -> usize
     if a < b { b } else { a }
 }
 
-// The component of a system's jth record: its members rise in the records, whatever their order in the formula. The
-// third is never the least. A number that is no candidate has COMPONENTS.
+// The components of a system's three records.
+struct Components {
+    first: usize,
+    second: usize,
+    third: usize,
+}
+
+// They rise, whatever their order in the formula, whose third is never the least. A number that is no candidate has
+// COMPONENTS three times.
+fn components_of(system: u8) -> Components
+    ensures { λ r. ⌜ Three system (r .first) (r .second) (r .third) ⌝ }
+{
+    let a = systems::member(system, 0);
+    let b = systems::member(system, 1);
+    let c = systems::member(system, 2);
+    let least = lesser(a, b);
+    let high = greater(a, b);
+    let middle = lesser(high, c);
+    let greatest = greater(high, c);
+    Components {
+        first: least,
+        second: middle,
+        third: greatest,
+    }
+}
+
+// The component of a system's jth record.
 fn component(system: u8, j: usize) -> usize
     requires { ⌜ j < 3 ⌝ }
     ensures { λ r. ⌜ (r ≡ componentAt system j) × (r ≤ COMPONENTS) ⌝ }
 {
-    let a = systems::member(system, 0);
-    let b = systems::member(system, 1);
+    let held = components_of(system);
     if j == 0 {
-        return lesser(a, b);
+        return held.first;
     }
-    let c = systems::member(system, 2);
-    let high = greater(a, b);
     if j == 1 {
-        return lesser(high, c);
+        return held.second;
     }
-    greater(high, c)
+    held.third
 }
 
 // A component's code in a split.
@@ -96,25 +119,26 @@ pub fn cells_of(systems: [u8; SYSTEMS], count: usize, amounts: [u32; RECORDS]) -
     let mut s = 0;
     while s < rows {
         let system = systems[s];
-        let first = component(system, 0);
+        let held = components_of(system);
+        let first = held.first;
         if first < COMPONENTS {
             let i = s * COMPONENTS;
             let r = 3 * s;
             out[i + first] = amounts[r];
-            out[i + component(system, 1)] = amounts[r + 1];
-            out[i + component(system, 2)] = amounts[r + 2];
+            out[i + held.second] = amounts[r + 1];
+            out[i + held.third] = amounts[r + 2];
         }
         s += 1;
     }
     out
 }
 
-// Whether a record is of the system and of the component of its jth record.
-fn matches(system: u8, j: usize, named: u8, code: u8) -> bool
-    requires { ⌜ j < 3 ⌝ }
-    ensures { λ x. ⌜ x ≡ (eqb named system && eqb code (splitCode (componentAt system j))) ⌝ }
+// Whether a record is of the system and of component c.
+fn matches(system: u8, c: usize, named: u8, code: u8) -> bool
+    requires { ⌜ c ≤ COMPONENTS ⌝ }
+    ensures { λ x. ⌜ x ≡ (eqb named system && eqb code (splitCode c)) ⌝ }
 {
-    (named == system) & (code == code_of(component(system, j)))
+    (named == system) & (code == code_of(c))
 }
 
 // Whether the records, so many of each system and code, are those of the chosen systems.
@@ -135,10 +159,11 @@ pub fn fits(
     while 0 < s {
         s -= 1;
         let system = systems[s];
+        let held = components_of(system);
         let r = 3 * s;
-        let first = matches(system, 0, named[r], codes[r]);
-        let second = matches(system, 1, named[r + 1], codes[r + 1]);
-        let third = matches(system, 2, named[r + 2], codes[r + 2]);
+        let first = matches(system, held.first, named[r], codes[r]);
+        let second = matches(system, held.second, named[r + 1], codes[r + 1]);
+        let third = matches(system, held.third, named[r + 2], codes[r + 2]);
         if !(first & second & third) {
             return false;
         }

@@ -23,8 +23,8 @@ loop-holds c = celled-none _ _ _ (omega arith)
 array-read-system : tie.Need-array-read-system Inv-loop μ-loop
 array-read-system c = search needs
 
-component-requires : tie.Need-component-requires Inv-loop μ-loop
-component-requires c κs = search needs
+components-of-requires : tie.Need-components-of-requires Inv-loop μ-loop
+components-of-requires c κs = search needs
 
 mul-i : tie.Need-mul-i Inv-loop μ-loop
 mul-i c = search needs
@@ -56,9 +56,6 @@ mul-out-3 c = search needs
 array-read-out-2 : tie.Need-array-read-out-2 Inv-loop μ-loop
 array-read-out-2 c = search needs
 
-component-requires-2 : tie.Need-component-requires-2 Inv-loop μ-loop
-component-requires-2 c κs = search needs
-
 add-out-3 : tie.Need-add-out-3 Inv-loop μ-loop
 add-out-3 c = search needs
 
@@ -77,9 +74,6 @@ mul-out-5 c = search needs
 array-read-out-3 : tie.Need-array-read-out-3 Inv-loop μ-loop
 array-read-out-3 c = search needs
 
-component-requires-3 : tie.Need-component-requires-3 Inv-loop μ-loop
-component-requires-3 c κs = search needs
-
 add-out-5 : tie.Need-add-out-5 Inv-loop μ-loop
 add-out-5 c = search needs
 
@@ -97,14 +91,16 @@ loop-less c = search needs
 
 loop-again : tie.Need-loop-again Inv-loop μ-loop
 loop-again c =
-    let f = c .before .component .ensures .0 in
+    let e = c .before .components-of .ensures in
     let t = c .before .before .loop-test .taken in
     let l = c .before .before .before in
     let n = l .before .lesser .ensures in
     ⊎-elim
-    (λ w. rw (w .3) (celled-row _ _ _ (omega arith) _ _ _ _ _ (omega (arith, t, n)) (w .0 .taken) (l .loop .inv) f
-    (w .1 .ensures .0) (w .2 .ensures .0)))
-    (λ w. rw (w .1) (celled-over _ _ _ (omega arith) _ _ _ (omega (arith, t, n)) (w .0 .left) (l .loop .inv) f))
+    (λ w. rw (w .3)
+    (celled-row _ _ _ (omega arith) _ _ _ _ _ (omega (arith, t, n)) (w .0 .taken) (l .loop .inv)
+    (e .first-is) (e .second-is) (e .third-is)))
+    (λ w. rw (w .1)
+    (celled-over _ _ _ (omega arith) _ _ _ (omega (arith, t, n)) (w .0 .left) (l .loop .inv) (e .first-is)))
     (c .if1 .came)
 
 returns : tie.Need-returns Inv-loop μ-loop
@@ -121,7 +117,7 @@ cells-of-spec =
     lesser-requires
     loop-holds
     array-read-system
-    component-requires
+    components-of-requires
     mul-i
     mul-r
     mul-out
@@ -132,14 +128,12 @@ cells-of-spec =
     add-out-2
     mul-out-3
     array-read-out-2
-    component-requires-2
     add-out-3
     mul-out-4
     array-write-out-2
     add-out-4
     mul-out-5
     array-read-out-3
-    component-requires-3
     add-out-5
     mul-out-6
     array-write-out-3

@@ -1,6 +1,6 @@
 -- `split_records::fits` meets its contract. Assumes nothing.
 use native.Mathlib.Omega.{arith}
-use Prim.Native.Nat.{_*_, min}
+use Prim.Native.Nat.{_*_, _≤_, min}
 use mathlib.Core.Path.{sym}
 use borrow.Author.Needs.{needs}
 use Rattle.outcome.specs.Records.{ROWS}
@@ -32,114 +32,78 @@ sub-s c = search needs
 array-read-system : tie.Need-array-read-system Inv-loop μ-loop
 array-read-system c = omega (arith, c .before .loop .inv .most, c .before .before .before .lesser .ensures, c .loop-test .taken)
 
+components-of-requires : tie.Need-components-of-requires Inv-loop μ-loop
+components-of-requires c κs = search needs
+
+-- the rows that there is room for
+room : (b : tie.After-components-of Inv-loop μ-loop) → b .before .before .loop .s ≤ ROWS
+room b = omega (arith, b .before .before .loop .inv .most, b .before .before .before .before .lesser .ensures)
+
 mul-r : tie.Need-mul-r Inv-loop μ-loop
-mul-r c = omega (arith, c .before .loop .inv .most, c .before .before .before .lesser .ensures, c .loop-test .taken)
+mul-r c = omega (arith, room c)
 
 array-read-matches : tie.Need-array-read-matches Inv-loop μ-loop
-array-read-matches c = omega (arith, c .before .loop .inv .most, c .before .before .before .lesser .ensures, c .loop-test .taken)
+array-read-matches c = omega (arith, room c)
 
 array-read-matches-2 : tie.Need-array-read-matches-2 Inv-loop μ-loop
-array-read-matches-2 c =
-    omega (arith, c .before .loop .inv .most, c .before .before .before .lesser .ensures, c .loop-test .taken)
+array-read-matches-2 c = omega (arith, room c)
 
 matches-requires : tie.Need-matches-requires Inv-loop μ-loop
-matches-requires c κs = omega arith
+matches-requires c κs = c .components-of .ensures .first-most
 
 add-matches : tie.Need-add-matches Inv-loop μ-loop
-add-matches c =
-    omega (
-      arith,
-      c .before .before .loop .inv .most,
-      c .before .before .before .before .lesser .ensures,
-      c .before .loop-test .taken,
-    )
+add-matches c = omega (arith, room (c .before))
 
 array-read-matches-3 : tie.Need-array-read-matches-3 Inv-loop μ-loop
-array-read-matches-3 c =
-    omega (
-      arith,
-      c .before .before .loop .inv .most,
-      c .before .before .before .before .lesser .ensures,
-      c .before .loop-test .taken,
-    )
+array-read-matches-3 c = omega (arith, room (c .before))
 
 add-matches-2 : tie.Need-add-matches-2 Inv-loop μ-loop
-add-matches-2 c =
-    omega (
-      arith,
-      c .before .before .loop .inv .most,
-      c .before .before .before .before .lesser .ensures,
-      c .before .loop-test .taken,
-    )
+add-matches-2 c = omega (arith, room (c .before))
 
 array-read-matches-4 : tie.Need-array-read-matches-4 Inv-loop μ-loop
-array-read-matches-4 c =
-    omega (
-      arith,
-      c .before .before .loop .inv .most,
-      c .before .before .before .before .lesser .ensures,
-      c .before .loop-test .taken,
-    )
+array-read-matches-4 c = omega (arith, room (c .before))
 
 matches-requires-2 : tie.Need-matches-requires-2 Inv-loop μ-loop
-matches-requires-2 c κs = omega arith
+matches-requires-2 c κs = c .before .components-of .ensures .second-most
 
 add-matches-3 : tie.Need-add-matches-3 Inv-loop μ-loop
-add-matches-3 c =
-    omega (
-      arith,
-      c .before .before .before .loop .inv .most,
-      c .before .before .before .before .before .lesser .ensures,
-      c .before .before .loop-test .taken,
-    )
+add-matches-3 c = omega (arith, room (c .before .before))
 
 array-read-matches-5 : tie.Need-array-read-matches-5 Inv-loop μ-loop
-array-read-matches-5 c =
-    omega (
-      arith,
-      c .before .before .before .loop .inv .most,
-      c .before .before .before .before .before .lesser .ensures,
-      c .before .before .loop-test .taken,
-    )
+array-read-matches-5 c = omega (arith, room (c .before .before))
 
 add-matches-4 : tie.Need-add-matches-4 Inv-loop μ-loop
-add-matches-4 c =
-    omega (
-      arith,
-      c .before .before .before .loop .inv .most,
-      c .before .before .before .before .before .lesser .ensures,
-      c .before .before .loop-test .taken,
-    )
+add-matches-4 c = omega (arith, room (c .before .before))
 
 array-read-matches-6 : tie.Need-array-read-matches-6 Inv-loop μ-loop
-array-read-matches-6 c =
-    omega (
-      arith,
-      c .before .before .before .loop .inv .most,
-      c .before .before .before .before .before .lesser .ensures,
-      c .before .before .loop-test .taken,
-    )
+array-read-matches-6 c = omega (arith, room (c .before .before))
 
 matches-requires-3 : tie.Need-matches-requires-3 Inv-loop μ-loop
-matches-requires-3 c κs = omega arith
+matches-requires-3 c κs = c .before .before .components-of .ensures .third-most
 
 returns-2 : tie.Need-returns-2 Inv-loop μ-loop
 returns-2 c =
     let m = c .before .before .before in
-    let t = m .before in
+    let h = m .before in
+    let t = h .before in
     let l = t .before .loop in
-    row-fails _ _ _ _ _ (l .s) _ (l .inv) (omega (arith, t .loop-test .taken)) _ _ _
+    let e = h .components-of .ensures in
+    row-fails _ _ _ _ _ (l .s) _ (l .inv) (omega (arith, t .loop-test .taken)) _ _ _ _ _ _
+    (e .first-is) (e .second-is) (e .third-is)
     (m .matches .ensures) (c .before .before .matches2 .ensures) (c .before .matches3 .ensures) (c .if2 .taken)
 
 loop-less : tie.Need-loop-less Inv-loop μ-loop
-loop-less c = omega (arith, c .before .before .before .before .loop-test .taken)
+loop-less c = omega (arith, c .before .before .before .before .before .loop-test .taken)
 
 loop-again : tie.Need-loop-again Inv-loop μ-loop
 loop-again c =
     let m = c .before .before .before in
-    let t = m .before in
+    let h = m .before in
+    let t = h .before in
     let l = t .before .loop in
-    row-fits _ _ _ _ _ (l .s) _ (l .inv) (omega (arith, t .loop-test .taken)) _ _ _
+    let e = h .components-of .ensures in
+    row-fits _ _ _ _ _ (l .s) _ (l .inv) (omega (arith, t .loop-test .taken)) _ _ _ _ _ _
+    (e .first-is) (e .second-is) (e .third-is)
     (m .matches .ensures) (c .before .before .matches2 .ensures) (c .before .matches3 .ensures) (c .if2 .left)
 
 returns-3 : tie.Need-returns-3 Inv-loop μ-loop
@@ -157,6 +121,7 @@ fits-spec =
     loop-holds
     sub-s
     array-read-system
+    components-of-requires
     mul-r
     array-read-matches
     array-read-matches-2
