@@ -124,7 +124,8 @@ unfolding componentAt
 first-candidate system h =
     let m = componentAt system 0 in
     let is = first-holds (λ c. hasOf system c && eqb (rankOf system c) 0) COMPONENTS 0 m refl (omega arith) in
-    has-candidate system m h (to-true (hasOf system m) (and-l (hasOf system m) (eqb (rankOf system m) 0) (of-true _ is)))
+    has-candidate system m h
+    (to-true (hasOf system m) (and-l (hasOf system m) (eqb (rankOf system m) 0) (of-true _ is)))
 
 -- ---- one record
 
@@ -537,11 +538,6 @@ module _ (ch : List ℕ) (k count : ℕ) (systems codes : List ℕ) where
     pub fitting-all : r ≤ 0 → true ≡ fitsOf ch k count systems codes
     fitting-all h = sym (f .rest ∙ all-none (matchesAt ch k systems codes) r h)
 
-both-is : (x y : Bool) → (x && y) ≡ (x && y)
-both-is true y = refl
-both-is false y = refl
-
 pub match-is : (found system code x expected : ℕ) → x ≡ expected
     → (eqb found system && eqb code x) ≡ (eqb found system && eqb code expected)
-match-is found system code x expected e =
-    both-is (eqb found system) (eqb code x) ∙ ap (λ (n : ℕ). (eqb found system && eqb code n)) e
+match-is found system code x expected e = ap (λ (n : ℕ). (eqb found system && eqb code n)) e

@@ -9,7 +9,9 @@ components-of-requires : tie.Need-components-of-requires
 components-of-requires c κs = search needs
 
 returns : tie.Need-returns
-returns c = (rw (c .if1 .taken) (c .before .components-of .ensures .first-is), c .before .components-of .ensures .first-most)
+returns c =
+    let e = c .before .components-of .ensures in
+    (rw (c .if1 .taken) (e .first-is), e .first-most)
 
 returns-2 : tie.Need-returns-2
 returns-2 c =

@@ -30,7 +30,7 @@ sub-s : tie.Need-sub-s Inv-loop μ-loop
 sub-s c = search needs
 
 array-read-system : tie.Need-array-read-system Inv-loop μ-loop
-array-read-system c = omega (arith, c .before .loop .inv .most, c .before .before .before .lesser .ensures, c .loop-test .taken)
+array-read-system c = omega (arith, c .before .loop .inv .most, c .before .before .before .lesser .ensures)
 
 components-of-requires : tie.Need-components-of-requires Inv-loop μ-loop
 components-of-requires c κs = search needs
