@@ -18,7 +18,7 @@ use Rattle.refusal.specs.Keys.{isIn}
 use Rattle.systems.specs.Systems.{COMPONENTS, memberOf, hasOf, candidates}
 use Rattle.systems.specs.Choice.{NUMBERS, hydrocarbonOrder, order, fold, weightedParts, fitnessOf, weightedTo, maskFrom}
 use Rattle.systems.specs.Choice.{maskOf, inMask, presentOf, presentIn, standingOf, candidatesFor, keep, isChosen}
-use Rattle.systems.specs.Choice.{oneIf, countOf, containingOf, scoreOf, betterOf, fittestOf, takeOf, passOf}
+use Rattle.systems.specs.Choice.{oneIf, countContaining, containingOf, scoreOf, betterOf, fittestOf, takeOf, passOf}
 use Rattle.systems.specs.Choice.{marksOf}
 use Rattle.systems.specs.Laws.Table.{none-has, to-true, everyTo, eachTo}
 use Rattle.systems.specs.Laws.Presence.{Every, every-in, mask-lt}
@@ -187,7 +187,8 @@ fresh-all hy mix keys i k h =
 
 -- the count and the best of the candidates from place i on come to those of all, from the count and the best so far
 pub record Told (hy : Bool) (fit : ℕ → ℕ) (marks : List Bool) (c i count best system : ℕ) : Type 0 where
-  pub counted : fold (countOf marks c) (drop i (candidatesFor hy)) count ≡ containingOf (candidatesFor hy) marks c
+  pub counted : fold (countContaining marks c) (drop i (candidatesFor hy)) count
+      ≡ containingOf (candidatesFor hy) marks c
   pub scored : best ≡ scoreOf fit marks c system
   pub rest : fold (betterOf fit marks c) (drop i (candidatesFor hy)) system ≡ fittestOf fit (candidatesFor hy) marks c
 
@@ -219,7 +220,7 @@ module _ (hy : Bool) (keys : List ℕ) (c i count best at : ℕ) (k : Tally hy k
     (h : i < length (candidatesFor hy)) where
   abbrev next-is : ℕ → ℕ → ℕ → (ℕ → ℕ) → List Bool → Type 0
   next-is count′ best′ at′ fit marks =
-      (count′ ≡ countOf marks c count (getD (candidatesFor hy) i 0))
+      (count′ ≡ countContaining marks c count (getD (candidatesFor hy) i 0))
       × (best′ ≡ scoreOf fit marks c (getD (candidatesFor hy) at′ 0))
       × (getD (candidatesFor hy) at′ 0 ≡ betterOf fit marks c (getD (candidatesFor hy) at 0)
       (getD (candidatesFor hy) i 0))
@@ -238,7 +239,7 @@ module _ (hy : Bool) (keys : List ℕ) (c i count best at : ℕ) (k : Tally hy k
             let r = f fit marks (d .at i h) (t .scored) in
             record {
               counted =
-                  next (countOf marks c) (candidatesFor hy) i (getD (candidatesFor hy) i 0) count count′
+                  next (countContaining marks c) (candidatesFor hy) i (getD (candidatesFor hy) i 0) count count′
                   (containingOf (candidatesFor hy) marks c) h refl (r .0) (t .counted);
               scored = r .1;
               rest =
@@ -288,7 +289,7 @@ module _ (hy : Bool) (keys : List ℕ) (c i count best at : ℕ) (k : Tally hy k
 
     module _ (t : hasOf (getD (candidatesFor hy) i 0) c ≡ true) (z : getD keys i 0 ≡ 0 → ⊥) (p : count′ ≡ count) where
       open-one : (fit : ℕ → ℕ) (marks : List Bool) → getD keys i 0 ≡ keyOf fit marks (getD (candidatesFor hy) i 0)
-          → count′ ≡ countOf marks c count (getD (candidatesFor hy) i 0)
+          → count′ ≡ countContaining marks c count (getD (candidatesFor hy) i 0)
       open-one fit marks a =
           p ∙ rw (open-of-key fit marks (getD (candidatesFor hy) i 0) (λ w. z (a ∙ w))) (sym (add-zero count))
 
@@ -350,7 +351,7 @@ module _ (hy : Bool) (keys : List ℕ) (c i count best at : ℕ) (k : Tally hy k
   where
     count-is : count ≡ containingOf (candidatesFor hy) marks c
     count-is =
-        done (countOf marks c) (candidatesFor hy) i count (containingOf (candidatesFor hy) marks c) h
+        done (countContaining marks c) (candidatesFor hy) i count (containingOf (candidatesFor hy) marks c) h
         (k .told fit marks d .counted)
 
     pub take-none : wanted ≤ count → Keyed hy fit (takeOf fit (candidatesFor hy) wanted marks c) keys

@@ -13,7 +13,7 @@ use lib.ListN.{getD, length}
 use borrow.Author.Tests.{ltb-true, ltb-false, le-ltb}
 use Rattle.refusal.specs.Keys.{isIn}
 use Rattle.refusal.specs.Register.{TOO_FEW}
-use Rattle.formula.specs.WorkingRule.{worked, rowsOf, horner, coefs, sumAbs}
+use Rattle.formula.specs.WorkingRule.{worked, coefficientRows, horner, coefs, sumAbs}
 use Rattle.formula.specs.Coefficients.{placeIn, keepsRule, isSystem, tableOf}
 use Rattle.formula.specs.Partial.{partialNumber}
 use Rattle.analysis.specs.Register.{CODES, statusOf}
@@ -53,8 +53,8 @@ use Rattle.demand.specs.Demand.{Expected, proposal, put-back}
 -- ---- the records of an absent component
 
 -- the cells of a split's amounts, and the cell of the jth record of the ith chosen system
-abbrev cellsIn : List ℕ → Split → List ℕ
-cellsIn a p = cellsOf (systemsFor a) (countFor a) (p .amounts)
+abbrev splitCells : List ℕ → Split → List ℕ
+splitCells a p = cellsOf (systemsFor a) (countFor a) (p .amounts)
 
 abbrev componentOf : List ℕ → ℕ → ℕ → ℕ
 componentOf a i j = componentAt (systemOf (systemsFor a) i) j
@@ -63,7 +63,7 @@ module _ (a : List ℕ) (on : RatedOn a) (p : Split) (i j : ℕ) (h : i < countF
   low : componentOf a i j < COMPONENTS
   low = component-lt (systemOf (systemsFor a) i) (chosen a on .known i h) j l
 
-  record-cell : cellOf (cellsIn a p) i (componentOf a i j) ≡ getD (p .amounts) (3 * i + j) 0
+  record-cell : cellOf (splitCells a p) i (componentOf a i j) ≡ getD (p .amounts) (3 * i + j) 0
   record-cell =
       let system = systemOf (systemsFor a) i in
       let known = chosen a on .known i h in
@@ -73,7 +73,7 @@ module _ (a : List ℕ) (on : RatedOn a) (p : Split) (i j : ℕ) (h : i < countF
       (ap (λ (n : ℕ). getD (p .amounts) (3 * i + n) 0) (rank-component system known j l))
 
   -- where the split re-sums and the component is absent, the record has no parts
-  resummed-none : Resums (mixOf a) (countFor a) (cellsIn a p) → getD (mixOf a) (componentOf a i j) 0 ≡ 0
+  resummed-none : Resums (mixOf a) (countFor a) (splitCells a p) → getD (mixOf a) (componentOf a i j) 0 ≡ 0
       → getD (p .amounts) (3 * i + j) 0 ≡ 0
   unfolding columnOf
   resummed-none sums e =
@@ -81,7 +81,7 @@ module _ (a : List ℕ) (on : RatedOn a) (p : Split) (i j : ℕ) (h : i < countF
       ∙ omega (
         arith,
         sums (componentOf a i j) low,
-        sum-has (λ s. cellOf (cellsIn a p) s (componentOf a i j)) (countFor a) i
+        sum-has (λ s. cellOf (splitCells a p) s (componentOf a i j)) (countFor a) i
             h,
         e,
       )
@@ -92,7 +92,7 @@ pub absent-record : (a : List ℕ) (p : Split) (code : ℕ) (w : ℤ) (s r : ℕ
     → getD (p .amounts) (3 * i + j) 0 ≡ 0
 absent-record a p code w s r is i j h l e =
     let (on, rated) = split-rated a p code w s r is in
-    let fit = rated-fit LIMIT (systemsFor a) (countFor a) (mixOf a) (cellsIn a p) (inertFirst a)
+    let fit = rated-fit LIMIT (systemsFor a) (countFor a) (mixOf a) (splitCells a p) (inertFirst a)
     (subst IsRated (sym rated) tt) in
     resummed-none a on p i j h l (fit .sums) e
 
@@ -110,7 +110,8 @@ pub absent-unsummed : (a : List ℕ) → RatedOn a → (p : Split) (code : ℕ) 
     → 0 < getD (p .amounts) (3 * i + j) 0 → splitAnswer a p code ≡ Refused 8 0
 absent-unsummed a on p code x i j h l e some =
     let fits = expected-fits _ _ _ (p .systems) (p .codes) (x .many) (x .systems) (x .codes) in
-    let refused = refused-8-exactly-when LIMIT (systemsFor a) (countFor a) (mixOf a) (cellsIn a p) (inertFirst a) .1 in
+    let refused =
+    refused-8-exactly-when LIMIT (systemsFor a) (countFor a) (mixOf a) (splitCells a p) (inertFirst a) .1 in
     split-by-records a p code true on fits
     ∙ refused (λ sums. let z = resummed-none a on p i j h l sums e in omega arith)
 
@@ -213,7 +214,8 @@ sixAmounts = 331058 ∷ 5102 ∷ 0 ∷ 658738 ∷ 5102 ∷ 0 ∷ []
 
 six-rated : proposedOf LIMIT (paddedOf (4 ∷ 8 ∷ [])) 2 (989796 ∷ 10204 ∷ 0 ∷ 0 ∷ 0 ∷ [])
     (cellsOf (paddedOf (4 ∷ 8 ∷ [])) 2 sixAmounts) 980000 ≡ Rated (pos 974058216) 129517 0
-unfolding worked rowsOf horner coefs sumAbs placeIn keepsRule isSystem tableOf partialNumber memberOf hasOf paddedOf
+unfolding worked coefficientRows horner coefs sumAbs placeIn keepsRule isSystem tableOf partialNumber memberOf hasOf
+    paddedOf
     sumTo sumToZ greatestTo leastTo allTo someTo table partsOf columnOf rowNumber heldOf rankOf cellsOf spreadOf
     weightedOf meanOf inertNumber ratingOf resums someEmpty proposedOf isIn
 six-rated = refl

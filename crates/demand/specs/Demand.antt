@@ -142,11 +142,11 @@ proposal-expected analysis on amounts =
 
 -- the amounts by chosen system and component: what the system in place s is given of component c, which are 0 methane,
 -- 1 ethane, 2 propane, 3 butane, 4 hydrogen; 0 of one that it lacks
-abbrev pub cellsIn : List ℕ → List ℕ → List ℕ
-cellsIn analysis amounts = cellsOf (systemsFor analysis) (countFor analysis) amounts
+abbrev pub cellsFor : List ℕ → List ℕ → List ℕ
+cellsFor analysis amounts = cellsOf (systemsFor analysis) (countFor analysis) amounts
 
 abbrev pub given : List ℕ → List ℕ → ℕ → ℕ → ℕ
-given analysis amounts s c = cellOf (cellsIn analysis amounts) s c
+given analysis amounts s c = cellOf (cellsFor analysis amounts) s c
 
 -- what it is given of its three components, of which the first two are the formula's variables
 abbrev pub amount : List ℕ → List ℕ → ℕ → ℕ → ℕ
@@ -179,23 +179,23 @@ AllNear analysis amounts =
 -- the formulas' rating and spread, and the exact fraction: the same formulas with no fraction dropped
 abbrev pub ratingAt : List ℕ → List ℕ → ℤ
 ratingAt analysis amounts =
-    ratingOf (systemsFor analysis) (countFor analysis) (cellsIn analysis amounts) (inertFirst analysis)
+    ratingOf (systemsFor analysis) (countFor analysis) (cellsFor analysis amounts) (inertFirst analysis)
 
 abbrev pub spreadAt : List ℕ → List ℕ → ℕ
 spreadAt analysis amounts = spreadOf (number analysis amounts) (countFor analysis)
 
 abbrev pub exactAt : List ℕ → List ℕ → Fraction
 exactAt analysis amounts =
-    exactRating (systemsFor analysis) (countFor analysis) (cellsIn analysis amounts) (inertFirst analysis)
+    exactRating (systemsFor analysis) (countFor analysis) (cellsFor analysis amounts) (inertFirst analysis)
 
 -- the three are all that `split` proves a rating of
 is-fit : (analysis amounts : List ℕ) → ReSums analysis amounts × NoneEmpty analysis amounts × AllNear analysis amounts
-    → Fit LIMIT (systemsFor analysis) (countFor analysis) (mixOf analysis) (cellsIn analysis amounts)
+    → Fit LIMIT (systemsFor analysis) (countFor analysis) (mixOf analysis) (cellsFor analysis amounts)
 unfolding columnOf partsOf rowNumber
 is-fit analysis amounts h = record { sums = h .0; some = h .1; near = h .2 }
 
 fit-is : (analysis amounts : List ℕ) → Fit LIMIT (systemsFor analysis) (countFor analysis) (mixOf analysis)
-    (cellsIn analysis amounts)
+    (cellsFor analysis amounts)
     → ReSums analysis amounts × NoneEmpty analysis amounts × AllNear analysis amounts
 unfolding columnOf partsOf rowNumber
 fit-is analysis amounts f = (f .sums, f .some, f .near)
@@ -207,9 +207,9 @@ pub rated-exactly-when : (analysis : List ℕ) → RatedOn analysis → (amounts
     ↔ (ReSums analysis amounts × NoneEmpty analysis amounts × AllNear analysis amounts)
 rated-exactly-when analysis on amounts code =
     let e = split-fits analysis (proposal analysis amounts) code on refl refl refl in
-    let fitted = fit-rated LIMIT (systemsFor analysis) (countFor analysis) (mixOf analysis) (cellsIn analysis amounts)
+    let fitted = fit-rated LIMIT (systemsFor analysis) (countFor analysis) (mixOf analysis) (cellsFor analysis amounts)
     (inertFirst analysis) in
-    let only = rated-fit LIMIT (systemsFor analysis) (countFor analysis) (mixOf analysis) (cellsIn analysis amounts)
+    let only = rated-fit LIMIT (systemsFor analysis) (countFor analysis) (mixOf analysis) (cellsFor analysis amounts)
     (inertFirst analysis) in (
       λ r. fit-is analysis amounts (only (subst IsRated e r)),
       λ h. subst IsRated (sym (e ∙ fitted (is-fit analysis amounts h))) tt,
@@ -223,7 +223,7 @@ pub rated-with : (analysis : List ℕ) → RatedOn analysis → (amounts : List 
 unfolding rowNumber
 rated-with analysis on amounts code h =
     let e = split-fits analysis (proposal analysis amounts) code on refl refl refl in
-    let fitted = fit-rated LIMIT (systemsFor analysis) (countFor analysis) (mixOf analysis) (cellsIn analysis amounts)
+    let fitted = fit-rated LIMIT (systemsFor analysis) (countFor analysis) (mixOf analysis) (cellsFor analysis amounts)
     (inertFirst analysis) (is-fit analysis amounts h) in
     (e ∙ fitted, near-spread LIMIT (number analysis amounts) (countFor analysis) (h .2))
 
@@ -277,7 +277,7 @@ pub proposed-within : (analysis : List ℕ) → length analysis ≡ CODES → (p
     → splitAnswer analysis p code ≡ Rated w s r → Within w (exactAt analysis (p .amounts)) 40
 proposed-within analysis long p code w s r is =
     let (on, e) = split-rated analysis p code w s r is in
-    rated-within (systemsFor analysis) (countFor analysis) (mixOf analysis) (cellsIn analysis (p .amounts))
+    rated-within (systemsFor analysis) (countFor analysis) (mixOf analysis) (cellsFor analysis (p .amounts))
     (chosen analysis on) LIMIT (inertFirst analysis)
     w s r e (omega (arith, million analysis long on)) (inert-million analysis long on)
 

@@ -15,7 +15,7 @@ use Rattle.sheet.specs.declared.Reading.{Reading}
 use Rattle.sheet.specs.declared.Reading.the-variants as reading
 use Rattle.split.specs.Rated.{IsRated}
 use Rattle.split.specs.declared.Answer.the-variants.{Rated, Refused}
-use Rattle.outcome.specs.Rate.{ROUNDS, splitAnswer, outcome, searchOutcome, readBy, sheetOutcome}
+use Rattle.outcome.specs.Rate.{ROUNDS, splitAnswer, outcome, searchOutcome, sheetOutcomeBy, sheetOutcome}
 use Rattle.outcome.specs.Laws.Ends.{read-long}
 use Rattle.demand.specs.Laws.Answers.{rated-zero, found-back}
 
@@ -44,7 +44,8 @@ sheet-split s code w d r is = go (readOf s code .answer) refl is
     by long true e = found-back a long ROUNDS code code w d r e
     by long false e = rated-zero a p code w d r e
 
-    go : (x : Reading) → readOf s code .answer ≡ x → readBy x a p code .answer ≡ Rated w d r
-        → (length a ≡ CODES) × (splitAnswer a (cond (eqb (p .count) 0) (readBy x a p code .split) p) code ≡ Rated w d 0)
+    go : (x : Reading) → readOf s code .answer ≡ x → sheetOutcomeBy x a p code .answer ≡ Rated w d r
+        → (length a ≡ CODES)
+        × (splitAnswer a (cond (eqb (p .count) 0) (sheetOutcomeBy x a p code .split) p) code ≡ Rated w d 0)
     go reading.Read e h = (read-long s code e, by (read-long s code e) (eqb (p .count) 0) h)
     go (reading.Refused number place code′) e h = absurd (subst IsRated (sym h) tt)

@@ -14,7 +14,7 @@ use Rattle.sheet.specs.declared.Reading.{Reading}
 use Rattle.sheet.specs.declared.Reading.the-variants as reading
 use Rattle.split.specs.declared.Answer.{Answer}
 use Rattle.split.specs.declared.Answer.the-variants.{Rated, Refused}
-use Rattle.outcome.specs.Rate.{ROUNDS, outcome, splitAnswer, searchOutcome, readBy, sheetOutcome}
+use Rattle.outcome.specs.Rate.{ROUNDS, outcome, splitAnswer, searchOutcome, sheetOutcomeBy, sheetOutcome}
 use Rattle.outcome.specs.Laws.Ends.{read-long}
 use Rattle.demand.specs.Lasting.{proposed-small, found-small}
 
@@ -44,7 +44,7 @@ by-split true a long p code = search-small a long ROUNDS code
 by-split false a long p code = split-small a long p code
 
 read-small : (x : Reading) (a : List ℕ) → (x ≡ reading.Read → length a ≡ CODES) → (p : Split) (code : ℕ)
-    → SmallFigures (readBy x a p code .answer)
+    → SmallFigures (sheetOutcomeBy x a p code .answer)
 read-small (reading.Refused number place code′) a long p code = tt
 read-small reading.Read a long p code = by-split (eqb (p .count) 0) a (long refl) p code
 

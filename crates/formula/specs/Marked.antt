@@ -6,7 +6,7 @@ use Prim.Native.Nat.{ℕ}
 use lib.IntN.{ℤ, pos, _+ℤ_, _*ℤ_}
 use Rattle.refusal.specs.Keys.{isIn}
 use Rattle.integer.specs.Floor.{floorOver}
-use Rattle.formula.specs.WorkingRule.{worked, rowsOf, horner, coefs, sumAbs}
+use Rattle.formula.specs.WorkingRule.{worked, coefficientRows, horner, coefs, sumAbs}
 use Rattle.formula.specs.Coefficients.{placeIn, keepsRule, isSystem, tableOf, coeffOf}
 use Rattle.formula.specs.Partial.{partialNumber}
 
@@ -20,7 +20,7 @@ pub record MarkedNumbers : Type 0 where
   pub two-butane : partialNumber 2 0 0 1000000 ≡ pos 102451300
 
 pub marked-numbers : MarkedNumbers
-unfolding partialNumber worked rowsOf horner coefs placeIn keepsRule isSystem tableOf sumAbs isIn
+unfolding partialNumber worked coefficientRows horner coefs placeIn keepsRule isSystem tableOf sumAbs isIn
 marked-numbers = record { inert = refl; four = refl; seven = refl; eight = refl; two-propane = refl; two-butane = refl }
 
 -- ---- towards zero, and not down
@@ -33,9 +33,10 @@ hornerDown n d (c ∷ (b ∷ cs)) = floorOver (hornerDown n d (b ∷ cs) *ℤ po
 
 -- system 7 at 333333, 333333, 333334: 239942239 by the rule, 239942237 rounded down
 pub towards-zero : partialNumber 7 333333 333333 333334 ≡ pos 239942239
-unfolding partialNumber worked rowsOf horner coefs placeIn keepsRule isSystem tableOf sumAbs isIn
+unfolding partialNumber worked coefficientRows horner coefs placeIn keepsRule isSystem tableOf sumAbs isIn
 towards-zero = refl
 
-pub rounded-down : hornerDown 333333 1000000 (map (hornerDown 333333 1000000) (rowsOf (coeffOf 7))) ≡ pos 239942237
-unfolding rowsOf coefs placeIn keepsRule isSystem tableOf sumAbs isIn
+pub rounded-down : hornerDown 333333 1000000 (map (hornerDown 333333 1000000) (coefficientRows (coeffOf 7)))
+    ≡ pos 239942237
+unfolding coefficientRows coefs placeIn keepsRule isSystem tableOf sumAbs isIn
 rounded-down = refl

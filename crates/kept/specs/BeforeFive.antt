@@ -25,7 +25,7 @@ use Rattle.analysis.specs.Laws.Required.{requiring-exactly-when}
 use Rattle.sheet.specs.Split.{noSplit}
 use Rattle.sheet.specs.Components.{codesReading, zeroListed}
 use Rattle.sheet.specs.Sheet.{sectionsOf}
-use Rattle.sheet.specs.Read.{amountsOf, contentOf, readOf}
+use Rattle.sheet.specs.Read.{readAmounts, contentOf, readOf}
 use Rattle.sheet.specs.Laws.Cases.{read-good, amounts-checked}
 use Rattle.sheet.specs.declared.Sections.the-variants.{Both}
 use Rattle.sheet.specs.declared.Reading.the-variants.{Read}
@@ -201,11 +201,11 @@ search-rated-before a long allowance code is = go (eqb (refusalBeforeFive a) 0) 
 -- one with two sections of counts that are allowed, as those from before are (`Pinned.counts-kept`), with codes in
 -- order, none listed at 0, and with an analysis that 5 and 6 let pass then, is read, with these contents
 pub sheet-read-kept : (s : List ℕ) (code n m first : ℕ) → sectionsOf s ≡ Both n m first
-    → codesReading n s 1 0 0 ≡ Read → zeroListed n s 1 ≡ false → refusalBeforeFive (amountsOf n s) ≡ 0
+    → codesReading n s 1 0 0 ≡ Read → zeroListed n s 1 ≡ false → refusalBeforeFive (readAmounts n s) ≡ 0
     → readOf s code ≡ contentOf n m first s
 sheet-read-kept s code n m first sections codes none before =
     read-good s code n m first sections codes
-    (amounts-checked n s none ∙ passes (amountsOf n s) (amounts-long n s 1 _) before)
+    (amounts-checked n s none ∙ passes (readAmounts n s) (amounts-long n s 1 _) before)
 
 -- and answered as before: by the search, or by its own split
 

@@ -20,7 +20,7 @@ use Rattle.analysis.specs.Required.{refusalIn}
 use Rattle.sheet.specs.Split.{noSplit}
 use Rattle.sheet.specs.Components.{codesReading, zeroListed}
 use Rattle.sheet.specs.Sheet.{sectionsOf}
-use Rattle.sheet.specs.Read.{amountsOf, contentOf, readOf}
+use Rattle.sheet.specs.Read.{readAmounts, contentOf, readOf}
 use Rattle.sheet.specs.Laws.Cases.{read-good, amounts-checked}
 use Rattle.sheet.specs.declared.Sections.the-variants.{Both}
 use Rattle.sheet.specs.declared.Split.{Split}
@@ -208,11 +208,11 @@ module _ (a : List ℕ) (none : getD a hydrogenCode 0 ≡ 0) where
 -- order, none listed at 0, and with an analysis that 5 and 6 let pass then, is read, with these contents
 pub sheet-read-kept : (s : List ℕ) (code n m first : ℕ) → sectionsOf s ≡ Both n m first
     → codesReading n s 1 0 0 ≡ Read → zeroListed n s 1 ≡ false
-    → refusalIn registerBefore (amountsOf n s) ≡ 0
+    → refusalIn registerBefore (readAmounts n s) ≡ 0
     → readOf s code ≡ contentOf n m first s
 sheet-read-kept s code n m first sections codes none before =
     read-good s code n m first sections codes
-    (amounts-checked n s none ∙ check.before-exactly-when (amountsOf n s) (amounts-long n s 1 _) .0 before .0)
+    (amounts-checked n s none ∙ check.before-exactly-when (readAmounts n s) (amounts-long n s 1 _) .0 before .0)
 
 -- and answered as it was: by the search, or by its own split
 module _ (s : List ℕ) (code : ℕ) (h : readOf s code .answer ≡ Read)

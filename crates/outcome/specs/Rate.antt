@@ -124,12 +124,12 @@ searchOutcome analysis allowance code =
 
 -- ---- a sheet: its refusal, else its split, else the search with the most rounds
 
-abbrev pub readBy : Reading → List ℕ → Split → ℕ → Outcome
-readBy (reading.Refused number place code′) analysis split code =
+abbrev pub sheetOutcomeBy : Reading → List ℕ → Split → ℕ → Outcome
+sheetOutcomeBy (reading.Refused number place code′) analysis split code =
     outcome (Refused number (read.placeOf (reading.Refused number place code′))) noSplit
-readBy reading.Read analysis split code =
+sheetOutcomeBy reading.Read analysis split code =
     cond (eqb (split .count) 0) (searchOutcome analysis ROUNDS code) (outcome (splitAnswer analysis split code) noSplit)
 
 unfoldable pub sheetOutcome : List ℕ → ℕ → Outcome
 sheetOutcome sheet code =
-    readBy (readOf sheet code .answer) (readOf sheet code .analysis .amounts) (readOf sheet code .split) code
+    sheetOutcomeBy (readOf sheet code .answer) (readOf sheet code .analysis .amounts) (readOf sheet code .split) code

@@ -18,7 +18,7 @@ use Rattle.sheet.specs.declared.Sheet.{Sheet}
 use Rattle.split.specs.AnswerCases.{numberOf, faultOf}
 use Rattle.split.specs.declared.Answer.{Answer}
 use Rattle.split.specs.declared.Answer.the-variants.{Rated, Refused}
-use Rattle.outcome.specs.Rate.{splitAnswer, outcome, searchOutcome, readBy, sheetOutcome}
+use Rattle.outcome.specs.Rate.{splitAnswer, outcome, searchOutcome, sheetOutcomeBy, sheetOutcome}
 use Rattle.outcome.specs.Laws.Ends.{RatedOrFew, split-in-range, search-in-range, read-passed, not-five}
 use Rattle.outcome.specs.declared.Outcome.{Outcome}
 
@@ -36,8 +36,9 @@ module _ (s : List ℕ) (r : Sheet) (h : ReadAs s r) (number place code : ℕ)
   unfolding sheetOutcome
   sheet-refused =
       sym (
-      ap (λ (c : ℕ). readBy (readOf s c .answer) (readOf s c .analysis .amounts) (readOf s c .split) c) same-code
-      ∙ ap (λ (x : Reading). readBy x (readOf s code .analysis .amounts) (readOf s code .split) code)
+      ap (λ (c : ℕ). sheetOutcomeBy (readOf s c .answer) (readOf s c .analysis .amounts) (readOf s c .split) c)
+      same-code
+      ∙ ap (λ (x : Reading). sheetOutcomeBy x (readOf s code .analysis .amounts) (readOf s code .split) code)
       (refused-answer s r h number place code e))
 
   pub sheet-fault : number ≡ 5 → FaultInSheet s (faultOf (Refused number carried))
@@ -61,7 +62,7 @@ module _ (s : List ℕ) (r : Sheet) (h : ReadAs s r) (e : r .answer ≡ reading.
   free (Refused n p) (inl (inr b)) = rw (ne-eqb n 5 (λ z. omega (arith, b .0)))
   free (Refused n p) (inr q) = ap faultOf q
 
-  ends : RatedOrFew (readBy reading.Read (r .analysis .amounts) (r .split) 0 .answer)
+  ends : RatedOrFew (sheetOutcomeBy reading.Read (r .analysis .amounts) (r .split) 0 .answer)
   ends = go (eqb (r .split .count) 0)
     where
       go : (t : Bool) → RatedOrFew (cond t (searchOutcome (r .analysis .amounts) 4000 0)
@@ -69,7 +70,7 @@ module _ (s : List ℕ) (r : Sheet) (h : ReadAs s r) (e : r .answer ≡ reading.
       go true = search-in-range (r .analysis .amounts) 0 passed 4000
       go false = split-in-range (r .analysis .amounts) 0 passed (r .split)
 
-  module _ (o : Outcome) (q : o ≡ readBy reading.Read (r .analysis .amounts) (r .split) 0) where
+  module _ (o : Outcome) (q : o ≡ sheetOutcomeBy reading.Read (r .analysis .amounts) (r .split) 0) where
     answer-ends : RatedOrFew (o .answer)
     answer-ends = subst (λ (x : Outcome). RatedOrFew (x .answer)) (sym q) ends
 
@@ -77,8 +78,8 @@ module _ (s : List ℕ) (r : Sheet) (h : ReadAs s r) (e : r .answer ≡ reading.
     unfolding sheetOutcome
     sheet-read =
         q
-        ∙ ap (λ (x : Sheet). readBy reading.Read (x .analysis .amounts) (x .split) 0) whole
-        ∙ sym (ap (λ (x : Reading). readBy x (readOf s 0 .analysis .amounts) (readOf s 0 .split) 0) good)
+        ∙ ap (λ (x : Sheet). sheetOutcomeBy reading.Read (x .analysis .amounts) (x .split) 0) whole
+        ∙ sym (ap (λ (x : Reading). sheetOutcomeBy x (readOf s 0 .analysis .amounts) (readOf s 0 .split) 0) good)
         ∙ ap (sheetOutcome s) (sym (free (o .answer) answer-ends))
 
     pub sheet-not-five : numberOf (o .answer) ≡ 5 → ⊥

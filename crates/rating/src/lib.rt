@@ -15,7 +15,7 @@ ghost use Rattle.split.specs.Rating.{ratingOf, LIMIT};
 ghost use Rattle.split.specs.Inner.Proposed.{Proposal};
 ghost use Rattle.split.specs.Fits.{Fit};
 ghost use Rattle.outcome.specs.Rate.{ROUNDS, splitBy, splitAnswer, outcome, foundOutcome, searchOutcome};
-ghost use Rattle.outcome.specs.Rate.{readBy, sheetOutcome};
+ghost use Rattle.outcome.specs.Rate.{sheetOutcomeBy, sheetOutcome};
 ghost use Rattle.rating.specs.Inner.Given.{FoundFit};
 use analysis::Analysis;
 use analysis::Checked;
@@ -125,7 +125,7 @@ pub fn rate_sheet(s: &[u8]) -> Outcome
 // The rating of what was read, an analysis in range.
 fn rate_read(analysis: Analysis, split: Split) -> Outcome
     requires { ⌜ analysisRefusal (analysis .amounts) ≡ 0 ⌝ }
-    ensures { λ r. ⌜ r ≡ readBy Read (analysis .amounts) split 0 ⌝ }
+    ensures { λ r. ⌜ r ≡ sheetOutcomeBy Read (analysis .amounts) split 0 ⌝ }
 {
     let count = split.count;
     if count == 0 {

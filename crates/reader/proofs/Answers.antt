@@ -23,7 +23,7 @@ use Rattle.sheet.specs.declared.Sheet.{Sheet}
 use Rattle.sheet.specs.Components.{refusalBy, codeRefusal, codesReading}
 use Rattle.sheet.specs.Split.{allowedCount}
 use Rattle.sheet.specs.Sheet.{LISTED, withSplit, withComponents, judged, sectionsOf}
-use Rattle.sheet.specs.Read.{amountsOf, amountsRefusal, refusedSheet, contentOf, readOf, FaultIn, ReadAs}
+use Rattle.sheet.specs.Read.{readAmounts, amountsRefusal, refusedSheet, contentOf, readOf, FaultIn, ReadAs}
 use Rattle.sheet.specs.Laws.Cases.{never, sectioned, read-torn, read-codes, read-amounts, read-good, amounts-zero}
 use Rattle.sheet.specs.Laws.Cases.{amounts-checked}
 use Rattle.reader.specs.Inner.Find.{ZeroRecord, AmountsRefused}
@@ -74,7 +74,7 @@ module _ (n : ℕ) (s : List ℕ) where
         code = λ _. inl (record { place = place; listed = h; code-there = refl; amount-there = z .zero-there h });
       })
 
-  pub checked-found : (place : ℕ) → ZeroRecord n s place → n ≤ place → (a : List ℕ) → a ≡ amountsOf n s
+  pub checked-found : (place : ℕ) → ZeroRecord n s place → n ≤ place → (a : List ℕ) → a ≡ readAmounts n s
       → (r : Checked) → Checking a r → AmountsRefused n s r
   checked-found place z h a e r k =
       let q : amountsRefusal n s ≡ analysisRefusal a = amounts-checked n s (z .none h) ∙ ap analysisRefusal (sym e) in

@@ -7,7 +7,7 @@ ghost use Rattle.sheet.specs.Bytes.{fourBytes, fourBytesAt};
 ghost use Rattle.sheet.specs.Components.{COMPONENT_BYTES, codeRefusal, codesReading};
 ghost use Rattle.sheet.specs.Split.{RECORDS, RECORD_BYTES, splitAt};
 ghost use Rattle.sheet.specs.Sheet.{LISTED, sectionsOf};
-ghost use Rattle.sheet.specs.Read.{amountsOf, refusedSheet, ReadAs};
+ghost use Rattle.sheet.specs.Read.{readAmounts, refusedSheet, ReadAs};
 ghost use Rattle.reader.specs.Inner.Find.{AmountsRefused};
 use analysis::Analysis;
 use analysis::CODES;
@@ -130,7 +130,7 @@ fn codes(s: &[u8], n: usize) -> Reading
 // The amounts of `n` component records, by code.
 fn amounts(s: &[u8], n: usize) -> [u32; CODES]
     requires { ⌜ 1 + COMPONENT_BYTES * n ≤ length (now s) ⌝ }
-    ensures { λ r. ⌜ r ≡ amountsOf n (now (s .entry)) ⌝ }
+    ensures { λ r. ⌜ r ≡ readAmounts n (now (s .entry)) ⌝ }
 {
     let mut a = [0u32; CODES];
     let mut i: usize = 0;
@@ -203,7 +203,7 @@ fn refused_with(number: u32, place: u32, code: u32) -> Sheet
 
 // Is a component listed at 0, or the analysis out of range? Refused 5 or 6, or not.
 fn amounts_refused(s: &[u8], n: usize, a: Analysis) -> Checked
-    requires { ⌜ (1 + COMPONENT_BYTES * n ≤ length (now s)) × (a .amounts ≡ amountsOf n (now s)) ⌝ }
+    requires { ⌜ (1 + COMPONENT_BYTES * n ≤ length (now s)) × (a .amounts ≡ readAmounts n (now s)) ⌝ }
     ensures { λ r. ⌜ AmountsRefused n (now (s .entry)) r ⌝ }
 {
     let mut i: usize = 0;

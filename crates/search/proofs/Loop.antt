@@ -32,7 +32,7 @@ use Rattle.turn.specs.Before.{beforeOf}
 use Rattle.turn.specs.Laws.Before.{doneBy, turn-before}
 use Rattle.split_rows.specs.Rows.{listed}
 use Rattle.split_rows.specs.Inner.Carried.{Held}
-use Rattle.search.specs.Inner.Tried.{TRIES, UNKNOWN, Tried}
+use Rattle.search.specs.Inner.Tried.{TRIES, UNTRIED, Tried}
 use Rattle.search.specs.Inner.Rounds.{endOf}
 use Rattle.search.proofs.Trials.{spread-same}
 use Rattle.search.proofs.Tries.{none-is}
@@ -122,7 +122,7 @@ module _ (limit : ℕ) {ch : List ℕ} {k allowance : ℕ} {S : Found} {level : 
     pub halve-may : 1 ≤ level
     halve-may = halved .0
 
-    pub halve-on : {y : List ℤ} → y ≡ replicate TRIES UNKNOWN → AtTurn ch k limit allowance S (level - 1) a v y rounds
+    pub halve-on : {y : List ℤ} → y ≡ replicate TRIES UNTRIED → AtTurn ch k limit allowance S (level - 1) a v y rounds
     halve-on {y} e = (g .0, omega (arith, g .1), g .2, halved .1, none-is ch k a (2 ^ (level - 1)) y e)
 
 -- the arm that ends the search

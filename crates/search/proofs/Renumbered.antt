@@ -23,7 +23,7 @@ use Rattle.split_rows.specs.Rows.{listed}
 use Rattle.split_rows.specs.Inner.Small.{Small}
 use Rattle.split_rows.specs.Inner.Carried.{Carried, Held}
 use Rattle.integer.specs.Laws.Bits.{back}
-use Rattle.search.specs.Inner.Tried.{TRIES, UNKNOWN, triedRow, wantedOf, Tried, Triable, Forgot}
+use Rattle.search.specs.Inner.Tried.{TRIES, UNTRIED, triedRow, wantedOf, Tried, Triable, Forgot}
 use Rattle.search.specs.Inner.Rounds.{Back}
 use Rattle.search.proofs.Trials.{renumber-ok}
 use Rattle.search.proofs.Tries.{taker-triable, taker-wanted, same-wanted, giver-back, taker-back}
@@ -117,7 +117,7 @@ module _ (ch : List ℕ) (k : ℕ) (a : List ℕ) (d m : ℕ) (n : List ℤ) (he
           rw o (held .small .each (giverOf m) (between .from)),
         )
 
-    module _ (i : ℕ) (h : i < TRIES) (l : triedRow i < k) (z : listed w i ≡ UNKNOWN → ⊥) where
+    module _ (i : ℕ) (h : i < TRIES) (l : triedRow i < k) (z : listed w i ≡ UNTRIED → ⊥) where
       right-giver : (i ≡ CELLS + giverOf m * COMPONENTS + componentOf m → ⊥) → (triedRow i ≡ takerOf m → ⊥) → Right i
       right-giver p q = go (eqb (triedRow i) (giverOf m)) refl
         where

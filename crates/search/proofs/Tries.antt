@@ -23,7 +23,7 @@ use Rattle.split.specs.Inner.Steps.{numberWith}
 use Rattle.split.specs.Laws.Steps.{Changed, number-with, bt, component-low, may-move, giver-changed, taker-changed}
 use Rattle.split_rows.specs.Rows.{listed}
 use Rattle.split_rows.specs.Inner.Carried.{Workable}
-use Rattle.search.specs.Inner.Tried.{TRIES, UNKNOWN, triedRow, columnIn, triedOf, wantedOf, Tried, Triable}
+use Rattle.search.specs.Inner.Tried.{TRIES, UNTRIED, triedRow, columnIn, triedOf, wantedOf, Tried, Triable}
 use Rattle.search.specs.Inner.Tried.{Forgot}
 use Rattle.integer.specs.Laws.Bits.{back}
 use Rattle.split_rows.specs.Laws.Machine.{pass}
@@ -41,7 +41,7 @@ more-is a d i h = rw (le-ltb i CELLS h)
 -- a number that is put
 module _ (ch : List ℕ) (k : ℕ) (a : List ℕ) (d : ℕ) (t : List ℤ) (kt : Tried ch k a d t) (i : ℕ) (h : i < TRIES)
     (y : ℤ) (p : (y ≡ wantedOf ch a d i) × (natAbs y ≤ LARGEST)) where
-  put-known : (j : ℕ) → j < TRIES → triedRow j < k → (listed (set t i y) j ≡ UNKNOWN → ⊥)
+  put-known : (j : ℕ) → j < TRIES → triedRow j < k → (listed (set t i y) j ≡ UNTRIED → ⊥)
       → (listed (set t i y) j ≡ wantedOf ch a d j) × (natAbs (listed (set t i y) j) ≤ LARGEST)
   put-known j l r u = go (eqb j i) refl
     where
@@ -134,13 +134,13 @@ pub tried-as : {ch : List ℕ} {k : ℕ} {a : List ℕ} {d e : ℕ} {t : List �
 tried-as p h = rw p h
 
 -- nothing is known yet
-pub none-tried : (ch : List ℕ) (k : ℕ) (a : List ℕ) (d : ℕ) → Tried ch k a d (replicate TRIES UNKNOWN)
+pub none-tried : (ch : List ℕ) (k : ℕ) (a : List ℕ) (d : ℕ) → Tried ch k a d (replicate TRIES UNTRIED)
 none-tried ch k a d = record {
-  long = length-replicate TRIES UNKNOWN;
-  known = λ i h r u. absurd (u (getD-replicate TRIES i UNKNOWN (pos 0) h));
+  long = length-replicate TRIES UNTRIED;
+  known = λ i h r u. absurd (u (getD-replicate TRIES i UNTRIED (pos 0) h));
 }
 
-pub none-is : (ch : List ℕ) (k : ℕ) (a : List ℕ) (d : ℕ) (t : List ℤ) → t ≡ replicate TRIES UNKNOWN → Tried ch k a d t
+pub none-is : (ch : List ℕ) (k : ℕ) (a : List ℕ) (d : ℕ) (t : List ℤ) → t ≡ replicate TRIES UNTRIED → Tried ch k a d t
 none-is ch k a d t e = rw e (none-tried ch k a d)
 
 -- the taker's try of a move that may be made
@@ -273,7 +273,7 @@ module _ (ch : List ℕ) (k : ℕ) (a : List ℕ) (d m : ℕ) (so : Sound ch k a
 abbrev pub Going : List ℤ → ℕ → List ℤ → ℕ → Type 0
 Going t s u c =
     (length u ≡ TRIES) × (c ≤ COMPONENTS)
-    × ((i : ℕ) → i < TRIES → triedRow i ≡ s → columnIn i < c → listed u i ≡ UNKNOWN)
+    × ((i : ℕ) → i < TRIES → triedRow i ≡ s → columnIn i < c → listed u i ≡ UNTRIED)
     × ((i : ℕ) → i < TRIES → (triedRow i ≡ s → ⊥) → listed u i ≡ listed t i)
 
 module _ (t : List ℤ) (s : ℕ) (low : s < SYSTEMS) where
@@ -291,22 +291,22 @@ module _ (t : List ℤ) (s : ℕ) (low : s < SYSTEMS) where
     second = CELLS + (s * COMPONENTS + c)
 
     abbrev next : List ℤ
-    next = set (set u first UNKNOWN) second UNKNOWN
+    next = set (set u first UNTRIED) second UNTRIED
 
-    long-first : length (set u first UNKNOWN) ≡ TRIES
+    long-first : length (set u first UNTRIED) ≡ TRIES
     long-first = simp length-set (g .0)
 
-    at-second : listed next second ≡ UNKNOWN
-    at-second = getD-set-same (set u first UNKNOWN) second UNKNOWN (pos 0) (omega (arith, long-first, low, h))
+    at-second : listed next second ≡ UNTRIED
+    at-second = getD-set-same (set u first UNTRIED) second UNTRIED (pos 0) (omega (arith, long-first, low, h))
 
-    at-first : listed next first ≡ UNKNOWN
+    at-first : listed next first ≡ UNTRIED
     at-first =
-        getD-set-other (set u first UNKNOWN) second first UNKNOWN (pos 0) (λ e. absurd (omega (arith, e)))
-        ∙ getD-set-same u first UNKNOWN (pos 0) (omega (arith, g .0, low, h))
+        getD-set-other (set u first UNTRIED) second first UNTRIED (pos 0) (λ e. absurd (omega (arith, e)))
+        ∙ getD-set-same u first UNTRIED (pos 0) (omega (arith, g .0, low, h))
 
     at-other : (i : ℕ) → (i ≡ first → ⊥) → (i ≡ second → ⊥) → listed next i ≡ listed u i
     at-other i p q =
-        getD-set-other (set u first UNKNOWN) second i UNKNOWN (pos 0) q ∙ getD-set-other u first i UNKNOWN (pos 0) p
+        getD-set-other (set u first UNTRIED) second i UNTRIED (pos 0) q ∙ getD-set-other u first i UNTRIED (pos 0) p
 
     pub going-on : Going t s next (c + 1)
     going-on = (
@@ -317,10 +317,10 @@ module _ (t : List ℤ) (s : ℕ) (low : s < SYSTEMS) where
           (λ e. r (omega (arith, low, h, e))) ∙ g .3 i l r,
     )
       where
-        gone : (i : ℕ) → i < TRIES → triedRow i ≡ s → columnIn i < c + 1 → listed next i ≡ UNKNOWN
+        gone : (i : ℕ) → i < TRIES → triedRow i ≡ s → columnIn i < c + 1 → listed next i ≡ UNTRIED
         gone i l r x = go (eqb i second) (eqb i first) refl refl
           where
-            go : (y z : Bool) → eqb i second ≡ y → eqb i first ≡ z → listed next i ≡ UNKNOWN
+            go : (y z : Bool) → eqb i second ≡ y → eqb i first ≡ z → listed next i ≡ UNTRIED
             go true z e f = rw (eqb-true i second e) at-second
             go false true e f = rw (eqb-true i first f) at-first
             go false false e f =

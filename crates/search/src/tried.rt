@@ -10,7 +10,7 @@ ghost use Rattle.systems.specs.Systems.{COMPONENTS, memberOf, Candidate};
 ghost use Rattle.split.specs.Split.{SYSTEMS, CELLS};
 ghost use Rattle.split.specs.Inner.Steps.{insteadOf, numberWith};
 ghost use Rattle.split_rows.specs.Inner.Carried.{Workable};
-ghost use Rattle.search.specs.Inner.Tried.{TRIES, UNKNOWN, wantedOf, Triable, Tried, Forgot};
+ghost use Rattle.search.specs.Inner.Tried.{TRIES, UNTRIED, wantedOf, Triable, Tried, Forgot};
 use super::state::amount;
 use split::CELLS;
 use systems::COMPONENTS;
@@ -20,7 +20,7 @@ use systems::SYSTEMS;
 pub(crate) const TRIES: usize = 2 * CELLS;
 
 // In the place of a number that is not worked out; no partial number is as large.
-const UNKNOWN: i64 = 4000000000000;
+const UNTRIED: i64 = 4000000000000;
 
 // The amount in row s of the system's component j, where that of component c were n.
 fn instead(cells: &[u32; CELLS], system: u8, s: usize, c: usize, n: u32, j: usize) -> u32
@@ -70,7 +70,7 @@ pub(crate) fn number_less(
 {
     let i = s * COMPONENTS + c;
     let x = tried[i];
-    if x != UNKNOWN {
+    if x != UNTRIED {
         return x;
     }
     let y = number_with(systems, cells, s, c, cells[i] - stride);
@@ -97,7 +97,7 @@ pub(crate) fn number_more(
 {
     let i = CELLS + s * COMPONENTS + c;
     let x = tried[i];
-    if x != UNKNOWN {
+    if x != UNTRIED {
         return x;
     }
     let y = number_with(systems, cells, s, c, cells[i - CELLS] + stride);
@@ -107,9 +107,9 @@ pub(crate) fn number_more(
 
 // No number is known.
 pub(crate) fn none_known() -> [i64; TRIES]
-    ensures { λ r. ⌜ r ≡ replicate TRIES UNKNOWN ⌝ }
+    ensures { λ r. ⌜ r ≡ replicate TRIES UNTRIED ⌝ }
 {
-    [UNKNOWN; TRIES]
+    [UNTRIED; TRIES]
 }
 
 // Row s's numbers are not known any more.
@@ -120,8 +120,8 @@ pub(crate) fn forget(tried: &mut [i64; TRIES], s: usize)
     let mut c = 0;
     while c < COMPONENTS {
         let i = s * COMPONENTS + c;
-        tried[i] = UNKNOWN;
-        tried[CELLS + i] = UNKNOWN;
+        tried[i] = UNTRIED;
+        tried[CELLS + i] = UNTRIED;
         c += 1;
     }
 }

@@ -48,9 +48,9 @@ zeroListed zero s at = false
 zeroListed (suc n) s at = cond (eqb (fourBytesAt s (at + 1)) 0) true (zeroListed n s (at + COMPONENT_BYTES))
 
 -- how many amounts are listed: only codes with an amount are
-abbrev pub countOf : List ℕ → ℕ
-countOf [] = 0
-countOf (x ∷ xs) = cond (eqb x 0) (countOf xs) (suc (countOf xs))
+abbrev pub listedCount : List ℕ → ℕ
+listedCount [] = 0
+listedCount (x ∷ xs) = cond (eqb x 0) (listedCount xs) (suc (listedCount xs))
 
 -- the records of the amounts `xs`, the first of which is that of the code `k`
 abbrev pub componentBytes : ℕ → List ℕ → List ℕ

@@ -21,12 +21,12 @@ use Rattle.sheet.specs.Split.{splitAt, noSplit}
 use Rattle.sheet.specs.Sheet.{sectionsOf}
 
 -- the amounts of `n` components, by code
-abbrev pub amountsOf : ℕ → List ℕ → List ℕ
-amountsOf n s = amountsFrom n s 1 (replicate CODES 0)
+abbrev pub readAmounts : ℕ → List ℕ → List ℕ
+readAmounts n s = amountsFrom n s 1 (replicate CODES 0)
 
 -- the number by the amounts: 5 for a component listed at 0, then that of the analysis
 unfoldable pub amountsRefusal : ℕ → List ℕ → ℕ
-amountsRefusal n s = cond (zeroListed n s 1) OUT_OF_RANGE (analysisRefusal (amountsOf n s))
+amountsRefusal n s = cond (zeroListed n s 1) OUT_OF_RANGE (analysisRefusal (readAmounts n s))
 
 -- a refusal by the amounts; 5 carries `code`
 abbrev pub byAmounts : ℕ → ℕ → Reading
@@ -38,7 +38,7 @@ refusedSheet x = record { answer = x; analysis = record { amounts = replicate CO
 -- what the sheet holds: `n` components, and `m` split records at `first`
 abbrev pub contentOf : ℕ → ℕ → ℕ → List ℕ → Sheet
 contentOf n m first s =
-    record { answer = Read; analysis = record { amounts = amountsOf n s }; split = splitAt m s first }
+    record { answer = Read; analysis = record { amounts = readAmounts n s }; split = splitAt m s first }
 
 -- all zeros beside a refusal
 abbrev pub withAnswer : Reading → Sheet → Sheet
@@ -68,7 +68,7 @@ pub record ListedAtZero (n : ℕ) (s : List ℕ) (code : ℕ) : Type 0 where
 
 -- a code at fault in a sheet of `n` components: listed at 0, out of its range, or absent where it may not be
 abbrev pub FaultIn : ℕ → List ℕ → ℕ → Type 0
-FaultIn n s code = ListedAtZero n s code ⊎ AtFault (amountsOf n s) code
+FaultIn n s code = ListedAtZero n s code ⊎ AtFault (readAmounts n s) code
 
 -- of as many components as its first byte says
 abbrev pub FaultInSheet : List ℕ → ℕ → Type 0

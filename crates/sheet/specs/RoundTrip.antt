@@ -19,11 +19,11 @@ use Rattle.sheet.specs.declared.Sections.the-variants.{Torn, Both}
 use Rattle.sheet.specs.declared.Sheet.{Sheet}
 use Rattle.sheet.specs.declared.Split.{Split}
 use Rattle.sheet.specs.declared.Written.the-variants as w
-use Rattle.sheet.specs.Components.{codesReading, amountsFrom, zeroListed, countOf, componentBytes}
+use Rattle.sheet.specs.Components.{codesReading, amountsFrom, zeroListed, listedCount, componentBytes}
 use Rattle.sheet.specs.Split.{RECORDS, allowedCount, splitBytes, byteColumn, amountColumn, padded, splitAt}
 use Rattle.sheet.specs.Split.{trimmed}
 use Rattle.sheet.specs.Sheet.{LISTED, SHEET, sheetOf, sectionsOf}
-use Rattle.sheet.specs.Read.{amountsOf, amountsRefusal, refusedSheet, contentOf, readOf}
+use Rattle.sheet.specs.Read.{readAmounts, amountsRefusal, refusedSheet, contentOf, readOf}
 use Rattle.sheet.specs.Write.{writeRefusal, writtenOf, leftOf}
 use Rattle.sheet.specs.Laws.Cases.{both-true, allowed-most, allowed-room, Sectioned, sectioned, sections-both}
 use Rattle.sheet.specs.Laws.Cases.{read-torn, read-good, Whole, read-whole, amounts-checked, amounts-back}
@@ -42,26 +42,27 @@ room : ℕ → ℕ → ℕ
 room k zero = 0
 room k (suc l) = cond (eqb (greatestOf k) 0) 0 1 + room (suc k) l
 
-count-room : (k : ℕ) (xs : List ℕ) → allInRange k xs ≡ true → countOf xs ≤ room k (length xs)
+count-room : (k : ℕ) (xs : List ℕ) → allInRange k xs ≡ true → listedCount xs ≤ room k (length xs)
 unfolding room
 count-room k [] h = omega arith
 count-room k (x ∷ xs) h =
     let g = both-true (inRange k x) (allInRange (suc k) xs) h in
     go (g .0) (count-room (suc k) xs (g .1)) (eqb x 0) (eqb (greatestOf k) 0) refl refl
   where
-    go : inRange k x ≡ true → countOf xs ≤ room (suc k) (length xs) → (t u : Bool) → eqb x 0 ≡ t
+    go : inRange k x ≡ true → listedCount xs ≤ room (suc k) (length xs) → (t u : Bool) → eqb x 0 ≡ t
         → eqb (greatestOf k) 0 ≡ u
-        → cond t (countOf xs) (suc (countOf xs)) ≤ cond u 0 1 + room (suc k) (length xs)
+        → cond t (listedCount xs) (suc (listedCount xs)) ≤ cond u 0 1 + room (suc k) (length xs)
     go g r true true e f = omega (arith, r)
     go g r true false e f = omega (arith, r)
     go g r false true e f = absurd (eqb-false x 0 e (unlisted k x (eqb-true _ _ f) g))
     go g r false false e f = omega (arith, r)
 
 -- at most twelve codes are listed
-pub count-most : (a : List ℕ) → length a ≡ CODES → analysisRefusal a ≡ 0 → countOf a ≤ LISTED
+pub count-most : (a : List ℕ) → length a ≡ CODES → analysisRefusal a ≡ 0 → listedCount a ≤ LISTED
 unfolding room statusOf
 count-most a l h =
-    let r : countOf a ≤ room 0 CODES = subst (λ (n : ℕ). countOf a ≤ room 0 n) l (count-room 0 a (passed-ranges a h))
+    let r : listedCount a ≤ room 0 CODES = subst (λ (n : ℕ). listedCount a ≤ room 0 n) l
+    (count-room 0 a (passed-ranges a h))
     in r
 
 -- a sheet that is written, or read, has at most 188 bytes
@@ -165,7 +166,7 @@ module _ (xs : List ℕ) (p : Split) (k : Sized (0 ∷ xs) p) (allowed : allowed
   r = p .count ∷ splitBytes p
 
   n : ℕ
-  n = countOf xs
+  n = listedCount xs
 
   all : allInRange 1 xs ≡ true
   all = both-true (inRange 0 0) (allInRange 1 xs) (passed-ranges (0 ∷ xs) passed) .1
@@ -202,7 +203,7 @@ module _ (xs : List ℕ) (p : Split) (k : Sized (0 ∷ xs) p) (allowed : allowed
   unfolding s r n
   zeros = zero-back xs 1 s 1 r refl
 
-  amounts : amountsOf n s ≡ 0 ∷ xs
+  amounts : readAmounts n s ≡ 0 ∷ xs
   unfolding s r n
   amounts =
       let l : length xs ≡ CODES - 1 = omega (arith, k .amounts-of-codes) in
@@ -273,7 +274,7 @@ module _ (s : List ℕ) (bytes : Bytes s) (x : Whole s) where
   shape : Sectioned s (x .n) (x .m) (x .first)
   shape = sectioned s (x .sections)
 
-  passed : (zeroListed (x .n) s 1 ≡ false) × (analysisRefusal (amountsOf (x .n) s) ≡ 0)
+  passed : (zeroListed (x .n) s 1 ≡ false) × (analysisRefusal (readAmounts (x .n) s) ≡ 0)
   passed = amounts-back (x .n) s (x .amounts)
 
   filled : Filled (x .n) s 1 0 (1 + 5 * x .n) (0 ∷ []) (CODES - 1)
@@ -298,14 +299,14 @@ module _ (s : List ℕ) (bytes : Bytes s) (x : Whole s) where
       (column (amountColumn (x .m) s (x .first + 2)) (length-amount-column (x .m) s (x .first + 2))) in
       sym (append-nil _) ∙ ap (λ (l : List ℕ). splitBytes p ++ l) (sym (drop-length s)) ∙ f
 
-  sheet-same : sheetOf (amountsOf (x .n) s) (splitAt (x .m) s (x .first)) ≡ s
+  sheet-same : sheetOf (readAmounts (x .n) s) (splitAt (x .m) s (x .first)) ≡ s
   unfolding p
   sheet-same =
       let q : List ℕ = x .m ∷ splitBytes p in
       let e : q ≡ drop (1 + 5 * x .n) s = ap (λ (l : List ℕ). x .m ∷ l) records
       ∙ ap (λ (j : ℕ). j ∷ drop (x .first) s) (shape .records)
       ∙ sym (one s bytes (1 + 5 * x .n) (x .first) (omega (arith, shape .begins)) (omega (arith, shape .size))) in
-      ap (λ (a : List ℕ). (countOf a ∷ componentBytes 0 a) ++ q) (filled .filled)
+      ap (λ (a : List ℕ). (listedCount a ∷ componentBytes 0 a) ++ q) (filled .filled)
       ∙ ap (λ (j : ℕ). (j ∷ componentBytes 1 (filled .ys)) ++ q) (filled .count)
       ∙ ap (λ (l : List ℕ). (x .n ∷ componentBytes 1 (filled .ys)) ++ l) e
       ∙ ap (λ (l : List ℕ). x .n ∷ l) (filled .bytes-filled)

@@ -10,12 +10,12 @@ use Rattle.section.specs.Walk.{walkOf}
 use Rattle.sheet.specs.declared.Split.{Split}
 use Rattle.sheet.specs.declared.Sections.{Sections}
 use Rattle.sheet.specs.declared.Sections.the-variants.{Torn, Both}
-use Rattle.sheet.specs.Components.{COMPONENT_BYTES, countOf, componentBytes}
+use Rattle.sheet.specs.Components.{COMPONENT_BYTES, listedCount, componentBytes}
 use Rattle.sheet.specs.Split.{LONGEST_SPLIT, RECORD_BYTES, allowedCount, splitBytes}
 
 -- the bytes of an analysis and a split: a count and its records, twice
 abbrev pub sheetOf : List ℕ → Split → List ℕ
-sheetOf a p = (countOf a ∷ componentBytes 0 a) ++ (p .count ∷ splitBytes p)
+sheetOf a p = (listedCount a ∷ componentBytes 0 a) ++ (p .count ∷ splitBytes p)
 
 -- the most components that a sheet lists
 abbrev pub LISTED : ℕ

@@ -5,7 +5,7 @@ use mathlib.Core.List.{List, [], _∷_}
 use Prim.Native.Nat.{ℕ, _-_, _*_}
 use lib.ListN.{replicate}
 use Rattle.refusal.specs.Keys.{isIn}
-use Rattle.formula.specs.WorkingRule.{worked, rowsOf, horner, coefs, sumAbs}
+use Rattle.formula.specs.WorkingRule.{worked, coefficientRows, horner, coefs, sumAbs}
 use Rattle.formula.specs.Coefficients.{placeIn, keepsRule, isSystem, tableOf}
 use Rattle.formula.specs.Partial.{partialNumber}
 use Rattle.systems.specs.Systems.{COMPONENTS, memberOf, hasOf}
@@ -31,7 +31,7 @@ few = 0 ∷ 0 ∷ 1 ∷ 0 ∷ 0 ∷ 1 ∷ 1 ∷ 0 ∷ 0 ∷ 0 ∷ replicate (CEL
 -- at stride 2 no cell can give; the stride is halved, and the allowance's one round is still there for methane's move
 pub halved : runOf (4 ∷ 8 ∷ []) 2 0 1 3 few 1 0 .cells
     ≡ 1 ∷ 0 ∷ 1 ∷ 0 ∷ 0 ∷ 0 ∷ 1 ∷ 0 ∷ 0 ∷ 0 ∷ replicate (CELLS - 2 * COMPONENTS) 0
-unfolding worked rowsOf horner coefs sumAbs placeIn keepsRule isSystem tableOf partialNumber memberOf hasOf
+unfolding worked coefficientRows horner coefs sumAbs placeIn keepsRule isSystem tableOf partialNumber memberOf hasOf
     sumTo greatestTo leastTo first partsOf
     rowNumber spreadOf squareOf imbalanceOf shift movedOf betweenOf affordsOf lowersOf canOf firstOf goOn turnOf runOf
     isIn

@@ -10,8 +10,8 @@ use Rattle.formula.specs.Partial.{exactNumber}
 use Rattle.split.specs.Split.{systemOf, amountOf, partsOf}
 
 -- row s's exact number
-unfoldable pub exactAt : List ℕ → List ℕ → ℕ → Fraction
-exactAt systems cells s =
+unfoldable pub rowExact : List ℕ → List ℕ → ℕ → Fraction
+rowExact systems cells s =
     exactNumber (systemOf systems s) (amountOf systems cells s 0) (amountOf systems cells s 1)
     (amountOf systems cells s 2)
 
@@ -19,7 +19,7 @@ exactAt systems cells s =
 unfoldable pub exactSum : List ℕ → ℕ → List ℕ → Fraction
 exactSum systems zero cells = whole (pos 0)
 exactSum systems (suc count) cells =
-    plus (exactSum systems count cells) (times (exactAt systems cells count) (partsOf systems cells count))
+    plus (exactSum systems count cells) (times (rowExact systems cells count) (partsOf systems cells count))
 
 unfoldable pub exactMean : List ℕ → ℕ → List ℕ → Fraction
 exactMean systems count cells = over (exactSum systems count cells) MILLION
@@ -32,8 +32,8 @@ exactRating systems count cells n1 =
     plus (plus (exactMean systems count cells) (exactInert n1)) (whole (neg PURE_METHANE))
 
 -- no row is empty
-abbrev pub NoneEmpty : List ℕ → ℕ → List ℕ → Type 0
-NoneEmpty systems count cells = (s : ℕ) → s < count → 0 < partsOf systems cells s
+abbrev pub NoRowEmpty : List ℕ → ℕ → List ℕ → Type 0
+NoRowEmpty systems count cells = (s : ℕ) → s < count → 0 < partsOf systems cells s
 
 -- ---- the denominator: the seventh power of each row's parts, times a power of 1000000
 

@@ -6,7 +6,7 @@ use Prim.Native.Nat.{ℕ}
 use lib.IntN.{pos}
 use Rattle.integer.specs.Figures.{neg}
 use Rattle.refusal.specs.Keys.{isIn}
-use Rattle.formula.specs.WorkingRule.{worked, rowsOf, horner, coefs, sumAbs}
+use Rattle.formula.specs.WorkingRule.{worked, coefficientRows, horner, coefs, sumAbs}
 use Rattle.formula.specs.Coefficients.{placeIn, keepsRule, isSystem, tableOf}
 use Rattle.formula.specs.Partial.{partialNumber}
 use Rattle.systems.specs.Systems.{memberOf, hasOf}
@@ -31,7 +31,7 @@ cut = (refl, refl, refl)
 
 pub example : proposedOf 500000 chosen 3 (979229 ∷ 16803 ∷ 2438 ∷ 1530 ∷ 0 ∷ [])
     (cellsOf chosen 3 amounts) 999468 ≡ Rated (pos 910787384) 369794 0
-unfolding worked rowsOf horner coefs sumAbs placeIn keepsRule isSystem tableOf partialNumber memberOf hasOf
+unfolding worked coefficientRows horner coefs sumAbs placeIn keepsRule isSystem tableOf partialNumber memberOf hasOf
     sumTo sumToZ greatestTo leastTo allTo someTo table partsOf columnOf rowNumber heldOf rankOf cellsOf spreadOf
     weightedOf meanOf inertNumber ratingOf resums someEmpty proposedOf isIn
 example = refl

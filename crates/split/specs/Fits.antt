@@ -6,7 +6,7 @@ use lib.ListN.{getD}
 use Rattle.systems.specs.Systems.{COMPONENTS}
 use Rattle.split.specs.Split.{columnOf, rowNumber}
 use Rattle.split.specs.Spread.{EveryTwo}
-use Rattle.split.specs.Exact.{NoneEmpty}
+use Rattle.split.specs.Exact.{NoRowEmpty}
 
 -- each component's amounts, added, equal the mixture's
 abbrev pub Resums : List ℕ → ℕ → List ℕ → Type 0
@@ -14,5 +14,5 @@ Resums mix count cells = (c : ℕ) → c < COMPONENTS → columnOf count cells c
 
 pub record Fit (limit : ℕ) (systems : List ℕ) (count : ℕ) (mix cells : List ℕ) : Type 0 where
   pub sums : Resums mix count cells
-  pub some : NoneEmpty systems count cells
+  pub some : NoRowEmpty systems count cells
   pub near : EveryTwo limit (rowNumber systems cells) count

@@ -14,7 +14,7 @@ use Rattle.split.specs.Split.{rowNumber}
 use Rattle.split.specs.Rating.{spreadOf, ratingOf, resums, someEmpty, verdict, proposedOf}
 use Rattle.split.specs.Spread.{EveryTwo}
 use Rattle.split.specs.Laws.Spread.{spread-near, near-spread}
-use Rattle.split.specs.Exact.{NoneEmpty}
+use Rattle.split.specs.Exact.{NoRowEmpty}
 use Rattle.split.specs.Fits.{Resums}
 use Rattle.split.specs.Laws.Fits.{resums-yes, yes-resums, empty-no, no-empty}
 use Rattle.split.specs.AnswerCases.{numberOf}
@@ -74,7 +74,7 @@ module _ (limit : ℕ) (systems : List ℕ) (count : ℕ) (mix cells : List ℕ)
   )
 
   pub refused-9-exactly-when : (proposedOf limit systems count mix cells n1 ≡ Refused 9 0)
-      ↔ (Resums mix count cells × (NoneEmpty systems count cells → ⊥))
+      ↔ (Resums mix count cells × (NoRowEmpty systems count cells → ⊥))
   unfolding proposedOf
   refused-9-exactly-when = (
     λ h. let (b, e) = at-9 (resums mix count cells) (someEmpty systems count cells) wide
@@ -86,7 +86,7 @@ module _ (limit : ℕ) (systems : List ℕ) (count : ℕ) (mix cells : List ℕ)
   )
 
   pub refused-10-exactly-when : (proposedOf limit systems count mix cells n1 ≡ Refused 10 0)
-      ↔ (Resums mix count cells × NoneEmpty systems count cells × (EveryTwo limit (rowNumber systems cells) count → ⊥))
+      ↔ (Resums mix count cells × NoRowEmpty systems count cells × (EveryTwo limit (rowNumber systems cells) count → ⊥))
   unfolding proposedOf
   refused-10-exactly-when = (
     λ h. let (b, e, w) = at-10 (resums mix count cells) (someEmpty systems count cells) wide

@@ -13,7 +13,7 @@ ghost use Rattle.split.specs.Split.{SYSTEMS, cellOf};
 ghost use Rattle.split.specs.Find.{chosenFit, mixtureFit};
 ghost use Rattle.split.specs.Rating.{spreadOf};
 ghost use Rattle.split_rows.specs.Rows.{listed, none, rowsOf};
-ghost use Rattle.split_rows.specs.Inner.Row.{partsIn, answerIn};
+ghost use Rattle.split_rows.specs.Inner.Row.{partsBy, answerIn};
 use refusal::NO_SYSTEM;
 use split::CELLS;
 use systems::COMPONENTS;
@@ -121,8 +121,8 @@ fn answer(system: u8, cells: &[u32; CELLS], s: usize) -> Partial
 
 // Row s's parts.
 fn parts(system: u8, cells: &[u32; CELLS], s: usize) -> u32
-    requires { ⌜ Candidate system × (s < SYSTEMS) × (partsIn system (now cells) s ≤ MILLION) ⌝ }
-    ensures { λ r. ⌜ r ≡ partsIn system (now (cells .entry)) s ⌝ }
+    requires { ⌜ Candidate system × (s < SYSTEMS) × (partsBy system (now cells) s ≤ MILLION) ⌝ }
+    ensures { λ r. ⌜ r ≡ partsBy system (now (cells .entry)) s ⌝ }
 {
     amount(system, cells, s, 0) + amount(system, cells, s, 1) + amount(system, cells, s, 2)
 }

@@ -111,11 +111,11 @@ oneIf true = 1
 oneIf false = 0
 
 -- how many of the chosen systems contain component c
-abbrev pub countOf : List Bool → ℕ → ℕ → ℕ → ℕ
-countOf marks c n system = n + oneIf (isChosen marks system && hasOf system c)
+abbrev pub countContaining : List Bool → ℕ → ℕ → ℕ → ℕ
+countContaining marks c n system = n + oneIf (isChosen marks system && hasOf system c)
 
 unfoldable pub containingOf : List ℕ → List Bool → ℕ → ℕ
-containingOf systems marks c = fold (countOf marks c) systems 0
+containingOf systems marks c = fold (countContaining marks c) systems 0
 
 -- a system contains component c and is not chosen
 abbrev pub openOf : List Bool → ℕ → ℕ → Bool

@@ -4,7 +4,7 @@ use Prim.Native.Nat.{ℕ, _+_, _≤_}
 use native.Mathlib.Omega.{arith}
 use lib.IntN.{ℤ, natAbs}
 use Rattle.formula.specs.Laws.Size.{horner-le, step-le}
-use Rattle.formula.specs.WorkingRule.{stepZ, horner, coefs, sumAbs, worked, rowsOf, LARGEST}
+use Rattle.formula.specs.WorkingRule.{stepZ, horner, coefs, sumAbs, worked, coefficientRows, LARGEST}
 
 -- four steps: the rows 4 to 7, combined already, and the rows 3 to 0
 abbrev pub stepsOf : ℕ → ℕ → ℤ → ℤ → ℤ → ℤ → ℤ → ℤ
@@ -37,8 +37,9 @@ unfolding coefs sumAbs
 sums a = omega arith
 
 steps-worked : (a : ℕ → ℤ) (n1 n2 d : ℕ) → stepsOf n1 d (horner n1 d (coefs a 16 4)) (horner n2 d (coefs a 14 2))
-    (horner n2 d (coefs a 11 3)) (horner n2 d (coefs a 7 4)) (horner n2 d (coefs a 0 7)) ≡ worked n1 n2 d (rowsOf a)
-unfolding worked rowsOf coefs horner
+    (horner n2 d (coefs a 11 3)) (horner n2 d (coefs a 7 4)) (horner n2 d (coefs a 0 7))
+    ≡ worked n1 n2 d (coefficientRows a)
+unfolding worked coefficientRows coefs horner
 steps-worked a n1 n2 d = refl
 
 steps-moved : (n d : ℕ) {h h′ x x′ y y′ z z′ u u′ : ℤ} → h ≡ h′ → x ≡ x′ → y ≡ y′ → z ≡ z′ → u ≡ u′
@@ -66,7 +67,7 @@ module _ (a : ℕ → ℤ) (n1 n2 d e : ℕ) {h r3 r2 r1 r0 : ℤ} (h-is : h ≡
         horner-le n2 e (coefs a 0 7) n2≤e,
       ))
 
-  pub rows-worked : d ≡ e → stepsOf n1 d h r3 r2 r1 r0 ≡ worked n1 n2 d (rowsOf a)
+  pub rows-worked : d ≡ e → stepsOf n1 d h r3 r2 r1 r0 ≡ worked n1 n2 d (coefficientRows a)
   rows-worked p =
       steps-moved n1 d h-is r3-is r2-is r1-is r0-is
       ∙ ap (λ (x : ℕ). stepsOf n1 d (horner n1 d (coefs a 16 4)) (horner n2 x (coefs a 14 2))

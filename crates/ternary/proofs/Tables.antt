@@ -6,7 +6,7 @@ use Prim.Native.Nat.{ℕ, _+_, _-_, _≤_, _<_}
 use native.Mathlib.Omega.{arith}
 use lib.IntN.{ℤ}
 use Rattle.integer.specs.Figures.{MILLION}
-use Rattle.formula.specs.WorkingRule.{worked, rowsOf}
+use Rattle.formula.specs.WorkingRule.{worked, coefficientRows}
 use Rattle.formula.specs.Coefficients.{isSystem, tableOf, coeffOf}
 use Rattle.formula.specs.Laws.Bound.{small}
 use Rattle.ternary.specs.Inner.Table.{inTable, Bounded}
@@ -22,12 +22,12 @@ small-table s t e = subst⁻¹ Bounded e (record { sum = small s })
 
 -- a result for a table and ratios that are those of a system, n1, n2 and d
 pub number-is : (s n1 n2 d n1′ n2′ d′ : ℕ) (t : List ℤ) → t ≡ tableOf s → n1′ ≡ n1 → n2′ ≡ n2 → d′ ≡ d
-    → worked n1′ n2′ d′ (rowsOf (inTable t)) ≡ worked n1 n2 d (rowsOf (coeffOf s))
+    → worked n1′ n2′ d′ (coefficientRows (inTable t)) ≡ worked n1 n2 d (coefficientRows (coeffOf s))
 number-is s n1 n2 d n1′ n2′ d′ t h e f g =
-    ap (λ (x : ℕ). worked x n2′ d′ (rowsOf (inTable t))) e
-    ∙ ap (λ (x : ℕ). worked n1 x d′ (rowsOf (inTable t))) f
-    ∙ ap (λ (x : ℕ). worked n1 n2 x (rowsOf (inTable t))) g
-    ∙ ap (λ (x : List ℤ). worked n1 n2 d (rowsOf (inTable x))) h
+    ap (λ (x : ℕ). worked x n2′ d′ (coefficientRows (inTable t))) e
+    ∙ ap (λ (x : ℕ). worked n1 x d′ (coefficientRows (inTable t))) f
+    ∙ ap (λ (x : ℕ). worked n1 n2 x (coefficientRows (inTable t))) g
+    ∙ ap (λ (x : List ℤ). worked n1 n2 d (coefficientRows (inTable x))) h
 
 -- ---- what `of_sum` answers: d is the sum of n1, n2 and the third amount
 
@@ -38,11 +38,11 @@ module _ (s n1 n2 d : ℕ) (known : isSystem s ≡ true) (h : n1 + n2 ≤ d) whe
   pub sum-refused : isMixture d ≡ false → Refused 12 ≡ formulaOf s n1 n2 (d - n1 - n2)
   sum-refused k = sym (formula-12 s n1 n2 (d - n1 - n2) known (ap isMixture whole ∙ k))
 
-  pub sum-number : (z : ℤ) → z ≡ worked n1 n2 d (rowsOf (coeffOf s)) → 0 < d → d ≤ MILLION
+  pub sum-number : (z : ℤ) → z ≡ worked n1 n2 d (coefficientRows (coeffOf s)) → 0 < d → d ≤ MILLION
       → Number z ≡ formulaOf s n1 n2 (d - n1 - n2)
   unfolding partialNumber
   sum-number z e k l =
-      ap Number (e ∙ ap (λ (x : ℕ). worked n1 n2 x (rowsOf (coeffOf s))) (sym whole))
+      ap Number (e ∙ ap (λ (x : ℕ). worked n1 n2 x (coefficientRows (coeffOf s))) (sym whole))
       ∙ sym (formula-is s n1 n2 (d - n1 - n2) known (omega (arith, whole)) (omega (arith, whole)))
 
 -- an answer that is so has this number

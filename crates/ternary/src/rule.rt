@@ -4,7 +4,7 @@ ghost use Prim.Native.Nat.{_+_, _<_, _≤_};
 ghost use lib.IntN.{natAbs};
 ghost use Rattle.integer.specs.Figures.{MILLION};
 ghost use Rattle.formula.specs.Coefficients.{coeffOf};
-ghost use Rattle.formula.specs.WorkingRule.{stepZ, horner, coefs, worked, rowsOf, LARGEST};
+ghost use Rattle.formula.specs.WorkingRule.{stepZ, horner, coefs, worked, coefficientRows, LARGEST};
 ghost use Rattle.ternary.specs.Inner.Precomputed.{Digits};
 ghost use Rattle.ternary.specs.Inner.Table.{inTable, Bounded};
 use super::ratio::ONE;
@@ -16,7 +16,7 @@ use coefficients::of_system;
 // The number of a system at the amounts n1, n2 and others, of sum d. The inverse of d is its one division.
 pub(crate) fn number(system: u32, n1: u32, n2: u32, d: u64) -> i64
     requires { ⌜ (n1 ≤ d) × (n2 ≤ d) × (0 < d) × (d ≤ MILLION) ⌝ }
-    ensures { λ r. ⌜ r ≡ worked n1 n2 d (rowsOf (coeffOf system)) ⌝ }
+    ensures { λ r. ⌜ r ≡ worked n1 n2 d (coefficientRows (coeffOf system)) ⌝ }
 {
     let t = of_system(system);
     let inverse = ONE / d;
@@ -29,7 +29,7 @@ pub(crate) fn number(system: u32, n1: u32, n2: u32, d: u64) -> i64
 // not a loop, so that the compiler unrolls them.
 fn rows(t: &[i64; 20], v: Ratio, w: Ratio) -> i64
     requires { ⌜ Bounded (now t) × (v .d ≡ w .d) × Digits v × Digits w ⌝ }
-    ensures { λ r. ⌜ r ≡ worked (v .n) (w .n) (v .d) (rowsOf (inTable (now (t .entry)))) ⌝ }
+    ensures { λ r. ⌜ r ≡ worked (v .n) (w .n) (v .d) (coefficientRows (inTable (now (t .entry)))) ⌝ }
 {
     let high = row(t, 16, 4, v);
     let r3 = row(t, 14, 2, w);

@@ -14,7 +14,7 @@ use Rattle.sheet.specs.declared.Split.{Split}
 use Rattle.sheet.specs.declared.Written.{Written}
 use Rattle.sheet.specs.declared.Written.the-variants.{Length, Refused}
 use Rattle.sheet.specs.Split.{allowedCount}
-use Rattle.sheet.specs.Components.{countOf}
+use Rattle.sheet.specs.Components.{listedCount}
 use Rattle.sheet.specs.Sheet.{sheetOf}
 use Rattle.sheet.specs.Write.{writeRefusal, writtenOf, WrittenAs}
 use Rattle.sheet.specs.Laws.Cases.{never, length-sheet, number-count, number-check, number-short, number-none}
@@ -78,7 +78,7 @@ module _ (a : List ℕ) (p : Split) (size : ℕ) where
         go true q e = eqb-true _ _ q
         go false q e = let z : _≡_ {A = ℕ} 0 1 = cc in absurd (never z)
 
-    module _ (y : Checked) (k : Checking a y) (e : y ≡ checked.InRange) (n len : ℕ) (c : n ≡ countOf a)
+    module _ (y : Checked) (k : Checking a y) (e : y ≡ checked.InRange) (n len : ℕ) (c : n ≡ listedCount a)
         (l : len ≡ 2 + 5 * n + 6 * p .count) where
       exact : len ≡ length (sheetOf a p)
       exact = omega (arith, length-sheet a p)

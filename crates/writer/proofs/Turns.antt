@@ -8,7 +8,7 @@ use lib.ListN.{length, getD, set, drop, drop-of-length-le, length-set}
 use lib.Seq.{sets, sets-eq, length-sets, drop-cons}
 use borrow.Author.Tests.{eq-eqb, ne-eqb}
 use Rattle.sheet.specs.Bytes.{bytesOf}
-use Rattle.sheet.specs.Components.{countOf, componentBytes}
+use Rattle.sheet.specs.Components.{listedCount, componentBytes}
 use Rattle.sheet.specs.declared.Split.{Split}
 use Rattle.sheet.specs.Split.{recordBytes, splitBytes}
 use Rattle.sheet.specs.Sheet.{sheetOf}
@@ -55,10 +55,10 @@ whole n m u v b at e h =
     rw (e, add-one (1 + length u)) (sets-append u (m ∷ v) (set b 0 n) 1 ∙ s)
 
 module _ (k : ℕ) (a : List ℕ) (h : k < length a) where
-  pub count-none : getD a k 0 ≡ 0 → countOf (drop k a) ≡ countOf (drop (k + 1) a)
+  pub count-none : getD a k 0 ≡ 0 → listedCount (drop k a) ≡ listedCount (drop (k + 1) a)
   count-none z = rw (drop-cons a k 0 h, add-one) (simp (eq-eqb _ _ z))
 
-  pub count-one : (getD a k 0 ≡ 0 → ⊥) → countOf (drop k a) ≡ suc (countOf (drop (k + 1) a))
+  pub count-one : (getD a k 0 ≡ 0 → ⊥) → listedCount (drop k a) ≡ suc (listedCount (drop (k + 1) a))
   count-one z = rw (drop-cons a k 0 h, add-one) (simp (ne-eqb _ _ z))
 
   pub component-none : getD a k 0 ≡ 0 → componentBytes k (drop k a) ≡ componentBytes (k + 1) (drop (k + 1) a)
@@ -69,7 +69,7 @@ module _ (k : ℕ) (a : List ℕ) (h : k < length a) where
   component-one z = rw (drop-cons a k 0 h, add-one) (simp (ne-eqb _ _ z))
 
 module _ (k : ℕ) (a : List ℕ) (h : length a ≤ k) where
-  pub count-end : countOf (drop k a) ≡ 0
+  pub count-end : listedCount (drop k a) ≡ 0
   count-end = rw drop-of-length-le
 
   pub component-end : componentBytes k (drop k a) ≡ []
@@ -88,8 +88,8 @@ module _ (m i : ℕ) (xs ys zs : List ℕ) where
       rw f
 
 -- the stores of a whole sheet
-pub sheet-put : (a : List ℕ) (p : Split) (b b1 b2 b3 b4 : List ℕ) (n at : ℕ) → n ≡ countOf a → b1 ≡ set b 0 n
-    → at ≡ 1 + 5 * countOf a
+pub sheet-put : (a : List ℕ) (p : Split) (b b1 b2 b3 b4 : List ℕ) (n at : ℕ) → n ≡ listedCount a → b1 ≡ set b 0 n
+    → at ≡ 1 + 5 * listedCount a
     → b2 ≡ sets b1 1 (componentBytes 0 a) → b3 ≡ set b2 at (p .count) → b4 ≡ sets b3 (at + 1) (splitBytes p)
     → length (sheetOf a p) ≤ length b → b4 ≡ sheetOf a p ++ drop (length (sheetOf a p)) b
 sheet-put a p b b1 b2 b3 b4 n at en e1 ea e2 e3 e4 h =
@@ -98,7 +98,7 @@ sheet-put a p b b1 b2 b3 b4 n at en e1 ea e2 e3 e4 h =
     ∙ ap (λ (l : List ℕ). sets l (at + 1) (splitBytes p))
     (e3 ∙ ap (λ (l : List ℕ). set l at (p .count))
     (e2 ∙ ap (λ (l : List ℕ). sets l 1 (componentBytes 0 a)) (e1 ∙ ap (λ (j : ℕ). set b 0 j) en)))
-    ∙ whole (countOf a) (p .count) (componentBytes 0 a) (splitBytes p) b at k h
+    ∙ whole (listedCount a) (p .count) (componentBytes 0 a) (splitBytes p) b at k h
 
 -- a store keeps the length
 pub length-byte : (b b1 : List ℕ) (at v : ℕ) → b1 ≡ set b at v → length b1 ≡ length b

@@ -7,7 +7,7 @@ ghost use lib.ListN.{length, drop};
 ghost use lib.Seq.{sets};
 ghost use Rattle.analysis.specs.Register.{CODES};
 ghost use Rattle.sheet.specs.Bytes.{bytesOf};
-ghost use Rattle.sheet.specs.Components.{COMPONENT_BYTES, countOf, componentBytes};
+ghost use Rattle.sheet.specs.Components.{COMPONENT_BYTES, listedCount, componentBytes};
 ghost use Rattle.sheet.specs.Split.{RECORDS, RECORD_BYTES, splitBytes};
 ghost use Rattle.sheet.specs.Sheet.{sheetOf};
 ghost use Rattle.sheet.specs.Write.{WrittenAs};
@@ -53,7 +53,7 @@ fn put_record(b: &mut [u8], at: usize, system: u8, code: u8, x: u32)
 
 // How many codes have an amount.
 fn listed(a: [u32; CODES]) -> usize
-    ensures { λ r. ⌜ (r ≡ countOf a) × (r ≤ CODES) ⌝ }
+    ensures { λ r. ⌜ (r ≡ listedCount a) × (r ≤ CODES) ⌝ }
 {
     let mut n: usize = 0;
     let mut k: usize = 0;
@@ -68,8 +68,8 @@ fn listed(a: [u32; CODES]) -> usize
 
 // The records of the codes with an amount, after the count byte; where they end.
 fn put_components(a: [u32; CODES], b: &mut [u8]) -> usize
-    requires { ⌜ 1 + COMPONENT_BYTES * countOf a ≤ length (now b) ⌝ }
-    ensures { λ r. ⌜ (r ≡ 1 + COMPONENT_BYTES * countOf a)
+    requires { ⌜ 1 + COMPONENT_BYTES * listedCount a ≤ length (now b) ⌝ }
+    ensures { λ r. ⌜ (r ≡ 1 + COMPONENT_BYTES * listedCount a)
         × (now (b .exit) ≡ sets (now (b .entry)) 1 (componentBytes 0 a)) ⌝ }
 {
     let mut at: usize = 1;
@@ -126,7 +126,7 @@ fn answer(analysis: Analysis, split: Split, size: usize) -> Written
 // The length of a sheet of these amounts and m split records, where a buffer of `size` bytes has room.
 fn length_in(a: [u32; CODES], m: usize, size: usize) -> Written
     requires { ⌜ m ≤ RECORDS ⌝ }
-    ensures { λ r. ⌜ r ≡ roomFor (2 + COMPONENT_BYTES * countOf a + RECORD_BYTES * m) size ⌝ }
+    ensures { λ r. ⌜ r ≡ roomFor (2 + COMPONENT_BYTES * listedCount a + RECORD_BYTES * m) size ⌝ }
 {
     let len = 2 + COMPONENT_BYTES * listed(a) + RECORD_BYTES * m;
     if size < len {

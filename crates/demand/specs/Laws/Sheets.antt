@@ -16,7 +16,7 @@ use Rattle.sheet.specs.Components.{codeRefusal, codesReading, zeroListed}
 use Rattle.sheet.specs.Split.{noSplit}
 use Rattle.sheet.specs.Sheet.{sectionsOf}
 use Rattle.sheet.specs.Read as read
-use Rattle.sheet.specs.Read.{readOf, amountsOf, amountsRefusal, byAmounts, contentOf, withAnswer, afterCodes}
+use Rattle.sheet.specs.Read.{readOf, readAmounts, amountsRefusal, byAmounts, contentOf, withAnswer, afterCodes}
 use Rattle.sheet.specs.declared.Split.{Split}
 use Rattle.sheet.specs.declared.Sections.{Sections}
 use Rattle.sheet.specs.declared.Sections.the-variants as sections
@@ -26,7 +26,7 @@ use Rattle.sheet.specs.declared.Sheet.{Sheet}
 use Rattle.split.specs.Rated.{IsRated}
 use Rattle.split.specs.declared.Answer.{Answer}
 use Rattle.split.specs.declared.Answer.the-variants.{Refused}
-use Rattle.outcome.specs.Rate.{ROUNDS, ratingRefusal, splitAnswer, searchOutcome, outcome, readBy, sheetOutcome}
+use Rattle.outcome.specs.Rate.{ROUNDS, ratingRefusal, splitAnswer, searchOutcome, outcome, sheetOutcomeBy, sheetOutcome}
 use Rattle.outcome.specs.RatedOn.{InRange, RatedOn}
 use Rattle.outcome.specs.Laws.Ends.{RatedOr, RatedOrFew, search-ends, search-few, split-few, search-in-range}
 use Rattle.outcome.specs.Laws.Ends.{split-in-range, read-passed}
@@ -79,9 +79,9 @@ amounts-number : (n : ℕ) (s : List ℕ) → amountsRefusal n s ≤ 6
 unfolding amountsRefusal
 amounts-number n s = go (zeroListed n s 1)
   where
-    go : (t : Bool) → cond t 5 (analysisRefusal (amountsOf n s)) ≤ 6
+    go : (t : Bool) → cond t 5 (analysisRefusal (readAmounts n s)) ≤ 6
     go true = omega arith
-    go false = check-number (amountsOf n s)
+    go false = check-number (readAmounts n s)
 
 by-number : (number code : ℕ) → number ≤ 6 → Numbered 1 6 (byAmounts number code)
 by-number number code h = go (eqb number 0) refl
@@ -121,7 +121,7 @@ module _ (s : List ℕ) (code : ℕ) (h : readOf s code .answer ≡ reading.Read
       → sheetOutcome s code ≡ ratedBy (readOf s code .analysis .amounts) (readOf s code .split) code none
   unfolding sheetOutcome
   by-count none e =
-      ap (λ (x : Reading). readBy x (readOf s code .analysis .amounts) (readOf s code .split) code) h
+      ap (λ (x : Reading). sheetOutcomeBy x (readOf s code .analysis .amounts) (readOf s code .split) code) h
       ∙ ap (ratedBy (readOf s code .analysis .amounts) (readOf s code .split) code) e
 
   -- without a split as the search of its analysis, and with one as that split
@@ -178,6 +178,6 @@ sheet-ends s code = go (readOf s code .answer) refl (read-number s code)
     by-split h false = wider (splitAnswer a p code) (split-in-range a code h p)
 
     go : (x : Reading) → readOf s code .answer ≡ x → Numbered 1 6 x
-        → RatedOr 1 11 (readBy x a p code .answer) ⊎ (readBy x a p code .answer ≡ Refused TOO_FEW 0)
+        → RatedOr 1 11 (sheetOutcomeBy x a p code .answer) ⊎ (sheetOutcomeBy x a p code .answer ≡ Refused TOO_FEW 0)
     go reading.Read e n = by-split (read-passed s code e) (eqb (p .count) 0)
     go (reading.Refused number place code′) e n = inl (inr (n .0, omega (arith, n .1)))

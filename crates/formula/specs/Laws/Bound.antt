@@ -12,7 +12,7 @@ use lib.ListN.{getD, drop, replicate}
 use lib.IntN.{ℤ, pos, natAbs}
 use Rattle.refusal.specs.Keys.{isIn}
 use Rattle.formula.specs.Laws.Size.{innerOf, horner-le, worked-is, inner-le}
-use Rattle.formula.specs.WorkingRule.{coefs, sumAbs, worked, rowsOf, LARGEST}
+use Rattle.formula.specs.WorkingRule.{coefs, sumAbs, worked, coefficientRows, LARGEST}
 use Rattle.formula.specs.Coefficients.{tables, printed, placeIn, keepsRule, isSystem, tableOf, coeffOf}
 
 -- ---- coefficients that are taken from a list by their places are no larger together than the list
@@ -69,7 +69,8 @@ each-small system i =
 
 -- ---- so a number by the working rule is no larger
 
-pub worked-small : (system n1 n2 d : ℕ) → n1 ≤ d → n2 ≤ d → natAbs (worked n1 n2 d (rowsOf (coeffOf system))) ≤ LARGEST
+pub worked-small : (system n1 n2 d : ℕ) → n1 ≤ d → n2 ≤ d
+    → natAbs (worked n1 n2 d (coefficientRows (coeffOf system))) ≤ LARGEST
 worked-small s n1 n2 d h1 h2 =
     rw (← worked-is (coeffOf s) n1 n2 d)
     (N.le-trans (horner-le n1 d (coefs (innerOf (coeffOf s) n2 d) 0 8) h1)

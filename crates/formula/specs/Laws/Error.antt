@@ -11,7 +11,7 @@ use lib.ListN.{length}
 use Rattle.integer.specs.Laws.Ring.{ring}
 use Rattle.integer.specs.Fraction.{ratio, Within, Close}
 use Rattle.integer.specs.Laws.Distance.{close, close-looser, close-over, within-same, close-times, within-over}
-use Rattle.formula.specs.WorkingRule.{stepZ, horner, worked, rowSum, tableSum, exact, coefs, rowsOf}
+use Rattle.formula.specs.WorkingRule.{stepZ, horner, worked, rowSum, tableSum, exact, coefs, coefficientRows}
 
 -- ---- one division: less than one unit more
 
@@ -135,8 +135,9 @@ module _ (n1 n2 d : ℕ) (n1≤d : n1 ≤ d) (n2≤d : n2 ≤ d) (d>0 : 0 < d) w
       (near-row n2 d n2≤d d>0 (suc m) c cs (h .0)))
 
   -- the whole table, over d ^ 7: nineteen units, whatever the coefficients are
-  pub within : (a : ℕ → ℤ) → natAbs (worked n1 n2 d (rowsOf a) *ℤ pos (d ^ 7) -ℤ exact n1 n2 d (rowsOf a)) < 19 * d ^ 7
-  unfolding rowsOf coefs
-  within a = rw (exact-is n1 n2 d 7 (rowsOf a))
+  pub within : (a : ℕ → ℤ)
+      → natAbs (worked n1 n2 d (coefficientRows a) *ℤ pos (d ^ 7) -ℤ exact n1 n2 d (coefficientRows a)) < 19 * d ^ 7
+  unfolding coefficientRows coefs
+  within a = rw (exact-is n1 n2 d 7 (coefficientRows a))
       (nearer-table 6 (a 0) (a 1 ∷ a 2 ∷ a 3 ∷ a 4 ∷ a 5 ∷ a 6 ∷ []) (coefs a 7 4) (coefs a 11 3 ∷ coefs a 14 2
       ∷ coefs a 16 1 ∷ coefs a 17 1 ∷ coefs a 18 1 ∷ coefs a 19 1 ∷ []) (omega arith) .near)

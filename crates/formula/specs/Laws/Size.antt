@@ -8,7 +8,7 @@ use lib.IntN.{ℤ, pos, negℤ, natAbs, _*ℤ_}
 use lib.Signed.{quotZ}
 use lib.ListN.{getD}
 use Rattle.integer.specs.Laws.Ring.{natAbs-+, share-le}
-use Rattle.formula.specs.WorkingRule.{stepZ, horner, coefs, sumAbs, worked, rowsOf}
+use Rattle.formula.specs.WorkingRule.{stepZ, horner, coefs, sumAbs, worked, coefficientRows}
 
 -- a step drops its fraction towards zero, above it and below it
 pub step-cut : (stepZ (pos 3) 1 2 (pos 0) ≡ pos 1) × (stepZ (negℤ (pos 3)) 1 2 (pos 0) ≡ negℤ (pos 1))
@@ -45,15 +45,16 @@ part-le a at j k h = N.le-trans (rw (N.zero-add at) at (suffix-le a 0 at j)) (pr
 abbrev atOf : ℕ → ℕ
 atOf k = getD (0 ∷ 7 ∷ 11 ∷ 14 ∷ 16 ∷ 17 ∷ 18 ∷ 19 ∷ []) k 0
 
-abbrev countOf : ℕ → ℕ
-countOf k = getD (7 ∷ 4 ∷ 3 ∷ 2 ∷ 1 ∷ 1 ∷ 1 ∷ 1 ∷ []) k 0
+abbrev widthOf : ℕ → ℕ
+widthOf k = getD (7 ∷ 4 ∷ 3 ∷ 2 ∷ 1 ∷ 1 ∷ 1 ∷ 1 ∷ []) k 0
 
 unfoldable pub innerOf : (ℕ → ℤ) → ℕ → ℕ → ℕ → ℤ
-innerOf a n d k = horner n d (coefs a (atOf k) (countOf k))
+innerOf a n d k = horner n d (coefs a (atOf k) (widthOf k))
 
 -- the working rule goes by the rows' numbers
-pub worked-is : (a : ℕ → ℤ) (n1 n2 d : ℕ) → horner n1 d (coefs (innerOf a n2 d) 0 8) ≡ worked n1 n2 d (rowsOf a)
-unfolding worked rowsOf innerOf coefs horner
+pub worked-is : (a : ℕ → ℤ) (n1 n2 d : ℕ)
+    → horner n1 d (coefs (innerOf a n2 d) 0 8) ≡ worked n1 n2 d (coefficientRows a)
+unfolding worked coefficientRows innerOf coefs horner
 worked-is a n1 n2 d = refl
 
 pub inner-le : (a : ℕ → ℤ) (n d : ℕ) → n ≤ d → sumAbs (coefs (innerOf a n d) 0 8) ≤ sumAbs (coefs a 0 20)

@@ -19,8 +19,8 @@ abbrev pub TRIES : ℕ
 TRIES = 2 * CELLS
 
 -- in the place of a number that is not worked out
-abbrev pub UNKNOWN : ℤ
-UNKNOWN = pos 4000000000000
+abbrev pub UNTRIED : ℤ
+UNTRIED = pos 4000000000000
 
 -- the row and the component of try i
 abbrev pub triedRow : ℕ → ℕ
@@ -40,7 +40,7 @@ wantedOf systems cells stride i = numberWith systems cells (triedRow i) (columnI
 -- each number of the rows' tries is not known or is the one wanted
 pub record Tried (systems : List ℕ) (count : ℕ) (cells : List ℕ) (stride : ℕ) (t : List ℤ) : Type 0 where
   pub long : length t ≡ TRIES
-  pub known : (i : ℕ) → i < TRIES → triedRow i < count → (listed t i ≡ UNKNOWN → ⊥)
+  pub known : (i : ℕ) → i < TRIES → triedRow i < count → (listed t i ≡ UNTRIED → ⊥)
       → (listed t i ≡ wantedOf systems cells stride i) × (natAbs (listed t i) ≤ LARGEST)
 
 -- try i can be worked out
@@ -54,5 +54,5 @@ pub record Triable (systems : List ℕ) (count : ℕ) (cells : List ℕ) (stride
 -- u is t with row s's numbers not known
 pub record Forgot (t : List ℤ) (s : ℕ) (u : List ℤ) : Type 0 where
   pub long : length u ≡ TRIES
-  pub gone : (i : ℕ) → i < TRIES → triedRow i ≡ s → listed u i ≡ UNKNOWN
+  pub gone : (i : ℕ) → i < TRIES → triedRow i ≡ s → listed u i ≡ UNTRIED
   pub kept : (i : ℕ) → i < TRIES → (triedRow i ≡ s → ⊥) → listed u i ≡ listed t i

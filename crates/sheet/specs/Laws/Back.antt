@@ -14,7 +14,7 @@ use Rattle.analysis.specs.Check.{greatestBy, greatestOf, inRange, allInRange}
 use Rattle.analysis.specs.Laws.Ranges.{range-greatest}
 use Rattle.sheet.specs.declared.Reading.the-variants.{Read}
 use Rattle.sheet.specs.Bytes.{fourBytes, fourBytesAt, bytesOf}
-use Rattle.sheet.specs.Components.{refusalBy, codeRefusal, codesReading, amountsFrom, zeroListed, countOf}
+use Rattle.sheet.specs.Components.{refusalBy, codeRefusal, codesReading, amountsFrom, zeroListed, listedCount}
 use Rattle.sheet.specs.Components.{componentBytes}
 use Rattle.sheet.specs.Split.{recordBytes, byteColumn, amountColumn}
 use Rattle.sheet.specs.Laws.Cases.{both-true, code-fine}
@@ -58,7 +58,7 @@ unrefused k x p r n h = code-fine k p (live-status x (statusOf k) (range-greates
 
 -- the head of a run of amounts, by whether it is listed
 module _ (k x : ℕ) (xs : List ℕ) where
-  pub some-count : eqb x 0 ≡ false → countOf (x ∷ xs) ≡ suc (countOf xs)
+  pub some-count : eqb x 0 ≡ false → listedCount (x ∷ xs) ≡ suc (listedCount xs)
   some-count e = rw e
 
   pub none-bytes : eqb x 0 ≡ true → componentBytes k (x ∷ xs) ≡ componentBytes (suc k) xs
@@ -87,7 +87,7 @@ pub skip-back : (s : List ℕ) (at k x : ℕ) (xs r : List ℕ) → drop at s �
 skip-back s at k x xs r e f = e ∙ ap (λ (l : List ℕ). l ++ r) (none-bytes k x xs f)
 
 pub codes-back : (xs : List ℕ) (k i p : ℕ) (s : List ℕ) (at : ℕ) (r : List ℕ) → allInRange k xs ≡ true → p < k
-    → drop at s ≡ componentBytes k xs ++ r → codesReading (countOf xs) s at i p ≡ Read
+    → drop at s ≡ componentBytes k xs ++ r → codesReading (listedCount xs) s at i p ≡ Read
 codes-back [] k i p s at r a h e = refl
 codes-back (x ∷ xs) k i p s at r a h e =
     let g : (inRange k x ≡ true) × (allInRange (suc k) xs ≡ true) = both-true (inRange k x) (allInRange (suc k) xs) a in
@@ -98,16 +98,16 @@ codes-back (x ∷ xs) k i p s at r a h e =
     refl
   where
     go : inRange k x ≡ true
-        → (drop at s ≡ componentBytes (suc k) xs ++ r → codesReading (countOf xs) s at i p ≡ Read)
-        → (drop (at + 5) s ≡ componentBytes (suc k) xs ++ r → codesReading (countOf xs) s (at + 5) (i + 1) k ≡ Read)
-        → (t : Bool) → eqb x 0 ≡ t → codesReading (countOf (x ∷ xs)) s at i p ≡ Read
+        → (drop at s ≡ componentBytes (suc k) xs ++ r → codesReading (listedCount xs) s at i p ≡ Read)
+        → (drop (at + 5) s ≡ componentBytes (suc k) xs ++ r → codesReading (listedCount xs) s (at + 5) (i + 1) k ≡ Read)
+        → (t : Bool) → eqb x 0 ≡ t → codesReading (listedCount (x ∷ xs)) s at i p ≡ Read
     go g skip next true f = rw f (skip (skip-back s at k x xs r e f))
     go g skip next false f =
         rw (f, code-back s at k x xs r e f, unrefused k x p g (eqb-false x 0 f) h)
         (next (next-back s at k x xs r e f))
 
 pub zero-back : (xs : List ℕ) (k : ℕ) (s : List ℕ) (at : ℕ) (r : List ℕ)
-    → drop at s ≡ componentBytes k xs ++ r → zeroListed (countOf xs) s at ≡ false
+    → drop at s ≡ componentBytes k xs ++ r → zeroListed (listedCount xs) s at ≡ false
 zero-back [] k s at r e = refl
 zero-back (x ∷ xs) k s at r e =
     go
@@ -116,16 +116,17 @@ zero-back (x ∷ xs) k s at r e =
     (eqb x 0)
     refl
   where
-    go : (drop at s ≡ componentBytes (suc k) xs ++ r → zeroListed (countOf xs) s at ≡ false)
-        → (drop (at + 5) s ≡ componentBytes (suc k) xs ++ r → zeroListed (countOf xs) s (at + 5) ≡ false)
-        → (t : Bool) → eqb x 0 ≡ t → zeroListed (countOf (x ∷ xs)) s at ≡ false
+    go : (drop at s ≡ componentBytes (suc k) xs ++ r → zeroListed (listedCount xs) s at ≡ false)
+        → (drop (at + 5) s ≡ componentBytes (suc k) xs ++ r → zeroListed (listedCount xs) s (at + 5) ≡ false)
+        → (t : Bool) → eqb x 0 ≡ t → zeroListed (listedCount (x ∷ xs)) s at ≡ false
     go skip next true f = rw f (skip (skip-back s at k x xs r e f))
     go skip next false f =
         let z = amount-back s at k x xs r e f in
         rw (f, z, f) (next (next-back s at k x xs r e f))
 
 pub amounts-filled : (xs : List ℕ) (k : ℕ) (ws : List ℕ) (s : List ℕ) (at : ℕ) (r : List ℕ) → length ws ≡ k
-    → drop at s ≡ componentBytes k xs ++ r → amountsFrom (countOf xs) s at (ws ++ replicate (length xs) 0) ≡ ws ++ xs
+    → drop at s ≡ componentBytes k xs ++ r
+    → amountsFrom (listedCount xs) s at (ws ++ replicate (length xs) 0) ≡ ws ++ xs
 amounts-filled [] k ws s at r h e = refl
 amounts-filled (x ∷ xs) k ws s at r h e =
     go
@@ -138,20 +139,21 @@ amounts-filled (x ∷ xs) k ws s at r h e =
     longer y = simp length-append (omega arith)
 
     go : (drop at s ≡ componentBytes (suc k) xs ++ r
-        → amountsFrom (countOf xs) s at ((ws ++ (0 ∷ [])) ++ replicate (length xs) 0) ≡ (ws ++ (0 ∷ [])) ++ xs)
+        → amountsFrom (listedCount xs) s at ((ws ++ (0 ∷ [])) ++ replicate (length xs) 0) ≡ (ws ++ (0 ∷ [])) ++ xs)
         → (drop (at + 5) s ≡ componentBytes (suc k) xs ++ r
-        → amountsFrom (countOf xs) s (at + 5) ((ws ++ (x ∷ [])) ++ replicate (length xs) 0) ≡ (ws ++ (x ∷ [])) ++ xs)
-        → (t : Bool) → eqb x 0 ≡ t → amountsFrom (countOf (x ∷ xs)) s at (ws ++ replicate (length (x ∷ xs)) 0) ≡ ws
+        → amountsFrom (listedCount xs) s (at + 5) ((ws ++ (x ∷ [])) ++ replicate (length xs) 0)
+        ≡ (ws ++ (x ∷ [])) ++ xs)
+        → (t : Bool) → eqb x 0 ≡ t → amountsFrom (listedCount (x ∷ xs)) s at (ws ++ replicate (length (x ∷ xs)) 0) ≡ ws
         ++ (x ∷ xs)
     go skip next true f =
         rw f
-        (ap (λ (l : List ℕ). amountsFrom (countOf xs) s at l) (sym (append-snoc ws 0 (replicate (length xs) 0)))
+        (ap (λ (l : List ℕ). amountsFrom (listedCount xs) s at l) (sym (append-snoc ws 0 (replicate (length xs) 0)))
         ∙ skip (skip-back s at k x xs r e f)
         ∙ append-snoc ws 0 xs
         ∙ ap (λ (y : ℕ). ws ++ (y ∷ xs)) (sym (eqb-true x 0 f)))
     go skip next false f =
         ap (λ (n : ℕ). amountsFrom n s at (ws ++ replicate (suc (length xs)) 0)) (some-count k x xs f)
-        ∙ ap (λ (l : List ℕ). amountsFrom (countOf xs) s (at + 5) l)
+        ∙ ap (λ (l : List ℕ). amountsFrom (listedCount xs) s (at + 5) l)
         (ap (λ (j : ℕ). set (ws ++ replicate (suc (length xs)) 0) j (fourBytesAt s (at + 1)))
         (code-back s at k x xs r e f)
         ∙ ap (λ (y : ℕ). set (ws ++ replicate (suc (length xs)) 0) k y) (amount-back s at k x xs r e f)

@@ -24,13 +24,13 @@ use Rattle.sheet.specs.declared.Sections.{Sections}
 use Rattle.sheet.specs.declared.Sections.the-variants.{Torn, Both}
 use Rattle.sheet.specs.declared.Split.{Split}
 use Rattle.sheet.specs.declared.Written.the-variants as w
-use Rattle.sheet.specs.Components.{COMPONENT_BYTES, refusalBy, codeRefusal, codesReading, countOf}
+use Rattle.sheet.specs.Components.{COMPONENT_BYTES, refusalBy, codeRefusal, codesReading, listedCount}
 use Rattle.sheet.specs.Components.{componentBytes, zeroListed}
 use Rattle.sheet.specs.Bytes.{bytesOf}
 use Rattle.sheet.specs.Split.{RECORDS, LONGEST_SPLIT, RECORD_BYTES, splitCounts, allowedCount, recordBytes}
 use Rattle.sheet.specs.Split.{splitBytes}
 use Rattle.sheet.specs.Sheet.{LISTED, sheetOf, withSplit, withComponents, sectionsOf}
-use Rattle.sheet.specs.Read.{amountsOf, amountsRefusal, refusedSheet, contentOf, withAnswer, afterCodes}
+use Rattle.sheet.specs.Read.{readAmounts, amountsRefusal, refusedSheet, contentOf, withAnswer, afterCodes}
 use Rattle.sheet.specs.Read.{readBy, readOf}
 use Rattle.sheet.specs.Write.{writeRefusal, writtenOf, leftOf}
 
@@ -205,16 +205,16 @@ module _ (n : ℕ) (s : List ℕ) where
   unfolding amountsRefusal
   amounts-zero z = rw z
 
-  pub amounts-checked : zeroListed n s 1 ≡ false → amountsRefusal n s ≡ analysisRefusal (amountsOf n s)
+  pub amounts-checked : zeroListed n s 1 ≡ false → amountsRefusal n s ≡ analysisRefusal (readAmounts n s)
   unfolding amountsRefusal
   amounts-checked z = rw z
 
-  pub amounts-back : amountsRefusal n s ≡ 0 → (zeroListed n s 1 ≡ false) × (analysisRefusal (amountsOf n s) ≡ 0)
+  pub amounts-back : amountsRefusal n s ≡ 0 → (zeroListed n s 1 ≡ false) × (analysisRefusal (readAmounts n s) ≡ 0)
   unfolding amountsRefusal
   amounts-back h = go (zeroListed n s 1) refl h
     where
-      go : (t : Bool) → zeroListed n s 1 ≡ t → cond t 5 (analysisRefusal (amountsOf n s)) ≡ 0
-          → (zeroListed n s 1 ≡ false) × (analysisRefusal (amountsOf n s) ≡ 0)
+      go : (t : Bool) → zeroListed n s 1 ≡ t → cond t 5 (analysisRefusal (readAmounts n s)) ≡ 0
+          → (zeroListed n s 1 ≡ false) × (analysisRefusal (readAmounts n s) ≡ 0)
       go true e h = (absurd (omega arith), absurd (omega arith))
       go false e h = (e, h)
 
@@ -272,20 +272,20 @@ pub length-records : (m i : ℕ) (xs ys zs : List ℕ) → length (recordBytes m
 length-records zero i xs ys zs = refl
 length-records (suc m) i xs ys zs = omega (arith, length-records m (i + 1) xs ys zs)
 
-pub length-components : (k : ℕ) (xs : List ℕ) → length (componentBytes k xs) ≡ COMPONENT_BYTES * countOf xs
+pub length-components : (k : ℕ) (xs : List ℕ) → length (componentBytes k xs) ≡ COMPONENT_BYTES * listedCount xs
 length-components k [] = refl
 length-components k (x ∷ xs) = go (eqb x 0) (length-components (suc k) xs)
   where
-    go : (t : Bool) → length (componentBytes (suc k) xs) ≡ COMPONENT_BYTES * countOf xs
+    go : (t : Bool) → length (componentBytes (suc k) xs) ≡ COMPONENT_BYTES * listedCount xs
         → length (cond t (componentBytes (suc k) xs) (k ∷ bytesOf x ++ componentBytes (suc k) xs)) ≡ COMPONENT_BYTES
-        * cond t (countOf xs) (suc (countOf xs))
+        * cond t (listedCount xs) (suc (listedCount xs))
     go true h = h
     go false h = omega (arith, h)
 
 -- ---- writing
 
 module _ (a : List ℕ) (p : Split) where
-  pub length-sheet : length (sheetOf a p) ≡ 2 + COMPONENT_BYTES * countOf a + RECORD_BYTES * p .count
+  pub length-sheet : length (sheetOf a p) ≡ 2 + COMPONENT_BYTES * listedCount a + RECORD_BYTES * p .count
   length-sheet =
       let x = length-components 0 a in
       let y = length-records (p .count) 0 (p .systems) (p .codes) (p .amounts) in

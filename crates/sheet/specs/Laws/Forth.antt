@@ -11,7 +11,7 @@ use borrow.Author.Tests.{ne-eqb, eqb-true, eqb-false, leb-true, leb-false}
 use Rattle.analysis.specs.Register.{CODES, statusOf}
 use Rattle.sheet.specs.declared.Reading.the-variants.{Read, Refused}
 use Rattle.sheet.specs.Bytes.{fourBytes, fourBytesAt, bytesOf, Bytes}
-use Rattle.sheet.specs.Components.{refusalBy, codeRefusal, codesReading, amountsFrom, zeroListed, countOf}
+use Rattle.sheet.specs.Components.{refusalBy, codeRefusal, codesReading, amountsFrom, zeroListed, listedCount}
 use Rattle.sheet.specs.Components.{componentBytes}
 use Rattle.sheet.specs.Split.{RECORDS, padded, recordBytes, byteColumn, amountColumn}
 use Rattle.sheet.specs.Laws.Cases.{status-above, code-back}
@@ -87,7 +87,7 @@ zeros-bytes zero k l = let e : k + 0 ≡ k = omega arith in ap (λ (n : ℕ). co
 zeros-bytes (suc g) k l =
     let e : suc k + g ≡ k + suc g = omega arith in zeros-bytes g (suc k) l ∙ ap (λ (n : ℕ). componentBytes n l) e
 
-pub zeros-count : (g : ℕ) (l : List ℕ) → countOf (replicate g 0 ++ l) ≡ countOf l
+pub zeros-count : (g : ℕ) (l : List ℕ) → listedCount (replicate g 0 ++ l) ≡ listedCount l
 zeros-count zero l = refl
 zeros-count (suc g) l = zeros-count g l
 
@@ -137,7 +137,7 @@ pub record Filled (n : ℕ) (s : List ℕ) (at p next : ℕ) (ws : List ℕ) (z 
   pub ys : List ℕ
   pub filled : amountsFrom n s at (ws ++ replicate z 0) ≡ ws ++ ys
   pub bytes-filled : componentBytes (p + 1) ys ++ drop next s ≡ drop at s
-  pub count : countOf ys ≡ n
+  pub count : listedCount ys ≡ n
 
 -- one record more
 filled-step : (n : ℕ) (s : List ℕ) → Bytes s → (at p next : ℕ) (ws : List ℕ) (z gap w c x : ℕ) → getD s at 0 ≡ c
@@ -175,7 +175,7 @@ filled-forth zero s bytes at i p next ws z good nz l k e h =
     let q : next ≡ at = omega arith in
     let a : componentBytes (p + 1) (replicate z 0) ≡ [] = ap (λ (r : List ℕ). componentBytes (p + 1) r)
     (sym (append-nil (replicate z 0))) ∙ zeros-bytes z (p + 1) [] in
-    let b : countOf (replicate z 0) ≡ 0 = ap countOf (sym (append-nil (replicate z 0))) ∙ zeros-count z [] in
+    let b : listedCount (replicate z 0) ≡ 0 = ap listedCount (sym (append-nil (replicate z 0))) ∙ zeros-count z [] in
     record {
       ys = replicate z 0;
       filled = refl;

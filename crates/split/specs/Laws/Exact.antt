@@ -15,15 +15,15 @@ use Rattle.formula.specs.NineteenUnits.{partial-within}
 use Rattle.split.specs.Fold.{sumTo, sumToZ}
 use Rattle.split.specs.Split.{systemOf, amountOf, partsOf, rowNumber}
 use Rattle.split.specs.Rating.{weightedOf, meanOf, inertNumber, ratingOf, PURE_METHANE}
-use Rattle.split.specs.Exact.{NoneEmpty, exactAt, exactInert, exactMean, exactRating, exactSum, powersOf}
+use Rattle.split.specs.Exact.{NoRowEmpty, rowExact, exactInert, exactMean, exactRating, exactSum, powersOf}
 
 -- ---- 19 units a number, 1 for the mean's division, 19 for the inert number
 
-pub number-within : (ch a : List ℕ) (s : ℕ) → 0 < partsOf ch a s → Within (rowNumber ch a s) (exactAt ch a s) 19
-unfolding rowNumber exactAt partsOf
+pub number-within : (ch a : List ℕ) (s : ℕ) → 0 < partsOf ch a s → Within (rowNumber ch a s) (rowExact ch a s) 19
+unfolding rowNumber rowExact partsOf
 number-within ch a s h = partial-within (systemOf ch s) (amountOf ch a s 0) (amountOf ch a s 1) (amountOf ch a s 2) h
 
-pub sum-close : (ch : List ℕ) (k : ℕ) (a : List ℕ) → NoneEmpty ch k a
+pub sum-close : (ch : List ℕ) (k : ℕ) (a : List ℕ) → NoRowEmpty ch k a
     → Close (weightedOf ch k a) (exactSum ch k a) (19 * sumTo (partsOf ch a) k)
 unfolding weightedOf exactSum sumTo sumToZ
 sum-close ch zero a h = close-whole (pos 0)
@@ -32,7 +32,7 @@ sum-close ch (suc k) a h =
     (close-plus (sum-close ch k a (λ s l. h s (omega arith)))
     (close-times (partsOf ch a k) (close (number-within ch a k (h k (omega arith))))))
 
-pub mean-within : (ch : List ℕ) (k : ℕ) (a : List ℕ) → NoneEmpty ch k a → sumTo (partsOf ch a) k ≤ MILLION
+pub mean-within : (ch : List ℕ) (k : ℕ) (a : List ℕ) → NoRowEmpty ch k a → sumTo (partsOf ch a) k ≤ MILLION
     → Within (meanOf ch k a) (exactMean ch k a) 20
 unfolding meanOf exactMean
 mean-within ch k a h t = within-over MILLION (omega arith) (close-looser (sum-close ch k a h) (omega arith))
@@ -41,7 +41,7 @@ pub inert-within : (n1 : ℕ) → n1 ≤ MILLION → Within (inertNumber n1) (ex
 unfolding inertNumber exactInert
 inert-within n1 h = partial-within 20 n1 (MILLION - n1) 0 (omega arith)
 
-pub rating-within : (ch : List ℕ) (k : ℕ) (a : List ℕ) (n1 : ℕ) → NoneEmpty ch k a → sumTo (partsOf ch a) k ≤ MILLION
+pub rating-within : (ch : List ℕ) (k : ℕ) (a : List ℕ) (n1 : ℕ) → NoRowEmpty ch k a → sumTo (partsOf ch a) k ≤ MILLION
     → n1 ≤ MILLION → Within (ratingOf ch k a n1) (exactRating ch k a n1) 40
 unfolding ratingOf exactRating
 rating-within ch k a n1 h t l =
@@ -49,7 +49,7 @@ rating-within ch k a n1 h t l =
     (close-whole (neg PURE_METHANE))) (omega arith)
 
 sum-den : (ch : List ℕ) (k : ℕ) (a : List ℕ) → exactSum ch k a .den ≡ powersOf ch k a
-unfolding exactSum exactAt exactNumber powersOf partsOf
+unfolding exactSum rowExact exactNumber powersOf partsOf
 sum-den ch zero a = refl
 sum-den ch (suc k) a = ap (λ (n : ℕ). n * partsOf ch a k ^ 7) (sum-den ch k a)
 

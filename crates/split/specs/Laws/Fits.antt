@@ -11,7 +11,7 @@ use Rattle.systems.specs.Systems.{COMPONENTS}
 use Rattle.split.specs.Laws.Folds.{all-each, all-of, some-each, some-of}
 use Rattle.split.specs.Split.{partsOf, columnOf}
 use Rattle.split.specs.Rating.{resums, someEmpty}
-use Rattle.split.specs.Exact.{NoneEmpty}
+use Rattle.split.specs.Exact.{NoRowEmpty}
 use Rattle.split.specs.Fits.{Resums}
 
 -- ---- the three tests say what they are to say
@@ -27,11 +27,11 @@ yes-resums mix k a h =
     all-of (λ c. eqb (columnOf k a c) (getD mix c 0)) COMPONENTS
     (λ c l. eq-eqb (columnOf k a c) (getD mix c 0) (h c l))
 
-pub empty-no : (ch : List ℕ) (k : ℕ) (a : List ℕ) → someEmpty ch k a ≡ false → NoneEmpty ch k a
+pub empty-no : (ch : List ℕ) (k : ℕ) (a : List ℕ) → someEmpty ch k a ≡ false → NoRowEmpty ch k a
 unfolding someEmpty
 empty-no ch k a h s l = omega (arith, eqb-false (partsOf ch a s) 0 (some-each (λ s. eqb (partsOf ch a s) 0) k s h l))
 
-pub no-empty : (ch : List ℕ) (k : ℕ) (a : List ℕ) → NoneEmpty ch k a → someEmpty ch k a ≡ false
+pub no-empty : (ch : List ℕ) (k : ℕ) (a : List ℕ) → NoRowEmpty ch k a → someEmpty ch k a ≡ false
 unfolding someEmpty
 no-empty ch k a h = some-of (λ s. eqb (partsOf ch a s) 0) k (λ s l. ne-eqb (partsOf ch a s) 0 (filled s (h s l)))
   where

@@ -1,5 +1,5 @@
 -- `split_rows::parts` meets its contract. Assumes nothing.
-use Rattle.split_rows.specs.Inner.Row.{partsIn}
+use Rattle.split_rows.specs.Inner.Row.{partsBy}
 use mathlib.Core.Path.{ap₂}
 use Prim.Native.Nat.{_+_, _-_}
 use native.Mathlib.Omega.{arith}
@@ -14,14 +14,14 @@ amount-requires-2 : tie.Need-amount-requires-2
 amount-requires-2 c κs = search needs
 
 add-result : tie.Need-add-result
-unfolding partsIn
+unfolding partsBy
 add-result c = omega (arith, c .before .amount .ensures, c .amount2 .ensures, c .before .before .pre .2)
 
 amount-requires-3 : tie.Need-amount-requires-3
 amount-requires-3 c κs = search needs
 
 add-result-2 : tie.Need-add-result-2
-unfolding partsIn
+unfolding partsBy
 add-result-2 c =
     omega (
       arith,
@@ -32,7 +32,7 @@ add-result-2 c =
     )
 
 returns : tie.Need-returns
-unfolding partsIn
+unfolding partsBy
 returns c = ap₂ _+_ (ap₂ _+_ (c .before .before .amount .ensures) (c .before .amount2 .ensures)) (c .amount3 .ensures)
 
 pub parts-spec : {M : Type 1} → statement M

@@ -11,8 +11,8 @@ use Rattle.systems.specs.Systems.{candidates, memberOf}
 use Rattle.split.specs.Split.{cellOf}
 
 -- row s's parts as a row of the system
-unfoldable pub partsIn : ℕ → List ℕ → ℕ → ℕ
-partsIn system cells s =
+unfoldable pub partsBy : ℕ → List ℕ → ℕ → ℕ
+partsBy system cells s =
     cellOf cells s (memberOf system 0) + cellOf cells s (memberOf system 1) + cellOf cells s (memberOf system 2)
 
 -- its partial number, or why it has none

@@ -34,7 +34,7 @@ use Rattle.split.specs.Rating.{someEmpty, spreadOf}
 use Rattle.split.specs.Laws.Rows.{parts-few}
 use Rattle.split.specs.Laws.Fits.{empty-no}
 use Rattle.split_rows.specs.Rows.{listed, rowFit, rowsFit, upTo, none, rowsOf}
-use Rattle.split_rows.specs.Inner.Row.{partsIn, answerIn}
+use Rattle.split_rows.specs.Inner.Row.{partsBy, answerIn}
 use Rattle.split_rows.specs.Inner.Small.{Small}
 use Rattle.split_rows.specs.Inner.Carried.{Held}
 use Rattle.split_rows.specs.declared.Rows.{Rows}
@@ -123,14 +123,14 @@ module _ (system : ℕ) (a : List ℕ) (s : ℕ) where
   -- a number is that of a candidate at a mixture
   pub record Worked (x : ℤ) : Type 0 where
     pub listed : isIn system candidates ≡ true
-    pub mixture : isMixture (partsIn system a s) ≡ true
-    pub some : 0 < partsIn system a s
-    pub few : partsIn system a s ≤ MILLION
+    pub mixture : isMixture (partsBy system a s) ≡ true
+    pub some : 0 < partsBy system a s
+    pub few : partsBy system a s ≤ MILLION
     pub value : x ≡ partialNumber system n1 n2 n3
 
   module _ (p : Partial) (q : p ≡ answerIn system a s) where
     pub worked : (x : ℤ) → p ≡ Number x → Worked x
-    unfolding partsIn answerIn
+    unfolding partsBy answerIn
     worked x u = go (isIn system candidates) (isMixture (n1 + n2 + n3)) refl refl
       where
         go : (b m : Bool) → isIn system candidates ≡ b → isMixture (n1 + n2 + n3) ≡ m → Worked x
@@ -148,8 +148,8 @@ module _ (system : ℕ) (a : List ℕ) (s : ℕ) where
             let t : p ≡ Refused 13 = q ∙ sym (no-candidate e) in
             absurd (let z : _≡_ {A = ℕ} 0 1 = cc in omega arith)
 
-    pub refused : (n : ℕ) → p ≡ Refused n → (isIn system candidates && isMixture (partsIn system a s)) ≡ false
-    unfolding partsIn answerIn
+    pub refused : (n : ℕ) → p ≡ Refused n → (isIn system candidates && isMixture (partsBy system a s)) ≡ false
+    unfolding partsBy answerIn
     refused n u = go (isIn system candidates) (isMixture (n1 + n2 + n3)) refl refl
       where
         go : (b m : Bool) → isIn system candidates ≡ b → isMixture (n1 + n2 + n3) ≡ m
@@ -172,14 +172,14 @@ module _ (ch a : List ℕ) where
 
   module _ (s : ℕ) (p : Partial) (q : p ≡ answerIn (systemOf ch s) a s) where
     pub row-unfit : (n : ℕ) → p ≡ Refused n → rowFit ch a s ≡ false
-    unfolding rowFit partsOf partsIn
+    unfolding rowFit partsOf partsBy
     row-unfit n u = refused (systemOf ch s) a s p q n u
 
     module _ (x : ℤ) (u : p ≡ Number x) where
       found : Worked (systemOf ch s) a s x
       found = worked (systemOf ch s) a s p q x u
 
-      pub may-parts : s < SYSTEMS → Candidate (systemOf ch s) × (s < SYSTEMS) × (partsIn (systemOf ch s) a s ≤ MILLION)
+      pub may-parts : s < SYSTEMS → Candidate (systemOf ch s) × (s < SYSTEMS) × (partsBy (systemOf ch s) a s ≤ MILLION)
       may-parts l = (record { listed = found .listed }, l, found .few)
 
       pub more-numbers : toZ w64 (ofZ w64 x) ≡ rowNumber ch a s
@@ -190,12 +190,12 @@ module _ (ch a : List ℕ) where
           (partial-small (systemOf ch s) (n1 (systemOf ch s) a s) (n2 (systemOf ch s) a s) (n3 (systemOf ch s) a s))
           (lit≤ tt)))
 
-      pub more-parts : (n : ℕ) → n ≡ partsIn (systemOf ch s) a s → n ≡ partsOf ch a s
-      unfolding partsOf partsIn
+      pub more-parts : (n : ℕ) → n ≡ partsBy (systemOf ch s) a s → n ≡ partsOf ch a s
+      unfolding partsOf partsBy
       more-parts n e = e
 
       pub more-tested : allTo (rowFit ch a) s ≡ true → allTo (rowFit ch a) (s + 1) ≡ true
-      unfolding allTo rowFit partsOf partsIn
+      unfolding allTo rowFit partsOf partsBy
       more-tested h = rw (add-one s, found .listed, found .mixture, allTo, rowFit) h
 
 -- ---- the evaluation

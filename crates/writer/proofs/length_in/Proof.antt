@@ -2,7 +2,7 @@
 use mathlib.Core.Path.{_≡_, ap, _∙_}
 use Prim.Native.Nat.{_+_, _*_}
 use native.Mathlib.Omega.{arith}
-use Rattle.sheet.specs.Components.{countOf}
+use Rattle.sheet.specs.Components.{listedCount}
 use Rattle.sheet.specs.declared.Written.the-variants.{Length}
 use Rattle.writer.proofs.Answers.{room-short, room-length}
 use borrow.Author.Needs.{needs}
@@ -27,14 +27,14 @@ add-len-2 c = search needs
 returns : tie.Need-returns
 returns c =
     let a = c .before .before .args in
-    room-short (2 + 5 * countOf (a .a) + 6 * a .m) (a .size) (omega arith)
+    room-short (2 + 5 * listedCount (a .a) + 6 * a .m) (a .size) (omega arith)
 
 returns-2 : tie.Need-returns-2
 returns-2 c =
     let a = c .before .before .args in
     let n = c .before .listed .result in
-    let e : 2 + 5 * n + 6 * a .m ≡ 2 + 5 * countOf (a .a) + 6 * a .m = omega arith in
-    ap Length e ∙ room-length (2 + 5 * countOf (a .a) + 6 * a .m) (a .size) (omega arith)
+    let e : 2 + 5 * n + 6 * a .m ≡ 2 + 5 * listedCount (a .a) + 6 * a .m = omega arith in
+    ap Length e ∙ room-length (2 + 5 * listedCount (a .a) + 6 * a .m) (a .size) (omega arith)
 
 pub length-in-spec : {M : Type 1} → statement M
 length-in-spec =

@@ -6,14 +6,14 @@ use native.Mathlib.Omega.{arith}
 use Rattle.analysis.specs.Register.{CODES}
 use mathlib.Core.Logic.{⊎-elim}
 use lib.ListN.{length, drop}
-use Rattle.sheet.specs.Components.{countOf}
+use Rattle.sheet.specs.Components.{listedCount}
 use Rattle.writer.proofs.Turns.{count-none, count-one, count-end}
 use borrow.Author.Needs.{needs}
 use Rattle.writer.proofs.listed.Statement.{statement}
 use Rattle.writer.proofs.listed.Tie as tie
 
 abbrev Inv-loop : tie.InvT-loop
-Inv-loop a n₀ k₀ n k = (k ≤ CODES) × (n ≤ k) × (length a ≡ CODES) × (n + countOf (drop k a) ≡ countOf a)
+Inv-loop a n₀ k₀ n k = (k ≤ CODES) × (n ≤ k) × (length a ≡ CODES) × (n + listedCount (drop k a) ≡ listedCount a)
 
 abbrev μ-loop : tie.MeasureT-loop
 μ-loop a n₀ k₀ n k = CODES - k

@@ -9,7 +9,7 @@ use mathlib.Core.Logic.{⊎-elim}
 use lib.ListN.{length, getD, drop}
 use lib.Seq.{sets, length-sets}
 use Rattle.sheet.specs.Bytes.{bytesOf}
-use Rattle.sheet.specs.Components.{countOf, componentBytes}
+use Rattle.sheet.specs.Components.{listedCount, componentBytes}
 use Rattle.writer.proofs.Turns.{sets-append, count-none, count-one, count-end, component-none, component-one}
 use Rattle.writer.proofs.Turns.{component-end}
 use borrow.Author.Needs.{needs}
@@ -18,7 +18,8 @@ use Rattle.writer.proofs.put_components.Tie as tie
 
 abbrev Inv-loop : tie.InvT-loop
 Inv-loop b₀ a at₀ k₀ b at k =
-    (k ≤ CODES) × (length a ≡ CODES) × (length b ≡ length b₀) × (at + 5 * countOf (drop k a) ≡ 1 + 5 * countOf a)
+    (k ≤ CODES) × (length a ≡ CODES) × (length b ≡ length b₀)
+    × (at + 5 * listedCount (drop k a) ≡ 1 + 5 * listedCount a)
     × (sets b at (componentBytes k (drop k a)) ≡ sets b₀ 1 (componentBytes 0 a))
 
 abbrev μ-loop : tie.MeasureT-loop
