@@ -3,14 +3,14 @@
 use mathlib.Core.Path.{_≡_}
 use mathlib.Core.List.{List, [], _∷_}
 use mathlib.Core.Bool.{Bool, true, false, not, cond}
-use Prim.Native.Nat.{ℕ, suc, _+_, _<_, _≤_}
+use Prim.Native.Nat.{ℕ, suc, _+_}
 use lib.ListN.{getD}
 use lib.Dec.{leb, eqb}
 use Rattle.refusal.specs.Register.{OUT_OF_RANGE, TOTAL, carried}
 use Rattle.analysis.specs.declared.Checked.{Checked}
 use Rattle.analysis.specs.declared.Checked.the-variants.{InRange, Refused}
 use Rattle.analysis.specs.CheckedCases.{numberOf, faultOf}
-use Rattle.analysis.specs.Register.{CODES, Status, live, retired, splitsOnly, unknown, statusOf}
+use Rattle.analysis.specs.Register.{Status, live, retired, splitsOnly, unknown, statusOf}
 
 -- the least and the greatest amount; 1 and 0, which leave no amount, where the code is not live
 abbrev pub leastBy : Status → ℕ

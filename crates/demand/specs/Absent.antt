@@ -48,14 +48,11 @@ use Rattle.outcome.specs.RatedOn.{InRange, RatedOn}
 use Rattle.outcome.specs.Laws.RatedOn.{enough-on, too-few}
 use Rattle.outcome.specs.Laws.Ready.{chosen}
 use Rattle.demand.specs.Laws.Answers.{expected-fits, split-by-records, split-fits, split-rated}
-use Rattle.demand.specs.Demand.{Expected, proposal, put-back}
+use Rattle.demand.specs.Demand.{Expected, cellsFor, proposal, put-back}
 
 -- ---- the records of an absent component
 
--- the cells of a split's amounts, and the cell of the jth record of the ith chosen system
-abbrev splitCells : List ℕ → Split → List ℕ
-splitCells a p = cellsOf (systemsFor a) (countFor a) (p .amounts)
-
+-- the component of the jth record of the ith chosen system
 abbrev componentOf : List ℕ → ℕ → ℕ → ℕ
 componentOf a i j = componentAt (systemOf (systemsFor a) i) j
 
@@ -63,7 +60,7 @@ module _ (a : List ℕ) (on : RatedOn a) (p : Split) (i j : ℕ) (h : i < countF
   low : componentOf a i j < COMPONENTS
   low = component-lt (systemOf (systemsFor a) i) (chosen a on .known i h) j l
 
-  record-cell : cellOf (splitCells a p) i (componentOf a i j) ≡ getD (p .amounts) (3 * i + j) 0
+  record-cell : cellOf (cellsFor a (p .amounts)) i (componentOf a i j) ≡ getD (p .amounts) (3 * i + j) 0
   record-cell =
       let system = systemOf (systemsFor a) i in
       let known = chosen a on .known i h in
@@ -73,7 +70,7 @@ module _ (a : List ℕ) (on : RatedOn a) (p : Split) (i j : ℕ) (h : i < countF
       (ap (λ (n : ℕ). getD (p .amounts) (3 * i + n) 0) (rank-component system known j l))
 
   -- where the split re-sums and the component is absent, the record has no parts
-  resummed-none : Resums (mixOf a) (countFor a) (splitCells a p) → getD (mixOf a) (componentOf a i j) 0 ≡ 0
+  resummed-none : Resums (mixOf a) (countFor a) (cellsFor a (p .amounts)) → getD (mixOf a) (componentOf a i j) 0 ≡ 0
       → getD (p .amounts) (3 * i + j) 0 ≡ 0
   unfolding columnOf
   resummed-none sums e =
@@ -81,7 +78,7 @@ module _ (a : List ℕ) (on : RatedOn a) (p : Split) (i j : ℕ) (h : i < countF
       ∙ omega (
         arith,
         sums (componentOf a i j) low,
-        sum-has (λ s. cellOf (splitCells a p) s (componentOf a i j)) (countFor a) i
+        sum-has (λ s. cellOf (cellsFor a (p .amounts)) s (componentOf a i j)) (countFor a) i
             h,
         e,
       )
@@ -92,7 +89,7 @@ pub absent-record : (a : List ℕ) (p : Split) (code : ℕ) (w : ℤ) (s r : ℕ
     → getD (p .amounts) (3 * i + j) 0 ≡ 0
 absent-record a p code w s r is i j h l e =
     let (on, rated) = split-rated a p code w s r is in
-    let fit = rated-fit LIMIT (systemsFor a) (countFor a) (mixOf a) (splitCells a p) (inertFirst a)
+    let fit = rated-fit LIMIT (systemsFor a) (countFor a) (mixOf a) (cellsFor a (p .amounts)) (inertFirst a)
     (subst IsRated (sym rated) tt) in
     resummed-none a on p i j h l (fit .sums) e
 
@@ -111,7 +108,7 @@ pub absent-unsummed : (a : List ℕ) → RatedOn a → (p : Split) (code : ℕ) 
 absent-unsummed a on p code x i j h l e some =
     let fits = expected-fits _ _ _ (p .systems) (p .codes) (x .many) (x .systems) (x .codes) in
     let refused =
-    refused-8-exactly-when LIMIT (systemsFor a) (countFor a) (mixOf a) (splitCells a p) (inertFirst a) .1 in
+    refused-8-exactly-when LIMIT (systemsFor a) (countFor a) (mixOf a) (cellsFor a (p .amounts)) (inertFirst a) .1 in
     split-by-records a p code true on fits
     ∙ refused (λ sums. let z = resummed-none a on p i j h l sums e in omega arith)
 

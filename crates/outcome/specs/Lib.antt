@@ -1,5 +1,6 @@
 pub mod Records
 pub mod Rate
+pub mod Misfit
 pub mod SplitCodes
 pub mod RatedOn
 pub mod LeftOut

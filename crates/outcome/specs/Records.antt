@@ -8,9 +8,9 @@ use Rattle.split.specs.Fold.{allTo, table}
 use Rattle.sheet.specs.declared.Split.{Split}
 use Rattle.split.specs.Split.{RECORDS, systemOf, componentAt, amountsOf}
 
--- the most systems that a split has room for
-abbrev pub ROWS : ℕ
-ROWS = RECORDS / 3
+-- the most systems that a split has room for: as many as there are candidates
+abbrev pub MOST_SYSTEMS : ℕ
+MOST_SYSTEMS = RECORDS / 3
 
 -- the code of a component in a split: methane, ethane, propane, butanes, hydrogen
 abbrev pub codes : List ℕ

@@ -25,7 +25,7 @@ use systems::SYSTEMS;
 // All parts of a mixture, as an amount and as a divisor.
 const MILLION: u32 = 1000000;
 
-const PARTS: i64 = 1000000;
+const PARTS: i64 = MILLION as i64;
 
 // The partial number of pure methane, 100.0003, in units.
 const PURE_METHANE: i64 = 1000003000;

@@ -1,19 +1,19 @@
 -- What the public calls meet: the check's answer, the values of an analysis in range, what the search found. Assumes
 -- nothing.
 use mathlib.Core.Path.{_≡_, refl, sym, ap, ap₂, _∙_, subst}
-use mathlib.Core.Bool.{Bool, true, false, not, cond}
+use mathlib.Core.Bool.{Bool, true, false, not, cond, _&&_}
 use mathlib.Core.List.{List}
 use mathlib.Core.Logic.{_⊎_, inl, inr}
 use Prim.Native.Nat.{ℕ, _*_, _^_, _≤_, _<_, min}
 use native.Mathlib.Omega.{arith}
-use lib.Dec.{eqb, lit<}
+use lib.Dec.{eqb, leb, lit<}
 use native.Mathlib.Nat as N
 use lib.IntN.{ℤ}
 use lib.Signed.{mag}
 use mir.Syntax.{w64}
 use mir.Val.{toZ, ofZ}
 use lib.ListN.{length, replicate}
-use borrow.Author.Tests.{eq-eqb, not-true, not-false}
+use borrow.Author.Tests.{eq-eqb, le-leb, not-true, not-false}
 use Rattle.integer.specs.Laws.Ring.{mag-le}
 use Rattle.refusal.specs.Register.{TOO_FEW}
 use Rattle.analysis.specs.Register.{CODES}
@@ -48,7 +48,7 @@ use Rattle.split.specs.declared.Search.the-variants.{Balanced, Unbalanced}
 use Rattle.split.specs.declared.Proposed.{Proposed}
 use Rattle.split.specs.declared.Proposed.the-variants.{Answered, Unfit}
 use Rattle.split.specs.declared.Found.{Found}
-use Rattle.outcome.specs.Records.{ROWS, fitsOf, recordsOf}
+use Rattle.outcome.specs.Records.{MOST_SYSTEMS, fitsOf, recordsOf}
 use Rattle.outcome.specs.Rate.{ROUNDS, FEWEST, mixOf, systemsFor, countFor, ratingRefusal, splitBy, splitAnswer}
 use Rattle.outcome.specs.Rate.{outcome, foundBy, foundOutcome, searched, searchOutcome}
 use Rattle.split.specs.Accuracy.{fit-few}
@@ -252,24 +252,19 @@ module _ (ch : List ℕ) (k : ℕ) (mix : List ℕ) (n1 : ℕ) where
 
 -- ---- a proposed split: whether its records fit, and the answer to its cells
 
--- as many as there is room for count
-rows-room : (k : ℕ) → 3 * k ≤ RECORDS → min k ROWS ≡ k
-rows-room k h = omega arith
-
 module _ (ch : List ℕ) (k : ℕ) (mix : List ℕ) (n1 : ℕ) (p : Split) (b : Bool)
-    (room : 3 * k ≤ RECORDS) (e : b ≡ fitsOf ch (min k ROWS) (p .count) (p .systems) (p .codes)) where
+    (room : 3 * k ≤ RECORDS) (e : b ≡ (leb k MOST_SYSTEMS && fitsOf ch k (p .count) (p .systems) (p .codes))) where
   same : b ≡ fitsOf ch k (p .count) (p .systems) (p .codes)
-  same = e ∙ ap (λ (n : ℕ). fitsOf ch n (p .count) (p .systems) (p .codes)) (rows-room k room)
+  same = e ∙ rw (le-leb k MOST_SYSTEMS (omega arith))
 
   pub split-misfit : not b ≡ true → Refused 7 0 ≡ splitBy ch k mix n1 p
   split-misfit t = misfit ch k mix n1 p (sym same ∙ not-true b t)
 
   pub split-fitting : (cells : List ℕ) (r : Answer) (y : Proposed) → Proposal mix ch k n1 → not b ≡ false
-      → cells ≡ cellsOf ch (min k ROWS) (p .amounts)
+      → cells ≡ cellsOf ch k (p .amounts)
       → y ≡ proposedAnswer LIMIT ch k mix cells n1 → y ≡ Answered r → r ≡ splitBy ch k mix n1 p
   split-fitting cells r y h t q z u =
-      answered-is ch k mix n1 LIMIT cells h y z r u ∙ fitting ch k mix n1 p cells (sym same ∙ not-false b t)
-      (q ∙ ap (λ (n : ℕ). cellsOf ch n (p .amounts)) (rows-room k room))
+      answered-is ch k mix n1 LIMIT cells h y z r u ∙ fitting ch k mix n1 p cells (sym same ∙ not-false b t) q
 
 pub found-none : (ch : List ℕ) (k n1 : ℕ) (f : Found) → f .search ≡ Unbalanced
     → outcome (Refused 11 0) noSplit ≡ foundOutcome ch k n1 f
@@ -311,11 +306,12 @@ search-away-is a allowance number code r t e =
     (search-away a allowance number code t, t .fault)
 
 pub found-is-some : (ch : List ℕ) (k n1 : ℕ) (f : Found) (s r : ℕ) (w w′ : ℤ) (p : Split) → f .search ≡ Balanced s r
-    → 3 * k ≤ RECORDS → w′ ≡ w → w ≡ ratingOf ch k (f .cells) n1 → p ≡ recordsOf ch (min k ROWS) (f .cells)
+    → 3 * k ≤ RECORDS → w′ ≡ w → w ≡ ratingOf ch k (f .cells) n1 → p ≡ recordsOf ch (min k MOST_SYSTEMS) (f .cells)
     → outcome (Rated w′ s r) p ≡ foundOutcome ch k n1 f
 found-is-some ch k n1 f s r w w′ p e room same q h =
+    let all : min k MOST_SYSTEMS ≡ k = omega arith in
     ap₂ (λ (x : ℤ) (y : Split). outcome (Rated x s r) y) (same ∙ q)
-    (h ∙ ap (λ (n : ℕ). recordsOf ch n (f .cells)) (rows-room k room))
+    (h ∙ ap (λ (n : ℕ). recordsOf ch n (f .cells)) all)
     ∙ found-some ch k n1 f s r e
 
 -- a rating in its 64 bits

@@ -18,7 +18,7 @@ use Rattle.sheet.specs.declared.Sheet.{Sheet}
 use Rattle.split.specs.AnswerCases.{numberOf, faultOf}
 use Rattle.split.specs.declared.Answer.{Answer}
 use Rattle.split.specs.declared.Answer.the-variants.{Rated, Refused}
-use Rattle.outcome.specs.Rate.{splitAnswer, outcome, searchOutcome, sheetOutcomeBy, sheetOutcome}
+use Rattle.outcome.specs.Rate.{ROUNDS, splitAnswer, outcome, searchOutcome, sheetOutcomeBy, sheetOutcome}
 use Rattle.outcome.specs.Laws.Ends.{RatedOrFew, split-in-range, search-in-range, read-passed, not-five}
 use Rattle.outcome.specs.declared.Outcome.{Outcome}
 
@@ -65,9 +65,9 @@ module _ (s : List ℕ) (r : Sheet) (h : ReadAs s r) (e : r .answer ≡ reading.
   ends : RatedOrFew (sheetOutcomeBy reading.Read (r .analysis .amounts) (r .split) 0 .answer)
   ends = go (eqb (r .split .count) 0)
     where
-      go : (t : Bool) → RatedOrFew (cond t (searchOutcome (r .analysis .amounts) 4000 0)
+      go : (t : Bool) → RatedOrFew (cond t (searchOutcome (r .analysis .amounts) ROUNDS 0)
           (outcome (splitAnswer (r .analysis .amounts) (r .split) 0) noSplit) .answer)
-      go true = search-in-range (r .analysis .amounts) 0 passed 4000
+      go true = search-in-range (r .analysis .amounts) 0 passed ROUNDS
       go false = split-in-range (r .analysis .amounts) 0 passed (r .split)
 
   module _ (o : Outcome) (q : o ≡ sheetOutcomeBy reading.Read (r .analysis .amounts) (r .split) 0) where

@@ -17,7 +17,7 @@ use Rattle.systems.specs.Systems.{COMPONENTS}
 use Rattle.split.specs.Split.{SYSTEMS, CELLS, Sound}
 use Rattle.split.specs.Move.{componentOf, giverOf, takerOf, movedOf}
 use Rattle.split.specs.Inner.Moves.{MayMove}
-use Rattle.split.specs.Laws.Tests.{Between}
+use Rattle.split.specs.Laws.Tests.{BetweenRows}
 use Rattle.split.specs.Laws.Steps.{bt, component-low, sound-moved}
 use Rattle.split_rows.specs.Rows.{listed}
 use Rattle.split_rows.specs.Inner.Small.{Small}
@@ -57,7 +57,7 @@ module _ (ch : List ℕ) (k : ℕ) (a : List ℕ) (d m : ℕ) (n : List ℤ) (he
   abbrev so : Sound ch k a
   so = held .sound
 
-  between : Between ch k m
+  between : BetweenRows ch k m
   between = bt ch k a d m so fit
 
   low : componentOf m < COMPONENTS

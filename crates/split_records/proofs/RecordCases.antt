@@ -1,15 +1,16 @@
--- The records of a split and its cells: the packed tables, the arrays as they fill, and the cases of the definitions.
--- Assumes nothing.
+-- The records of a split and its cells: the components and their packed codes, the arrays as they fill, and the cases
+-- of the definitions. Assumes nothing.
 use Prim.Native.Nat.{ℕ, zero, suc, _+_, _*_, _-_, _/_, _%_, _^_, _≤_, _<_, min, max}
 use mathlib.Core.Path.{_≡_, refl, sym, ap, ap₂, _∙_, subst}
 use mathlib.Core.Bool.{Bool, true, false, not, cond, _&&_}
 use mathlib.Core.List.{List}
 use native.Mathlib.Omega.{arith}
 use lib.Ieee.Fits.{and-l}
-use lib.Dec.{T, ltb, eqb, eqb→eq}
-use lib.ListN.{getD, set, length, replicate, length-set, getD-replicate}
+use lib.Dec.{T, ltb, leb, eqb, eqb→eq}
+use lib.ListN.{getD, set, length, replicate, length-set, getD-replicate, List·getD-eq-default}
 use lib.Seq.{getD-set-same, getD-set-other, ext-getD}
-use borrow.Author.Tests.{lt-ltb, le-ltb, ltb-true, ltb-false, eq-eqb, ne-eqb, eqb-true, eqb-false, not-true, not-false}
+use borrow.Author.Tests.{lt-ltb, le-ltb, le-leb, lt-leb, ltb-true, ltb-false, eq-eqb, ne-eqb, eqb-true, eqb-false}
+use borrow.Author.Tests.{not-true, not-false}
 use Rattle.systems.specs.Systems.{COMPONENTS, memberOf, hasOf, candidates, Candidate}
 use Rattle.systems.specs.Choice.{NUMBERS}
 use Rattle.systems.specs.Laws.Members.{member-none}
@@ -21,9 +22,11 @@ use Rattle.split.specs.Split.{amountAt, cellAt}
 use Rattle.split.specs.Laws.Folds.{first-holds}
 use Rattle.split.specs.Laws.Tables.{length-table, getD-table}
 use Rattle.split.specs.Laws.Clean.{held-row, row-held}
-use Rattle.split.specs.Laws.Places.{rank-lt, component-rank, component-lt, component-has, rank-component}
+use Rattle.split.specs.Laws.Places.{implies, of-implies, rank-lt, component-rank, component-lt, component-has}
+use Rattle.split.specs.Laws.Places.{rank-component}
 use Rattle.sheet.specs.declared.Split.{Split}
-use Rattle.outcome.specs.Records.{ROWS, splitCode, systemAt, codeAt, systemsOf, codesOf, matchesAt, fitsOf, recordsOf}
+use Rattle.outcome.specs.Records.{MOST_SYSTEMS, splitCode, systemAt, codeAt, systemsOf, codesOf, matchesAt, fitsOf}
+use Rattle.outcome.specs.Records.{recordsOf}
 
 -- ---- a system's members, rising
 
@@ -88,16 +91,8 @@ code-is packed t c h =
 
 -- ---- a system that contains a component is a candidate
 
-abbrev implies : Bool → Bool → Bool
-implies true y = y
-implies false y = true
-
-of-implies : (x y : Bool) → x ≡ true → T (implies x y) → T y
-of-implies true y e t = t
-of-implies false y e t = absurd (of-true false e)
-
-abbrev listed : ℕ → Bool
-listed system = everyTo (λ c. implies (hasOf system c) (isIn system candidates)) COMPONENTS
+abbrev offered : ℕ → Bool
+offered system = everyTo (λ c. implies (hasOf system c) (isIn system candidates)) COMPONENTS
 
 has-none : (system c : ℕ) → NUMBERS ≤ system → c < COMPONENTS → hasOf system c ≡ false
 unfolding hasOf
@@ -114,7 +109,7 @@ has-candidate system c h e = go (ltb system NUMBERS) refl
         record {
           listed = to-true (isIn system candidates) (of-implies (hasOf system c) (isIn system candidates) e
               (eachTo (λ c. implies (hasOf system c) (isIn system candidates)) COMPONENTS
-              (eachTo listed NUMBERS tt system (ltb-true system NUMBERS t)) c h));
+              (eachTo offered NUMBERS tt system (ltb-true system NUMBERS t)) c h));
         }
     go false t = absurd (of-true false (sym (has-none system c (ltb-false system NUMBERS t) h) ∙ e))
 
@@ -208,7 +203,7 @@ module _ (ch : List ℕ) (k : ℕ) (a : List ℕ) where
         amounted = part-none (amountAt ch k a);
       }
 
-  module _ (found codes amounts : List ℕ) (r last : ℕ) (e : last ≡ 3 * k) (room : k ≤ ROWS) where
+  module _ (found codes amounts : List ℕ) (r last : ℕ) (e : last ≡ 3 * k) (room : k ≤ MOST_SYSTEMS) where
     pub recorded-next : (c code : ℕ) → Recorded ch k a found codes amounts r → r < last
         → c ≡ componentAt (systemOf ch (r / 3)) (r % 3) → code ≡ splitCode c
         → Recorded ch k a (set found r (systemOf ch (r / 3))) (set codes r code) (set amounts r (cellOf a (r / 3) c))
@@ -249,15 +244,18 @@ pub record Celled (ch : List ℕ) (k : ℕ) (xs out : List ℕ) (r : ℕ) : Type
   long : length out ≡ CELLS
   put : (i : ℕ) → i < CELLS → heldOf ch k (i / COMPONENTS) (i % COMPONENTS) ≡ true → recordOf ch i < r
       → getD out i 0 ≡ getD xs (recordOf ch i) 0
+  later : (i : ℕ) → i < CELLS → heldOf ch k (i / COMPONENTS) (i % COMPONENTS) ≡ true → r ≤ recordOf ch i
+      → getD out i 0 ≡ 0
   rest : (i : ℕ) → i < CELLS → heldOf ch k (i / COMPONENTS) (i % COMPONENTS) ≡ false → getD out i 0 ≡ 0
 
-module _ (ch : List ℕ) (k : ℕ) (xs : List ℕ) (room : k ≤ ROWS) where
+module _ (ch : List ℕ) (k : ℕ) (xs : List ℕ) where
   pub celled-none : Celled ch k xs (replicate CELLS 0) 0
   celled-none =
       record {
         most = omega arith;
         long = refl;
         put = λ i l h b. absurd (omega arith);
+        later = λ i l h b. getD-replicate CELLS i 0 0 l;
         rest = λ i l h. getD-replicate
             CELLS i 0 0 l;
       }
@@ -280,7 +278,8 @@ module _ (ch : List ℕ) (k : ℕ) (xs : List ℕ) (room : k ≤ ROWS) where
       row-of s p l b = (omega arith, omega arith, omega arith)
 
   module _ (out : List ℕ) (r c : ℕ) (d : Celled ch k xs out r) (h : r < 3 * k)
-      (e : c ≡ componentAt (systemOf ch (r / 3)) (r % 3)) (known : Candidate (systemOf ch (r / 3))) where
+      (e : c ≡ componentAt (systemOf ch (r / 3)) (r % 3)) (known : Candidate (systemOf ch (r / 3)))
+      (room : r < RECORDS) where
     low : c < COMPONENTS
     low = rw e (component-lt (systemOf ch (r / 3)) known (r % 3) (omega arith))
 
@@ -335,6 +334,9 @@ module _ (ch : List ℕ) (k : ℕ) (xs : List ℕ) (room : k ≤ ROWS) where
           most = omega arith;
           long = length-set out (r / 3 * COMPONENTS + c) (getD xs r 0) ∙ d .long;
           put = λ i l b t. at i l b t (eqb i (r / 3 * COMPONENTS + c)) refl;
+          later =
+              λ i l b t. getD-set-other out (r / 3 * COMPONENTS + c) i (getD xs r 0) 0
+              (λ q. past (recordOf ch i) t (ap (recordOf ch) q ∙ record-is)) ∙ d .later i l b (down (recordOf ch i) t);
           rest =
               λ i l b. getD-set-other out (r / 3 * COMPONENTS + c) i (getD xs r 0) 0 (λ q. other i b q)
               ∙ d .rest i l b;
@@ -356,6 +358,12 @@ module _ (ch : List ℕ) (k : ℕ) (xs : List ℕ) (room : k ≤ ROWS) where
             below : (x : ℕ) → x < r + 1 → (x ≡ r → ⊥) → x < r
             below x t n = omega arith
 
+        past : (x : ℕ) → r + 1 ≤ x → x ≡ r → ⊥
+        past x t q = omega arith
+
+        down : (x : ℕ) → r + 1 ≤ x → r ≤ x
+        down x t = omega arith
+
         other : (i : ℕ) → heldOf ch k (i / COMPONENTS) (i % COMPONENTS) ≡ false → i ≡ r / 3 * COMPONENTS + c → ⊥
         other i b q =
             let t : heldOf ch k (i / COMPONENTS) (i % COMPONENTS) ≡ true =
@@ -364,32 +372,34 @@ module _ (ch : List ℕ) (k : ℕ) (xs : List ℕ) (room : k ≤ ROWS) where
             omega arith
 
   -- the jth record of row s, and a row's three
-  celled-at : (out : List ℕ) (s j c : ℕ) → Candidate (systemOf ch s) → s < k → j < 3 → Celled ch k xs out (3 * s + j)
+  celled-at : (out : List ℕ) (s j c : ℕ) → Candidate (systemOf ch s) → s < k → s < MOST_SYSTEMS → j < 3
+      → Celled ch k xs out (3 * s + j)
       → c ≡ componentAt (systemOf ch s) j
       → Celled ch k xs (set out (s * COMPONENTS + c) (getD xs (3 * s + j) 0)) (3 * s + j + 1)
-  celled-at out s j c known h l d e =
+  celled-at out s j c known h room l d e =
       let row : (3 * s + j) / 3 ≡ s = omega arith in
       let place : (3 * s + j) % 3 ≡ j = omega arith in
       subst (λ (x : ℕ). Celled ch k xs (set out (x * COMPONENTS + c) (getD xs (3 * s + j) 0)) (3 * s + j + 1)) row
       (celled-next out (3 * s + j) c d (omega arith)
       (e ∙ sym (ap₂ (λ (x y : ℕ). componentAt (systemOf ch x) y) row place))
-      (subst (λ (x : ℕ). Candidate (systemOf ch x)) (sym row) known))
+      (subst (λ (x : ℕ). Candidate (systemOf ch x)) (sym row) known) (omega arith))
 
-  pub celled-row : (out : List ℕ) (s c₀ c₁ c₂ : ℕ) → s < k → c₀ < COMPONENTS → Celled ch k xs out (3 * s)
+  pub celled-row : (out : List ℕ) (s c₀ c₁ c₂ : ℕ) → s < k → s < MOST_SYSTEMS → c₀ < COMPONENTS
+      → Celled ch k xs out (3 * s)
       → c₀ ≡ componentAt (systemOf ch s) 0 → c₁ ≡ componentAt (systemOf ch s) 1 → c₂ ≡ componentAt (systemOf ch s) 2
       → Celled ch k xs
       (set (set (set out (s * COMPONENTS + c₀) (getD xs (3 * s) 0)) (s * COMPONENTS + c₁) (getD xs (3 * s + 1) 0))
       (s * COMPONENTS + c₂) (getD xs (3 * s + 2) 0)) (3 * (s + 1))
-  celled-row out s c₀ c₁ c₂ h low d e₀ e₁ e₂ =
+  celled-row out s c₀ c₁ c₂ h room low d e₀ e₁ e₂ =
       let known = first-candidate (systemOf ch s) (omega (arith, e₀)) in
       let zeroth : 3 * s + 0 ≡ 3 * s = omega arith in
       let next : 3 * s + 0 + 1 ≡ 3 * s + 1 = omega arith in
       let after : 3 * s + 1 + 1 ≡ 3 * s + 2 = omega arith in
       let end : 3 * s + 2 + 1 ≡ 3 * (s + 1) = omega arith in
-      let first = celled-at out s 0 c₀ known h (omega arith) (subst (Celled ch k xs out) (sym zeroth) d) e₀ in
+      let first = celled-at out s 0 c₀ known h room (omega arith) (subst (Celled ch k xs out) (sym zeroth) d) e₀ in
       let moved = ap₂ (λ (x y : ℕ). Celled ch k xs (set out (s * COMPONENTS + c₀) (getD xs x 0)) y) zeroth next in
-      let second = celled-at _ s 1 c₁ known h (omega arith) (subst (λ (T : Type 0). T) moved first) e₁ in
-      let third = celled-at _ s 2 c₂ known h (omega arith) (subst (Celled ch k xs _) after second) e₂ in
+      let second = celled-at _ s 1 c₁ known h room (omega arith) (subst (λ (T : Type 0). T) moved first) e₁ in
+      let third = celled-at _ s 2 c₂ known h room (omega arith) (subst (Celled ch k xs _) after second) e₂ in
       subst (Celled ch k xs _) end third
 
   -- a row whose system is no candidate has no cell
@@ -400,9 +410,13 @@ module _ (ch : List ℕ) (k : ℕ) (xs : List ℕ) (room : k ≤ ROWS) where
         most = omega arith;
         long = d .long;
         put = λ i l b t. at i l b t (ltb (recordOf ch i) (3 * s)) refl;
+        later = λ i l b t. d .later i l b (down (recordOf ch i) t);
         rest = d .rest;
       }
     where
+      down : (x : ℕ) → 3 * (s + 1) ≤ x → 3 * s ≤ x
+      down x t = omega arith
+
       none : Candidate (systemOf ch s) → ⊥
       none known = let l = component-lt (systemOf ch s) known 0 (omega arith) in omega arith
 
@@ -417,9 +431,10 @@ module _ (ch : List ℕ) (k : ℕ) (xs : List ℕ) (room : k ≤ ROWS) where
           third : (r : ℕ) → 3 * s ≤ r → r < 3 * (s + 1) → r / 3 ≡ s
           third r below t = omega arith
 
-  pub celled-all : (out : List ℕ) (r : ℕ) → Celled ch k xs out r → 3 * k ≤ r → out ≡ cellsOf ch k xs
+  pub celled-all : (out : List ℕ) (s : ℕ) → length xs ≡ RECORDS → Celled ch k xs out (3 * s)
+      → min k MOST_SYSTEMS ≤ s → out ≡ cellsOf ch k xs
   unfolding cellsOf
-  celled-all out r d h =
+  celled-all out s size d h =
       ext-getD 0 out (table (cellAt ch k xs) CELLS 0) (d .long ∙ sym (length-table (cellAt ch k xs) CELLS 0))
       (λ i b.
       let l : i < CELLS = rw (d .long) at b in
@@ -427,9 +442,20 @@ module _ (ch : List ℕ) (k : ℕ) (xs : List ℕ) (room : k ≤ ROWS) where
       at i l (heldOf ch k (i / COMPONENTS) (i % COMPONENTS)) refl
       ∙ sym (getD-table (cellAt ch k xs) CELLS 0 i l ∙ ap (cellAt ch k xs) q))
     where
+      beyond : (x : ℕ) → 3 * s ≤ x → x < 3 * k → length xs ≤ x
+      beyond x t b = omega arith
+
+      held : (i : ℕ) → i < CELLS → heldOf ch k (i / COMPONENTS) (i % COMPONENTS) ≡ true
+          → (b : Bool) → ltb (recordOf ch i) (3 * s) ≡ b → getD out i 0 ≡ getD xs (recordOf ch i) 0
+      held i l e true q = d .put i l e (ltb-true (recordOf ch i) (3 * s) q)
+      held i l e false q =
+          let t = ltb-false (recordOf ch i) (3 * s) q in
+          d .later i l e t
+          ∙ sym (List·getD-eq-default xs 0 {n = recordOf ch i} (beyond (recordOf ch i) t (record-row i e .2)))
+
       at : (i : ℕ) → i < CELLS → (b : Bool) → heldOf ch k (i / COMPONENTS) (i % COMPONENTS) ≡ b
           → getD out i 0 ≡ cellAt ch k xs i
-      at i l true e = let t = record-row i e .2 in d .put i l e (omega arith) ∙ rw e
+      at i l true e = held i l e (ltb (recordOf ch i) (3 * s)) refl ∙ rw e
       at i l false e = d .rest i l e ∙ rw e
 
 -- ---- all of n, from the last down
@@ -454,9 +480,17 @@ unfolding allTo
 all-none p r h = let q : r ≡ 0 = omega arith in ap (allTo p) q
 
 module _ (ch : List ℕ) (k count : ℕ) (systems codes : List ℕ) where
-  pub fits-other : (rows : ℕ) → rows ≡ k → (count ≡ 3 * rows → ⊥) → fitsOf ch k count systems codes ≡ false
+  pub fits-other : (count ≡ 3 * k → ⊥) → fitsOf ch k count systems codes ≡ false
   unfolding fitsOf
-  fits-other rows e h = rw (ne-eqb count (3 * k) (λ q. h (q ∙ ap (λ (n : ℕ). 3 * n) (sym e))))
+  fits-other h = rw (ne-eqb count (3 * k) h)
+
+  -- where there is room for the systems, and where there is none
+  pub few-fits : (x : Bool) → k ≤ MOST_SYSTEMS → x ≡ fitsOf ch k count systems codes
+      → x ≡ (leb k MOST_SYSTEMS && fitsOf ch k count systems codes)
+  few-fits x h e = rw (le-leb k MOST_SYSTEMS h) e
+
+  pub many-misfit : MOST_SYSTEMS < k → false ≡ (leb k MOST_SYSTEMS && fitsOf ch k count systems codes)
+  many-misfit h = rw (lt-leb k MOST_SYSTEMS h)
 
   fits-all : count ≡ 3 * k → fitsOf ch k count systems codes ≡ allTo (matchesAt ch k systems codes) count
   unfolding fitsOf
@@ -476,12 +510,8 @@ module _ (ch : List ℕ) (k count : ℕ) (systems codes : List ℕ) where
     pub most : r ≤ 3 * k
     rest : fitsOf ch k count systems codes ≡ allTo (matchesAt ch k systems codes) r
 
-  pub fitting-none : (rows : ℕ) → rows ≡ k → count ≡ 3 * rows → Fitting (3 * rows)
-  fitting-none rows e h =
-      record {
-        most = omega arith;
-        rest = fits-all (h ∙ ap (λ (n : ℕ). 3 * n) e) ∙ ap (allTo (matchesAt ch k systems codes)) h;
-      }
+  pub fitting-none : count ≡ 3 * k → Fitting (3 * k)
+  fitting-none h = record { most = omega arith; rest = fits-all h ∙ ap (allTo (matchesAt ch k systems codes)) h }
 
   -- record r, as one of component c in row s
   abbrev recordFits : ℕ → ℕ → ℕ → Bool

@@ -1,27 +1,29 @@
 // The records of a split: whether they are those of the chosen systems, their amounts as cells, and cells as records.
-// The definitions are in crate `outcome`, Records, and in crate `split`, Split. No public function has a `requires`: of
-// more systems than a split has room for, the first count.
+// The definitions are in crate `outcome`, Records, and in crate `split`, Split. No public function has a `requires`.
+// Every choice is of candidates, and of no more than a split has room for; beside those, a number that is no candidate
+// has code 0 in its three records and no cells.
 ghost use mathlib.Core.Bool.{_&&_};
 ghost use mathlib.Core.Path.{_≡_};
 ghost use Prim.Native.Nat.{_<_, _≤_, min, max};
-ghost use lib.Dec.{eqb};
+ghost use lib.Dec.{eqb, leb};
 ghost use Rattle.systems.specs.Systems.{COMPONENTS};
 ghost use Rattle.split.specs.Split.{componentAt, cellsOf};
-ghost use Rattle.outcome.specs.Records.{ROWS, splitCode, fitsOf, recordsOf};
-ghost use Rattle.split_records.specs.Inner.Components.{Three};
+ghost use Rattle.outcome.specs.Records.{MOST_SYSTEMS, splitCode, fitsOf, recordsOf};
+ghost use Rattle.split_records.specs.Inner.Components.{RecordComponents};
 use sheet::RECORDS;
 use sheet::Split;
 use split::CELLS;
 use systems::COMPONENTS;
 use systems::SYSTEMS;
 
-// The most systems that a split has room for.
-const ROWS: usize = RECORDS / 3;
+// The most systems that a split has room for: as many as there are candidates.
+const MOST_SYSTEMS: usize = RECORDS / 3;
 
 // The components' codes in a split, a hexadecimal digit each, from the right: methane 1, ethane 2, propane 3, butane
 // 14, hydrogen 15; 0 for COMPONENTS.
-const CODES: u64 = 0xFE321;
+const SPLIT_CODES: u64 = 0xFE321;
 
+// The lesser and the greater of two numbers.
 fn lesser(a: usize, b: usize) -> usize
     ensures { λ r. ⌜ r ≡ min a b ⌝ }
 {
@@ -34,17 +36,17 @@ fn greater(a: usize, b: usize) -> usize
     if a < b { b } else { a }
 }
 
-// The components of a system's three records.
+// The components of a system's three records, rising.
 struct Components {
     first: usize,
     second: usize,
     third: usize,
 }
 
-// They rise, whatever their order in the formula, whose third is never the least. A number that is no candidate has
-// COMPONENTS three times.
+// A system's components in the order of its records, whatever their order in its formula: the formula's third is never
+// the least. A number that is no candidate has COMPONENTS three times.
 fn components_of(system: u8) -> Components
-    ensures { λ r. ⌜ Three system (r .first) (r .second) (r .third) ⌝ }
+    ensures { λ r. ⌜ RecordComponents system (r .first) (r .second) (r .third) ⌝ }
 {
     let a = systems::member(system, 0);
     let b = systems::member(system, 1);
@@ -80,17 +82,17 @@ fn code_of(c: usize) -> u8
     requires { ⌜ c ≤ COMPONENTS ⌝ }
     ensures { λ r. ⌜ r ≡ splitCode c ⌝ }
 {
-    ((CODES >> (c * 4)) % 16) as u8
+    ((SPLIT_CODES >> (c * 4)) % 16) as u8
 }
 
-// The split of the cells, as records.
+// The split of the cells, as records, of as many systems as it has room for.
 pub fn split_of(systems: [u8; SYSTEMS], count: usize, cells: [u32; CELLS]) -> Split
-    ensures { λ r. ⌜ r ≡ recordsOf systems (min count ROWS) cells ⌝ }
+    ensures { λ r. ⌜ r ≡ recordsOf systems (min count MOST_SYSTEMS) cells ⌝ }
 {
     let mut named = [0u8; RECORDS];
     let mut codes = [0u8; RECORDS];
     let mut amounts = [0u32; RECORDS];
-    let last = 3 * lesser(count, ROWS);
+    let last = 3 * lesser(count, MOST_SYSTEMS);
     let mut r = 0;
     while r < last {
         let s = r / 3;
@@ -110,12 +112,12 @@ pub fn split_of(systems: [u8; SYSTEMS], count: usize, cells: [u32; CELLS]) -> Sp
     }
 }
 
-// The records' amounts in their cells, system by system.
+// The records' amounts in their cells, system by system; 0 where there is no record.
 pub fn cells_of(systems: [u8; SYSTEMS], count: usize, amounts: [u32; RECORDS]) -> [u32; CELLS]
-    ensures { λ r. ⌜ r ≡ cellsOf systems (min count ROWS) amounts ⌝ }
+    ensures { λ r. ⌜ r ≡ cellsOf systems count amounts ⌝ }
 {
     let mut out = [0u32; CELLS];
-    let rows = lesser(count, ROWS);
+    let rows = lesser(count, MOST_SYSTEMS);
     let mut s = 0;
     while s < rows {
         let system = systems[s];
@@ -141,7 +143,7 @@ fn matches(system: u8, c: usize, named: u8, code: u8) -> bool
     (named == system) & (code == code_of(c))
 }
 
-// Whether the records, so many of each system and code, are those of the chosen systems.
+// Whether the records, so many of each system and code, are those of the chosen systems, for which there is room.
 pub fn fits(
     systems: [u8; SYSTEMS],
     count: usize,
@@ -149,13 +151,15 @@ pub fn fits(
     named: [u8; RECORDS],
     codes: [u8; RECORDS],
 ) -> bool
-    ensures { λ r. ⌜ r ≡ fitsOf systems (min count ROWS) records named codes ⌝ }
+    ensures { λ r. ⌜ r ≡ (leb count MOST_SYSTEMS && fitsOf systems count records named codes) ⌝ }
 {
-    let rows = lesser(count, ROWS);
-    if records != 3 * rows {
+    if MOST_SYSTEMS < count {
         return false;
     }
-    let mut s = rows;
+    if records != 3 * count {
+        return false;
+    }
+    let mut s = count;
     while 0 < s {
         s -= 1;
         let system = systems[s];

@@ -6,13 +6,10 @@ use lib.Dec.{ltb, leb}
 use lib.IntN.{ℤ, pos}
 use lib.ListN.{getD, replicate}
 use Rattle.refusal.specs.Keys.{isIn}
-use Rattle.refusal.specs.Register.{NO_SYSTEM}
-use Rattle.ternary.specs.Answer.{isMixture, formulaOf}
-use Rattle.ternary.specs.declared.Partial.{Partial}
-use Rattle.ternary.specs.declared.Partial.the-variants.{Refused}
-use Rattle.systems.specs.Systems.{candidates, memberOf}
+use Rattle.ternary.specs.Answer.{isMixture}
+use Rattle.systems.specs.Systems.{candidates}
 use Rattle.split.specs.Fold.{allTo}
-use Rattle.split.specs.Split.{SYSTEMS, cellOf, systemOf, partsOf, rowNumber}
+use Rattle.split.specs.Split.{SYSTEMS, systemOf, partsOf, rowNumber}
 use Rattle.split_rows.specs.declared.Rows.{Rows}
 
 -- a list of numbers as a function

@@ -13,7 +13,7 @@ ghost use Rattle.split.specs.Split.{SYSTEMS, cellOf};
 ghost use Rattle.split.specs.Find.{chosenFit, mixtureFit};
 ghost use Rattle.split.specs.Rating.{spreadOf};
 ghost use Rattle.split_rows.specs.Rows.{listed, none, rowsOf};
-ghost use Rattle.split_rows.specs.Inner.Row.{partsBy, answerIn};
+ghost use Rattle.split_rows.specs.Inner.Row.{partsBy, answerBy};
 use refusal::NO_SYSTEM;
 use split::CELLS;
 use systems::COMPONENTS;
@@ -106,7 +106,7 @@ fn amount(system: u8, cells: &[u32; CELLS], s: usize, j: usize) -> u32
 // Row s's partial number, or why it has none.
 fn answer(system: u8, cells: &[u32; CELLS], s: usize) -> Partial
     requires { ⌜ s < SYSTEMS ⌝ }
-    ensures { λ r. ⌜ r ≡ answerIn system (now (cells .entry)) s ⌝ }
+    ensures { λ r. ⌜ r ≡ answerBy system (now (cells .entry)) s ⌝ }
 {
     if !is_candidate(system) {
         return Partial::Refused(NO_SYSTEM);

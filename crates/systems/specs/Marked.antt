@@ -10,15 +10,15 @@ use Rattle.systems.specs.Choice.{listOf, chosenOf, chooseOf, fitnessOf, 
 use Rattle.systems.specs.Choice.{presentOf, presentIn, maskOf, maskFrom, candidatesOf}
 
 -- its simplified mixture
-abbrev pub tableA1 : List ℕ
-tableA1 = 979229 ∷ 16803 ∷ 2438 ∷ 1530 ∷ 0 ∷ []
+abbrev pub tableA1Mixture : List ℕ
+tableA1Mixture = 979229 ∷ 16803 ∷ 2438 ∷ 1530 ∷ 0 ∷ []
 
-pub fitness : (fitnessOf tableA1 2 ≡ 1608265) × (fitnessOf tableA1 4 ≡ 48458257)
-    × (fitnessOf tableA1 7 ≡ 47351032) × (fitnessOf tableA1 8 ≡ 48416217)
+pub fitness : (fitnessOf tableA1Mixture 2 ≡ 1608265) × (fitnessOf tableA1Mixture 4 ≡ 48458257)
+    × (fitnessOf tableA1Mixture 7 ≡ 47351032) × (fitnessOf tableA1Mixture 8 ≡ 48416217)
 unfolding fitnessOf memberOf
 fitness = (refl, refl, refl, refl)
 
-pub choice : chooseOf tableA1 ≡ 4 ∷ 7 ∷ 8 ∷ []
+pub choice : chooseOf tableA1Mixture ≡ 4 ∷ 7 ∷ 8 ∷ []
 unfolding chooseOf marksOf passOf takeOf containingOf fittestOf betterOf scoreOf chosenOf listOf fold fitnessOf
     standingOf weightedTo keep inMask presentOf presentIn maskOf maskFrom ones hasOf memberOf candidatesOf
 choice = refl

@@ -30,7 +30,7 @@ floor-unique z (pos q) d r h e = ap (λ (y : ℤ). floorOver y d) e ∙ ap pos (
 floor-unique z (negsuc q) d r h e =
     ap (λ (y : ℤ). floorOver y d) (e ∙ neg-split q d r h) ∙ ap negsuc (quot q d (d - 1 - r) (omega arith))
 
--- what it leaves, from 0 to below d
+-- the remainder of rounding down, from 0 to below d
 abbrev pub restOver : ℤ → ℕ → ℕ
 restOver (pos a) d = a % d
 restOver (negsuc a) d = d - 1 - a % d

@@ -12,7 +12,7 @@ use Rattle.split.specs.Split.{systemOf}
 use Rattle.split.specs.Rating.{spreadOf}
 use Rattle.split.specs.Move.{componentOf, giverOf, betweenOf}
 use Rattle.split.specs.Search.{foundOf}
-use Rattle.split.specs.Laws.Tests.{Between, between-true}
+use Rattle.split.specs.Laws.Tests.{BetweenRows, between-true}
 use Rattle.split.specs.declared.Turn.{Turn}
 use Rattle.split.specs.declared.Turn.the-variants.{Rate, Refuse, Move, Halve}
 use Rattle.split.specs.declared.Search.the-variants.{Balanced, Unbalanced}
@@ -33,7 +33,7 @@ none-of-hydrogen ch k without m e = go (betweenOf ch k m) refl
     go : (x : Bool) → betweenOf ch k m ≡ x → x ≡ false
     go false f = refl
     go true f =
-        let b : Between ch k m = between-true ch k m f in
+        let b : BetweenRows ch k m = between-true ch k m f in
         sym (b .gives) ∙ ap (hasOf (systemOf ch (giverOf m))) e ∙ without .lacks (giverOf m) (b .from)
 
 -- what is done is the same wherever the first move is, or where there is none

@@ -17,7 +17,7 @@ use Rattle.split.specs.declared.Turn.the-variants.{Move}
 use Rattle.split.specs.Laws.Tables.{length-table, getD-table}
 use Rattle.split.specs.Laws.Clean.{row-held}
 use Rattle.split.specs.Inner.Moves.{MayMove}
-use Rattle.split.specs.Laws.Tests.{Between}
+use Rattle.split.specs.Laws.Tests.{BetweenRows}
 use Rattle.split.specs.Laws.Moves.{cell-same}
 use Rattle.split.specs.Laws.Steps.{bt, component-low}
 use Rattle.split.specs.Laws.Turns.{moves, sound-step}
@@ -56,7 +56,7 @@ module _ (ch : List ℕ) (k : ℕ) (a : List ℕ) (d m : ℕ) (so : Sound ch k a
   pub moved-clean : Clean ch k a → Clean ch k (movedOf a m d)
   unfolding movedOf
   moved-clean cl =
-      let b : Between ch k m = bt ch k a d m so fit in
+      let b : BetweenRows ch k m = bt ch k a d m so fit in
       record {
         none = λ s c l e.
             cell-same a (giverOf m) (takerOf m) (componentOf m) d (so .stock .long) (omega arith) (omega arith)

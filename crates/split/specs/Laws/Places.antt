@@ -10,11 +10,11 @@ use Rattle.systems.specs.Laws.Table.{everyTo, eachTo, each-candidate, of-true, 
 use Rattle.split.specs.Fold.{sumTo, first}
 use Rattle.split.specs.Split.{rankOf, componentAt}
 
-abbrev implies : Bool → Bool → Bool
+abbrev pub implies : Bool → Bool → Bool
 implies true y = y
 implies false y = true
 
-of-implies : (x y : Bool) → x ≡ true → T (implies x y) → T y
+pub of-implies : (x y : Bool) → x ≡ true → T (implies x y) → T y
 of-implies true y e t = t
 of-implies false y e t = absurd (of-true false e)
 

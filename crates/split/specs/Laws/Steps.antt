@@ -14,7 +14,7 @@ use Rattle.split.specs.Laws.Members.{Three}
 use Rattle.split.specs.Laws.Moves.{taken-fits, sound-after, number-other, column-same, cell-column}
 use Rattle.split.specs.Laws.Moves.{cell-giver, cell-taker}
 use Rattle.split.specs.Inner.Moves.{MayMove}
-use Rattle.split.specs.Laws.Tests.{Between, between-true, Affords, affords-true}
+use Rattle.split.specs.Laws.Tests.{BetweenRows, between-true, Affords, affords-true}
 use Rattle.split.specs.Inner.Steps.{insteadOf, numberWith}
 
 -- cells b that differ from a in row s at component c only, where b has n
@@ -41,7 +41,7 @@ module _ (a b : List ℕ) (s c n : ℕ) (w : Changed a b s c n) where
       )
 
 module _ (ch : List ℕ) (k : ℕ) (a : List ℕ) (d m : ℕ) (so : Sound ch k a) (fit : MayMove ch k a d m) where
-  pub bt : Between ch k m
+  pub bt : BetweenRows ch k m
   bt = between-true ch k m (fit .between)
 
   pub af : Affords ch k m a d

@@ -13,14 +13,14 @@ use Rattle.split.specs.Inner.Moves.{MayMove}
 
 module _ (ch : List ℕ) (k m : ℕ) where
   -- what is so of a move between two rows
-  pub record Between : Type 0 where
+  pub record BetweenRows : Type 0 where
     pub from : giverOf m < k
     pub to : takerOf m < k
     pub apart : giverOf m ≡ takerOf m → ⊥
     pub gives : hasOf (systemOf ch (giverOf m)) (componentOf m) ≡ true
     pub takes : hasOf (systemOf ch (takerOf m)) (componentOf m) ≡ true
 
-  pub between-true : betweenOf ch k m ≡ true → Between
+  pub between-true : betweenOf ch k m ≡ true → BetweenRows
   unfolding betweenOf
   between-true e =
       let p = both-right (ltb (giverOf m) k) _ e in
@@ -65,7 +65,7 @@ module _ (ch : List ℕ) (k m : ℕ) where
 
     -- what is so of a move that is made
     pub record Can : Type 0 where
-      pub between : Between
+      pub between : BetweenRows
       pub affords : Affords
       pub lowers : lowersOf ch k a d m ≡ true
 

@@ -1,15 +1,14 @@
 -- `split_records::cells_of` meets its contract. Assumes nothing.
-use Prim.Native.Nat.{_*_, _-_, min}
+use Prim.Native.Nat.{_*_, _-_}
 use mathlib.Core.Logic.{⊎-elim}
 use native.Mathlib.Omega.{arith}
 use borrow.Author.Needs.{needs}
-use Rattle.outcome.specs.Records.{ROWS}
 use Rattle.split_records.proofs.RecordCases.{Celled, celled-none, celled-row, celled-over, celled-all}
 use Rattle.split_records.proofs.cells_of.Statement.{statement}
 use Rattle.split_records.proofs.cells_of.Tie as tie
 
 abbrev Inv-loop : tie.InvT-loop
-Inv-loop count systems amounts out₀ rows s₀ out s = Celled systems (min count ROWS) amounts out (3 * s)
+Inv-loop count systems amounts out₀ rows s₀ out s = Celled systems count amounts out (3 * s)
 
 abbrev μ-loop : tie.MeasureT-loop
 μ-loop count systems amounts out₀ rows s₀ out s = rows - s
@@ -18,7 +17,7 @@ lesser-requires : tie.Need-lesser-requires Inv-loop μ-loop
 lesser-requires c κs = search needs
 
 loop-holds : tie.Need-loop-holds Inv-loop μ-loop
-loop-holds c = celled-none _ _ _ (omega arith)
+loop-holds c = celled-none _ _ _
 
 array-read-system : tie.Need-array-read-system Inv-loop μ-loop
 array-read-system c = search needs
@@ -97,15 +96,15 @@ loop-again c =
     let n = l .before .lesser .ensures in
     ⊎-elim
     (λ w. rw (w .3)
-    (celled-row _ _ _ (omega arith) _ _ _ _ _ (omega (arith, t, n)) (w .0 .taken) (l .loop .inv)
+    (celled-row _ _ _ _ _ _ _ _ (omega (arith, t, n)) (omega (arith, t, n)) (w .0 .taken) (l .loop .inv)
     (e .first-is) (e .second-is) (e .third-is)))
     (λ w. rw (w .1)
-    (celled-over _ _ _ (omega arith) _ _ _ (omega (arith, t, n)) (w .0 .left) (l .loop .inv) (e .first-is)))
+    (celled-over _ _ _ _ _ _ (omega (arith, t, n)) (w .0 .left) (l .loop .inv) (e .first-is)))
     (c .if1 .came)
 
 returns : tie.Need-returns Inv-loop μ-loop
 returns c =
-    celled-all _ _ _ (omega arith) _ _ (c .before .loop .inv)
+    celled-all _ _ _ _ _ (search needs) (c .before .loop .inv)
     (omega (arith, c .loop-test .left, c .before .before .lesser .ensures))
 
 pub cells-of-spec : {M : Type 1} → statement M

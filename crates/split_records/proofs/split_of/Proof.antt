@@ -3,14 +3,14 @@ use Prim.Native.Nat.{ℕ, _*_, _-_, min}
 use mathlib.Core.Path.{ap}
 use native.Mathlib.Omega.{arith}
 use borrow.Author.Needs.{needs}
-use Rattle.outcome.specs.Records.{ROWS}
+use Rattle.outcome.specs.Records.{MOST_SYSTEMS}
 use Rattle.split_records.proofs.RecordCases.{Recorded, recorded-none, recorded-next, recorded-all}
 use Rattle.split_records.proofs.split_of.Statement.{statement}
 use Rattle.split_records.proofs.split_of.Tie as tie
 
 abbrev Inv-loop : tie.InvT-loop
 Inv-loop count systems cells named₀ codes₀ amounts₀ last r₀ named codes amounts r =
-    Recorded systems (min count ROWS) cells named codes amounts r
+    Recorded systems (min count MOST_SYSTEMS) cells named codes amounts r
 
 abbrev μ-loop : tie.MeasureT-loop
 μ-loop count systems cells named₀ codes₀ amounts₀ last r₀ named codes amounts r = last - r

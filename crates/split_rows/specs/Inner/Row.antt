@@ -1,4 +1,4 @@
--- A row as its own function has it, by the number of its system. Assumes nothing.
+-- What `parts` and `answer` give of a row, by the number of its system. Assumes nothing.
 use Prim.Native.Nat.{ℕ, _+_}
 use mathlib.Core.List.{List}
 use mathlib.Core.Bool.{cond}
@@ -16,8 +16,8 @@ partsBy system cells s =
     cellOf cells s (memberOf system 0) + cellOf cells s (memberOf system 1) + cellOf cells s (memberOf system 2)
 
 -- its partial number, or why it has none
-unfoldable pub answerIn : ℕ → List ℕ → ℕ → Partial
-answerIn system cells s =
+unfoldable pub answerBy : ℕ → List ℕ → ℕ → Partial
+answerBy system cells s =
     cond (isIn system candidates)
     (formulaOf system (cellOf cells s (memberOf system 0)) (cellOf cells s (memberOf system 1))
     (cellOf cells s (memberOf system 2)))

@@ -34,7 +34,7 @@ use Rattle.split.specs.Rating.{someEmpty, spreadOf}
 use Rattle.split.specs.Laws.Rows.{parts-few}
 use Rattle.split.specs.Laws.Fits.{empty-no}
 use Rattle.split_rows.specs.Rows.{listed, rowFit, rowsFit, upTo, none, rowsOf}
-use Rattle.split_rows.specs.Inner.Row.{partsBy, answerIn}
+use Rattle.split_rows.specs.Inner.Row.{partsBy, answerBy}
 use Rattle.split_rows.specs.Inner.Small.{Small}
 use Rattle.split_rows.specs.Inner.Carried.{Held}
 use Rattle.split_rows.specs.declared.Rows.{Rows}
@@ -108,16 +108,16 @@ module _ (system : ℕ) (a : List ℕ) (s : ℕ) where
   abbrev n3 : ℕ
   n3 = cellOf a s (memberOf system 2)
 
-  pub no-candidate : isIn system candidates ≡ false → Refused 13 ≡ answerIn system a s
-  unfolding answerIn
-  no-candidate e = sym (rw (e, answerIn))
+  pub no-candidate : isIn system candidates ≡ false → Refused 13 ≡ answerBy system a s
+  unfolding answerBy
+  no-candidate e = sym (rw (e, answerBy))
 
-  pub candidate-answer : isIn system candidates ≡ true → formulaOf system n1 n2 n3 ≡ answerIn system a s
-  unfolding answerIn
-  candidate-answer e = sym (rw (e, answerIn))
+  pub candidate-answer : isIn system candidates ≡ true → formulaOf system n1 n2 n3 ≡ answerBy system a s
+  unfolding answerBy
+  candidate-answer e = sym (rw (e, answerBy))
 
   pub answer-is : (w x y z : ℕ) → w ≡ system → x ≡ n1 → y ≡ n2 → z ≡ n3 → isIn system candidates ≡ true
-      → formulaOf w x y z ≡ answerIn system a s
+      → formulaOf w x y z ≡ answerBy system a s
   answer-is w x y z o p q r e = rw (o, p, q, r) (candidate-answer e)
 
   -- a number is that of a candidate at a mixture
@@ -128,9 +128,9 @@ module _ (system : ℕ) (a : List ℕ) (s : ℕ) where
     pub few : partsBy system a s ≤ MILLION
     pub value : x ≡ partialNumber system n1 n2 n3
 
-  module _ (p : Partial) (q : p ≡ answerIn system a s) where
+  module _ (p : Partial) (q : p ≡ answerBy system a s) where
     pub worked : (x : ℤ) → p ≡ Number x → Worked x
-    unfolding partsBy answerIn
+    unfolding partsBy answerBy
     worked x u = go (isIn system candidates) (isMixture (n1 + n2 + n3)) refl refl
       where
         go : (b m : Bool) → isIn system candidates ≡ b → isMixture (n1 + n2 + n3) ≡ m → Worked x
@@ -149,7 +149,7 @@ module _ (system : ℕ) (a : List ℕ) (s : ℕ) where
             absurd (let z : _≡_ {A = ℕ} 0 1 = cc in omega arith)
 
     pub refused : (n : ℕ) → p ≡ Refused n → (isIn system candidates && isMixture (partsBy system a s)) ≡ false
-    unfolding partsBy answerIn
+    unfolding partsBy answerBy
     refused n u = go (isIn system candidates) (isMixture (n1 + n2 + n3)) refl refl
       where
         go : (b m : Bool) → isIn system candidates ≡ b → isMixture (n1 + n2 + n3) ≡ m
@@ -170,7 +170,7 @@ module _ (ch a : List ℕ) where
   unfolding allTo
   none-tested = refl
 
-  module _ (s : ℕ) (p : Partial) (q : p ≡ answerIn (systemOf ch s) a s) where
+  module _ (s : ℕ) (p : Partial) (q : p ≡ answerBy (systemOf ch s) a s) where
     pub row-unfit : (n : ℕ) → p ≡ Refused n → rowFit ch a s ≡ false
     unfolding rowFit partsOf partsBy
     row-unfit n u = refused (systemOf ch s) a s p q n u

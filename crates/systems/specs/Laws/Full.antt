@@ -12,7 +12,7 @@ use lib.ListN.{getD, set, replicate}
 use borrow.Author.Tests.{ltb-true, ltb-false, lt-ltb, le-ltb}
 use Rattle.refusal.specs.Keys.{isIn}
 use Rattle.systems.specs.Systems.{COMPONENTS, HYDROGEN, memberOf, hasOf, candidates, hydrocarbonSystems}
-use Rattle.systems.specs.Laws.Table.{of-true, every, each, none-has, in-here, in-there}
+use Rattle.systems.specs.Laws.Table.{of-true, every, every-at, none-has, in-here, in-there}
 use Rattle.systems.specs.Laws.Scores.{score-open, score-closed, better-cases}
 use Rattle.systems.specs.Laws.Presence.{standing-fitter, choose-is}
 use Rattle.systems.specs.Without.{HYDROCARBONS, present-before}
@@ -118,7 +118,7 @@ module _ (mix : List ℕ) (p : ℕ) (is : presentOf mix ≡ p) (systems componen
     (three : T (every (threeIn p) systems)) (low : T (every (λ c. ltb c COMPONENTS) components)) where
   three-in : (s : ℕ) → isIn s systems ≡ true → presentIn (presentOf mix) s ≡ 3
   unfolding threeIn
-  three-in s e = ap (λ m. presentIn m s) is ∙ eqb→eq (presentIn p s) 3 (each (threeIn p) systems three s e)
+  three-in s e = ap (λ m. presentIn m s) is ∙ eqb→eq (presentIn p s) 3 (every-at (threeIn p) systems three s e)
 
   by-fitness : chooseBy (standingOf mix) systems components ≡ chooseBy (fitnessOf mix) systems components
   by-fitness =

@@ -13,7 +13,7 @@ use lib.Pow.{shr-shr}
 use borrow.Author.Tests.{eqb-true, eqb-false, ltb-true, ltb-false, lt-ltb, le-ltb}
 use Rattle.refusal.specs.Keys.{isIn}
 use Rattle.systems.specs.Systems.{COMPONENTS, HYDROGEN, memberOf, hasOf, candidates}
-use Rattle.systems.specs.Laws.Table.{of-true, to-true, each}
+use Rattle.systems.specs.Laws.Table.{of-true, to-true, every-at}
 use Rattle.systems.specs.Choice.{countTo, fitnessOf, weightedTo, maskFrom, inMask, presentAt, presentOf}
 use Rattle.systems.specs.Choice.{presentCount, maskOf, presentIn, standingOf, candidatesFor, candidatesOf}
 use Rattle.systems.specs.Choice.{order, keep, chooseBy, chooseOf}
@@ -165,7 +165,7 @@ count-some P f (suc n) h k = go (f n) refl (λ l. count-some P f n l (λ c i e. 
     go true e r = k n (omega arith) e
     go false e r = r (let z : 1 ≤ countTo f n + cond false 1 0 = rw e at h in omega arith)
 
--- there is one in each system with components present
+-- there is one in every-at system with components present
 pub supply : (mix : List ℕ) (system : ℕ) → 1 ≤ presentIn (presentOf mix) system → Supply mix system
 supply mix system h =
     count-some (Supply mix system) (λ c. hasOf system c && presentAt mix c) COMPONENTS
@@ -181,7 +181,7 @@ supply mix system h =
 
 -- ---- the standing
 
--- what holds at each of a list's numbers
+-- what holds at every-at of a list's numbers
 unfoldable pub Every : (ℕ → Type 0) → List ℕ → Type 0
 Every P [] = 0 ≤ 0
 Every P (x ∷ xs) = P x × Every P xs
@@ -210,8 +210,8 @@ unfolding candidatesOf listed isIn
 offered-candidate present s = go (inMask present HYDROGEN)
   where
     go : (hydrogen : Bool) → isIn s (candidatesFor hydrogen) ≡ true → isIn s candidates ≡ true
-    go true e = to-true (listed s) (each listed (candidatesFor true) tt s e)
-    go false e = to-true (listed s) (each listed (candidatesFor false) tt s e)
+    go true e = to-true (listed s) (every-at listed (candidatesFor true) tt s e)
+    go false e = to-true (listed s) (every-at listed (candidatesFor false) tt s e)
 
 -- no candidate's fitness is above that of everything
 pub fitness-le : (mix : List ℕ) (s : ℕ) → isIn s candidates ≡ true → fitnessOf mix s ≤ weightedTo mix COMPONENTS

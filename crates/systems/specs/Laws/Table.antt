@@ -25,28 +25,28 @@ beq-is true false t = absurd t
 beq-is false true t = absurd t
 beq-is false false t = refl
 
--- the test passes at each number of the list
+-- the test passes at every-at number of the list
 abbrev pub every : (ℕ → Bool) → List ℕ → Bool
 every f [] = true
 every f (x ∷ xs) = f x && every f xs
 
-pub each : (f : ℕ → Bool) (xs : List ℕ) → T (every f xs) → (n : ℕ) → isIn n xs ≡ true → T (f n)
+pub every-at : (f : ℕ → Bool) (xs : List ℕ) → T (every f xs) → (n : ℕ) → isIn n xs ≡ true → T (f n)
 unfolding isIn
-each f [] t n h = absurd (of-true false h)
-each f (x ∷ xs) t n h =
+every-at f [] t n h = absurd (of-true false h)
+every-at f (x ∷ xs) t n h =
     go (eqb n x) refl (λ e. rw (eqb-true n x e) (and-l (f x) (every f xs) t))
-    (λ e. each f xs (and-r (f x) (every f xs) t) n (rw (e, isIn) at h))
+    (λ e. every-at f xs (and-r (f x) (every f xs) t) n (rw (e, isIn) at h))
   where
     go : (b : Bool) → eqb n x ≡ b → (eqb n x ≡ true → T (f n)) → (eqb n x ≡ false → T (f n)) → T (f n)
     go true e p q = p e
     go false e p q = q e
 
--- a test that passes at each candidate
+-- a test that passes at every-at candidate
 pub each-candidate : (f : ℕ → Bool) → T (every f candidates) → (system : ℕ) → Candidate system
     → T (f system)
-each-candidate f t system k = each f candidates t system (k .listed)
+each-candidate f t system k = every-at f candidates t system (k .listed)
 
--- the test passes at each number below n
+-- the test passes at every-at number below n
 abbrev pub everyTo : (ℕ → Bool) → ℕ → Bool
 everyTo f zero = true
 everyTo f (suc n) = f n && everyTo f n
