@@ -1,4 +1,4 @@
--- What holds whichever of the highest ranking systems every-at component takes holds of a pass by any key that puts higher
+-- What holds whichever of the highest ranking systems each component takes holds of a pass by any key that puts higher
 -- ranks first. Assumes nothing.
 use Prim.Native.Nat.{ℕ, _≤_, _<_}
 use mathlib.Core.Path.{_≡_, refl}
@@ -49,11 +49,11 @@ every-of f (x ∷ xs) h =
 abbrev pub topOf : (ℕ → ℕ) → List ℕ → List Bool → ℕ → ℕ → Bool
 topOf rank systems marks c s = openOf marks c s && every (λ t. not (openOf marks c t) || leb (rank t) (rank s)) systems
 
--- a test passes at every-at of the systems that can be taken and that rank highest
+-- a test passes at each of the systems that can be taken and that rank highest
 abbrev pub eachTop : (ℕ → ℕ) → List ℕ → List Bool → ℕ → (ℕ → Bool) → Bool
 eachTop rank systems marks c test = every (λ s. not (topOf rank systems marks c s) || test s) systems
 
--- `good` holds in the end, whichever of the highest ranking systems every-at component takes
+-- `good` holds in the end, whichever of the highest ranking systems each component takes
 abbrev pub always : (List Bool → Bool) → (ℕ → ℕ) → List ℕ → ℕ → List ℕ → List Bool → Bool
 always good rank systems wanted [] marks = good marks
 always good rank systems wanted (c ∷ cs) marks =
@@ -85,7 +85,7 @@ module _ (key rank : ℕ → ℕ) (systems : List ℕ) (r : T (rises 0 systems))
             go true q = let h = before best t e (ltb-true (rank best) (rank t) q) in absurd (omega arith)
             go false q = ltb-false (rank best) (rank t) q
 
-    -- so what holds of every-at such system holds of the fittest
+    -- so what holds of each such system holds of the fittest
     fittest-passes : (test : ℕ → Bool) → T (not (openOf marks c 0)) → T (some (openOf marks c) systems)
         → T (eachTop rank systems marks c test) → T (test best)
     fittest-passes test n u t =
@@ -96,7 +96,7 @@ module _ (key rank : ℕ → ℕ) (systems : List ℕ) (r : T (rises 0 systems))
         passed (topOf rank systems marks c best) (test best)
         (every-at (λ s. not (topOf rank systems marks c s) || test s) systems t best (f .listed)) (fittest-top f))
 
-  -- what holds whichever system every-at component takes holds of the pass
+  -- what holds whichever system each component takes holds of the pass
   module _ (good : List Bool → Bool) (wanted : ℕ) where
     -- what holds in the end where the next component has taken a system
     abbrev taken : List ℕ → List Bool → ℕ → Bool

@@ -165,7 +165,7 @@ count-some P f (suc n) h k = go (f n) refl (λ l. count-some P f n l (λ c i e. 
     go true e r = k n (omega arith) e
     go false e r = r (let z : 1 ≤ countTo f n + cond false 1 0 = rw e at h in omega arith)
 
--- there is one in every-at system with components present
+-- there is one in each system with components present
 pub supply : (mix : List ℕ) (system : ℕ) → 1 ≤ presentIn (presentOf mix) system → Supply mix system
 supply mix system h =
     count-some (Supply mix system) (λ c. hasOf system c && presentAt mix c) COMPONENTS
@@ -181,7 +181,7 @@ supply mix system h =
 
 -- ---- the standing
 
--- what holds at every-at of a list's numbers
+-- what holds at each of a list's numbers
 unfoldable pub Every : (ℕ → Type 0) → List ℕ → Type 0
 Every P [] = 0 ≤ 0
 Every P (x ∷ xs) = P x × Every P xs

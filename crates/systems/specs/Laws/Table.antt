@@ -25,7 +25,7 @@ beq-is true false t = absurd t
 beq-is false true t = absurd t
 beq-is false false t = refl
 
--- the test passes at every-at number of the list
+-- the test passes at each number of the list
 abbrev pub every : (ℕ → Bool) → List ℕ → Bool
 every f [] = true
 every f (x ∷ xs) = f x && every f xs
@@ -41,12 +41,12 @@ every-at f (x ∷ xs) t n h =
     go true e p q = p e
     go false e p q = q e
 
--- a test that passes at every-at candidate
+-- a test that passes at each candidate
 pub each-candidate : (f : ℕ → Bool) → T (every f candidates) → (system : ℕ) → Candidate system
     → T (f system)
 each-candidate f t system k = every-at f candidates t system (k .listed)
 
--- the test passes at every-at number below n
+-- the test passes at each number below n
 abbrev pub everyTo : (ℕ → Bool) → ℕ → Bool
 everyTo f zero = true
 everyTo f (suc n) = f n && everyTo f n
