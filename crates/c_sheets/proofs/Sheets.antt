@@ -6,7 +6,6 @@ use Prim.Native.Nat.{ℕ}
 use native.Mathlib.Omega.{arith}
 use lib.Dec.{eqb}
 use lib.ListN.{length}
-use borrow.Author.Tests.{eq-eqb, ne-eqb}
 use Rattle.analysis.specs.Check.{AtFault}
 use Rattle.sheet.specs.Sheet.{sheetOf}
 use Rattle.sheet.specs.ReadingCases as read
@@ -124,10 +123,3 @@ module _ (s : List ℕ) (r : Sheet) (h : ReadAs s r) (e : r .answer ≡ reading.
 
   pub is-read : {A : Type 0} → (new now old : A) → now ≡ new → now ≡ readOr (readOf s 0 .answer) new old
   is-read new now old q = q ∙ sym (ap (λ (x : Reading). readOr x new old) good)
-
--- the place is the code with 5, else the record's
-pub place-five : (number place code : ℕ) → number ≡ 5 → code ≡ read.placeOf (reading.Refused number place code)
-place-five number place code e = sym (rw (eq-eqb number 5 e))
-
-pub place-other : (number place code : ℕ) → (number ≡ 5 → ⊥) → place ≡ read.placeOf (reading.Refused number place code)
-place-other number place code e = sym (rw (ne-eqb number 5 e))

@@ -6,14 +6,13 @@ ghost use mathlib.Core.Path.{_≡_};
 ghost use Rattle.analysis.specs.Check.{AtFault};
 ghost use Rattle.sheet.specs.Read.{readOf, FaultInSheet};
 ghost use Rattle.sheet.specs.Write.{writtenOf, leftOf};
-ghost use Rattle.sheet.specs.declared.Reading.the-variants.{Refused};
 ghost use Rattle.c_reply.specs.Interface.{codeIn, splitFrom, size, readReply, readOr, writtenReply, writtenLength};
 use analysis::Analysis;
 use analysis::CODES;
 use c_reply::Reply;
 use c_reply::refused;
 use c_reply::split_from;
-use refusal::OUT_OF_RANGE;
+use refusal::carried;
 use sheet::RECORDS;
 use sheet::Reading;
 use sheet::Written;
@@ -43,7 +42,7 @@ pub fn read_sheet(
         place,
         code,
     } = answer {
-        return read_refused(number, place, code);
+        return refused(number, carried(number, code, place));
     }
     let read_amounts = read.analysis.amounts;
     *amounts = read_amounts;
@@ -57,16 +56,6 @@ pub fn read_sheet(
     Reply {
         number: 0,
         place: 0,
-    }
-}
-
-// The reply to a sheet that is turned away: the code at fault with 5, else the record's place.
-fn read_refused(number: u32, place: u32, code: u32) -> Reply
-    ensures { λ r. ⌜ r ≡ readReply (Refused number place code) ⌝ }
-{
-    Reply {
-        number,
-        place: if number == OUT_OF_RANGE { code } else { place },
     }
 }
 

@@ -1,4 +1,4 @@
--- What each number of a system is answered: whether it is one, its row of the table, its ranges. Assumes nothing.
+-- What each number of a system is answered: whether it is one, and its row of the table. Assumes nothing.
 use mathlib.Core.Path.{_≡_, refl, sym, ap, _∙_, subst, subst⁻¹}
 use mathlib.Core.Bool.{Bool, true, false, cond, _&&_}
 use mathlib.Core.List.{List, [], _∷_}
@@ -13,9 +13,8 @@ use borrow.Author.Tests.{eqb-true, eqb-false}
 use Rattle.refusal.specs.Keys.{isIn}
 use Rattle.formula.specs.WorkingRule.{sumAbs}
 use Rattle.formula.specs.Coefficients.{printed, tables, placeIn, keepsRule, isSystem, tableOf}
-use Rattle.formula.specs.Ranges.{ranges, full, rangesOf}
 use Rattle.formula.specs.Laws.Agree.{values, agree}
-use Rattle.coefficients.proofs.Numbers.{Apart, each, not-in, no-place, above}
+use Rattle.formula.specs.Laws.Numbers.{Apart, each, not-in, none-printed}
 
 -- ---- which numbers are systems
 
@@ -26,13 +25,10 @@ bit word s = eqb (word / 2 ^ s % 2) 1
 pub bit-is : (word : ℕ) → values (bit word) 0 21 ≡ values isSystem 0 21 → (s : ℕ) → s < 21 → bit word s ≡ isSystem s
 bit-is word t s h = agree (bit word) isSystem 0 21 t s zero-le (omega arith)
 
-beyond : (s : ℕ) → 21 ≤ s → Apart s printed
-beyond s h = above s 21 printed tt h
-
 pub none-beyond : (s : ℕ) → 21 ≤ s → false ≡ isSystem s
 unfolding isSystem isIn
 none-beyond s h =
-    sym (ap (λ (b : Bool). b && keepsRule (getD tables (placeIn printed s) [])) (not-in s printed (beyond s h)))
+    sym (ap (λ (b : Bool). b && keepsRule (getD tables (placeIn printed s) [])) (not-in s printed (none-printed s h)))
 
 -- ---- a system's row of the table
 
@@ -63,26 +59,3 @@ no-system s a = at (isSystem s) refl
 pub no-row : (s : ℕ) → Apart s all → replicate 20 (pos 0) ≡ tableOf s
 unfolding tableOf
 no-row s a = sym (ap (λ (b : Bool). cond b (getD tables (placeIn printed s) []) (replicate 20 (pos 0))) (no-system s a))
-
--- ---- a system's ranges
-
--- a row at k numbers from lo on
-pub ranges-run : (p lo k : ℕ) → values (λ _. getD ranges p []) lo k ≡ values rangesOf lo k
-    → (t : List (List ℕ)) (s : ℕ) → t ≡ ranges → lo ≤ s → s < lo + k → getD t p [] ≡ rangesOf s
-ranges-run p lo k c t s e h l = ap (λ u. getD u p []) e ∙ agree (λ _. getD ranges p []) rangesOf lo k c s h l
-
--- at 20
-pub ranges-20 : (p : ℕ) → getD ranges p [] ≡ rangesOf 20 → (t : List (List ℕ)) (s : ℕ) → t ≡ ranges → s ≡ 20
-    → getD t p [] ≡ rangesOf s
-ranges-20 p here t s e h = ap (λ u. getD u p []) e ∙ here ∙ ap rangesOf (sym h)
-
--- at 19 and above 20
-pub ranges-19 : (p : ℕ) → getD ranges p [] ≡ full → (t : List (List ℕ)) (s : ℕ) → t ≡ ranges → 19 ≤ s → (s ≡ 20 → ⊥)
-    → getD t p [] ≡ rangesOf s
-unfolding rangesOf placeIn
-ranges-19 p here t s q h n = ap (λ u. getD u p []) q ∙ here ∙ at (eqb s 19) refl
-  where
-    at : (b : Bool) → eqb s 19 ≡ b → full ≡ rangesOf s
-    at true e = ap rangesOf (sym (eqb-true s 19 e))
-    at false e =
-        sym (ap (λ (p : ℕ). getD ranges p full) (no-place s printed (beyond s (omega (arith, n, eqb-false s 19 e)))))

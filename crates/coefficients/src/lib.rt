@@ -1,11 +1,9 @@
-// The systems of 000 Table A.2: which there are, their coefficients, their ranges of validity. The definitions are in
-// crate `formula`, Coefficients and Ranges. No public function has a `requires`.
-mod ranges;
+// The systems of 000 Table A.2: which there are, and their coefficients. The definitions are in crate `formula`,
+// Coefficients. No public function has a `requires`.
 mod table;
 
 ghost use mathlib.Core.Path.{_≡_};
 ghost use Rattle.formula.specs.Coefficients.{isSystem, tableOf};
-ghost use Rattle.formula.specs.Ranges.{rangesOf};
 
 // System numbers are below this one.
 const NUMBERS: u32 = 21;
@@ -50,20 +48,5 @@ pub fn of_system(system: u32) -> [i64; 20]
         18 => t[17],
         20 => t[18],
         _ => [0; 20],
-    }
-}
-
-// The least and the greatest share of a system's three components, in percent; 0 to 100 where Table A.2 has no such
-// system. Rows that are alike are read at one place.
-pub fn ranges_of(system: u32) -> [u8; 6]
-    ensures { λ r. ⌜ r ≡ rangesOf system ⌝ }
-{
-    let t = ranges::whole();
-    match system {
-        9..=11 => t[8],
-        12..=16 => t[11],
-        17..=18 => t[16],
-        20 => t[18],
-        _ => t[0],
     }
 }

@@ -22,6 +22,7 @@ use mathlib.Core.List.{List}
 use Prim.Native.Nat.{ℕ, _+_, _*_, _≤_, _<_}
 use native.Mathlib.Omega.{arith}
 use borrow.Author.Tests.{lt-ltb}
+use lib.Dec.{T}
 use lib.IntN.{ℤ, natAbs, _-ℤ_}
 use lib.ListN.{getD, length}
 use Rattle.integer.specs.Fraction.{Fraction, Within}
@@ -52,11 +53,12 @@ use Rattle.split.specs.declared.Answer.the-variants.{Rated, Refused}
 use Rattle.outcome.specs.Records.{systemAt, codeAt, systemsOf, codesOf, fitsOf}
 use Rattle.outcome.specs.Rate.{mixOf, systemsFor, countFor, outcome, splitAnswer, searchOutcome, sheetOutcome}
 use Rattle.outcome.specs.RatedOn.{InRange, RatedOn}
+use Rattle.outcome.specs.Misfit.{refused-7-exactly-when}
 use Rattle.outcome.specs.Laws.RatedOn.{on-exactly-when, too-few}
 use Rattle.outcome.specs.Laws.Ready.{choosable, chosen, room, filled, million, inert-million}
 use Rattle.outcome.specs.Laws.Ends.{read-passed, split-ends, split-few-exactly-when, search-few-exactly-when}
 use Rattle.outcome.specs.declared.Outcome.{Outcome}
-use Rattle.demand.specs.Laws.Answers.{expected-fit, fits-expected, expected-fits, split-by-records}
+use Rattle.demand.specs.Laws.Answers.{written-fits, fits-expected, expected-fits, split-passed, split-by-records}
 use Rattle.demand.specs.Laws.Answers.{split-fits, split-rated, found-back}
 use Rattle.demand.specs.Laws.Sheets.{accepted-ends, read-own, read-few, sheet-ends}
 use Rattle.demand.specs.RatedSheets.{analysisIn, splitRated, sheet-split}
@@ -137,7 +139,7 @@ pub record Expected (analysis : List ℕ) (p : Split) : Type 0 where
 pub proposal-expected : (analysis : List ℕ) → RatedOn analysis → (amounts : List ℕ)
     → Expected analysis (proposal analysis amounts)
 proposal-expected analysis on amounts =
-    let x = fits-expected _ _ _ _ _ (expected-fit (systemsFor analysis) (countFor analysis) (room analysis on)) in
+    let x = fits-expected _ _ _ _ _ (written-fits (systemsFor analysis) (countFor analysis) (room analysis on)) in
     record { many = x .0; systems = x .1; codes = x .2 }
 
 -- the amounts by chosen system and component: what the system in place s is given of component c, which are 0 methane,
@@ -227,13 +229,39 @@ rated-with analysis on amounts code h =
     (inertFirst analysis) (is-fit analysis amounts h) in
     (e ∙ fitted, near-spread LIMIT (number analysis amounts) (countFor analysis) (h .2))
 
+-- a split's records fit exactly when they are those expected
+abbrev fits : List ℕ → Split → Bool
+fits analysis p = fitsOf (systemsFor analysis) (countFor analysis) (p .count) (p .systems) (p .codes)
+
+expected-fit : (analysis : List ℕ) (p : Split) → Expected analysis p → fits analysis p ≡ true
+expected-fit analysis p x = expected-fits _ _ _ (p .systems) (p .codes) (x .many) (x .systems) (x .codes)
+
+fit-expected : (analysis : List ℕ) (p : Split) → fits analysis p ≡ true → Expected analysis p
+fit-expected analysis p e =
+    let x = fits-expected (systemsFor analysis) (countFor analysis) (p .count) (p .systems) (p .codes) e in
+    record { many = x .0; systems = x .1; codes = x .2 }
+
 --     a split in any records at all is answered as those amounts are where the records are those expected,
 pub expected-same : (analysis : List ℕ) → RatedOn analysis → (p : Split) (code : ℕ) → Expected analysis p
     → splitAnswer analysis p code ≡ splitAnswer analysis (proposal analysis (p .amounts)) code
 expected-same analysis on p code x =
-    let fits = expected-fits _ _ _ (p .systems) (p .codes) (x .many) (x .systems) (x .codes) in
-    split-by-records analysis p code true on fits
+    split-by-records analysis p code true on (expected-fit analysis p x)
     ∙ sym (split-fits analysis (proposal analysis (p .amounts)) code on refl refl refl)
+
+--     is refused 7 exactly where they are not,
+pub misfit-exactly-when : (analysis : List ℕ) → RatedOn analysis → (p : Split) (code : ℕ)
+    → (splitAnswer analysis p code ≡ Refused 7 0) ↔ (Expected analysis p → ⊥)
+misfit-exactly-when analysis on p code =
+    let same = split-passed analysis p code on in
+    let (misfit, seven) =
+    refused-7-exactly-when (systemsFor analysis) (countFor analysis) (mixOf analysis) (inertFirst analysis) p in (
+      λ h x. absurd (subst T (sym (expected-fit analysis p x) ∙ misfit (sym same ∙ h)) tt),
+      λ n. same ∙ seven (go n (fits analysis p) refl),
+    )
+  where
+    go : (Expected analysis p → ⊥) → (b : Bool) → fits analysis p ≡ b → fits analysis p ≡ false
+    go n true e = absurd (n (fit-expected analysis p e))
+    go n false e = e
 
 --     and is rated exactly when they are, and the amounts keep the three
 pub records-rated-exactly-when : (analysis : List ℕ) → RatedOn analysis → (p : Split) (code : ℕ)
@@ -249,19 +277,11 @@ records-rated-exactly-when analysis on p code =
       λ h. subst IsRated (sym (expected-same analysis on p code (h .0))) (when (h .1, h .2, h .3)),
     )
   where
-    fits : Bool
-    fits = fitsOf (systemsFor analysis) (countFor analysis) (p .count) (p .systems) (p .codes)
-
-    known : fits ≡ true → Expected analysis p
-    known e =
-        let x = fits-expected (systemsFor analysis) (countFor analysis) (p .count) (p .systems) (p .codes) e in
-        record { many = x .0; systems = x .1; codes = x .2 }
-
     expected : IsRated (splitAnswer analysis p code) → Expected analysis p
-    expected r = go fits refl
+    expected r = go (fits analysis p) refl
       where
-        go : (b : Bool) → fits ≡ b → Expected analysis p
-        go true e = known e
+        go : (b : Bool) → fits analysis p ≡ b → Expected analysis p
+        go true e = fit-expected analysis p e
         go false e = absurd (subst IsRated (split-by-records analysis p code false on e) r)
 
 -- ---- (2) a found split, put back as a proposal for the same analysis, gets the same rating and the same spread

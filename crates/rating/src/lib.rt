@@ -7,7 +7,6 @@ ghost use Prim.Native.Nat.{_*_, _≤_, min};
 ghost use Rattle.analysis.specs.Check.{analysisRefusal, AtFault};
 ghost use Rattle.sheet.specs.Split.{noSplit};
 ghost use Rattle.sheet.specs.Read.{FaultInSheet};
-ghost use Rattle.sheet.specs.ReadingCases.{placeOf};
 ghost use Rattle.sheet.specs.declared.Reading.the-variants.{Read};
 ghost use Rattle.split.specs.Split.{RECORDS};
 ghost use Rattle.split.specs.AnswerCases.{numberOf, faultOf};
@@ -21,9 +20,9 @@ use analysis::Analysis;
 use analysis::Checked;
 use outcome::Outcome;
 use refusal::MISFIT;
-use refusal::OUT_OF_RANGE;
 use refusal::TOO_FEW;
 use refusal::UNBALANCED;
+use refusal::carried;
 use sheet::RECORDS;
 use sheet::Reading;
 use sheet::Split;
@@ -230,13 +229,6 @@ fn at_most(allowance: u32) -> u32
     } else {
         ROUNDS
     }
-}
-
-// The code at fault with 5, else the record's place.
-fn carried(number: u32, code: u32, place: u32) -> u32
-    ensures { λ r. ⌜ r ≡ placeOf (Reading.Refused number place code) ⌝ }
-{
-    if number == OUT_OF_RANGE { code } else { place }
 }
 
 fn refused(number: u32, place: u32) -> Outcome

@@ -1,5 +1,8 @@
 // The refusals' numbers, by the words of document 01, "What is turned away". The register with when each is tested is
-// specs/Register.antt, and what every register of keys keeps to is specs/Keys.antt.
+// specs/Register.antt, and what every register of keys keeps to is specs/Keys.antt. No public function has a
+// `requires`.
+ghost use mathlib.Core.Path.{_≡_};
+ghost use Rattle.refusal.specs.Register.{carried};
 
 pub const TORN: u32 = 1;
 
@@ -32,3 +35,10 @@ pub const SHORT_BLANK: u32 = 14;
 pub const TOO_FEW: u32 = 16;
 
 pub const SHARE: u32 = 17;
+
+// What a refusal carries: the code at fault with 5, else the record's place.
+pub fn carried(number: u32, code: u32, place: u32) -> u32
+    ensures { λ r. ⌜ r ≡ carried number code place ⌝ }
+{
+    if number == OUT_OF_RANGE { code } else { place }
+}

@@ -484,7 +484,15 @@ module _ (ch : List ℕ) (k count : ℕ) (systems codes : List ℕ) where
   unfolding fitsOf
   fits-other h = rw (ne-eqb count (3 * k) h)
 
-  -- where there is room for the systems, and where there is none
+  -- records that do not fit, whether there is room for the systems or not
+  pub misfit : false ≡ fitsOf ch k count systems codes → false ≡ (leb k MOST_SYSTEMS && fitsOf ch k count systems codes)
+  misfit h = go (leb k MOST_SYSTEMS)
+    where
+      go : (b : Bool) → false ≡ (b && fitsOf ch k count systems codes)
+      go true = h
+      go false = refl
+
+  -- where there is room, and where there is none
   pub few-fits : (x : Bool) → k ≤ MOST_SYSTEMS → x ≡ fitsOf ch k count systems codes
       → x ≡ (leb k MOST_SYSTEMS && fitsOf ch k count systems codes)
   few-fits x h e = rw (le-leb k MOST_SYSTEMS h) e

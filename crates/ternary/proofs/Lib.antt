@@ -1,7 +1,7 @@
 pub mod Bits
 pub mod Combine
 pub mod Estimate
+pub mod OutOfRange
 pub mod Rows
-pub mod Shares
 pub mod Signs
 pub mod Tables

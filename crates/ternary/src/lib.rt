@@ -1,5 +1,5 @@
 // Partial numbers of the ternary systems (000 A.3.4). The definitions of the formulas, of the working rule and of the
-// ranges are in crate `formula`; those of the answers are in specs/Answer.
+// ranges are in crate `formula`; those of the answers are in specs/Answer. Crate `ranges` tests the shares.
 //
 // A part is 0.0001 % by volume, a unit 0.0000001 of a methane number: document 01's own terms.
 // No public function has a `requires`.
@@ -11,10 +11,11 @@ ghost use mathlib.Core.Bool.{true, cond};
 ghost use Prim.Native.Nat.{_+_, _-_, _≤_};
 ghost use Rattle.refusal.specs.Register.{NO_MIXTURE, NO_SYSTEM, SHARE};
 ghost use Rattle.formula.specs.Coefficients.{isSystem};
-ghost use Rattle.formula.specs.Ranges.{shareIn, sharesInRange};
 ghost use Rattle.ternary.specs.PartialCases.{numberOf};
 ghost use Rattle.ternary.specs.Answer.{isMixture, formulaRefusal, formulaOf, partialRefusal, partialOf};
 use coefficients::is_system;
+use ranges::in_range;
+use ranges::sum;
 use refusal::NO_MIXTURE;
 use refusal::NO_SYSTEM;
 use refusal::SHARE;
@@ -53,48 +54,11 @@ pub fn formula_number(system: u32, n1: u32, n2: u32, n3: u32) -> Partial
     Partial::Refused(NO_SYSTEM)
 }
 
-// Up to this number no system has a range that a share could leave.
-const FULL: u32 = 8;
-
-// Whether the shares of three amounts lie in a system's ranges of validity.
-pub fn in_range(system: u32, n1: u32, n2: u32, n3: u32) -> bool
-    ensures { λ r. ⌜ r ≡ sharesInRange system n1 n2 n3 ⌝ }
-{
-    if system <= FULL {
-        return true;
-    }
-    let r = coefficients::ranges_of(system);
-    let d = sum(n1, n2, n3);
-    if !share_in(r[0], r[1], n1, d) {
-        return false;
-    }
-    if !share_in(r[2], r[3], n2, d) {
-        return false;
-    }
-    share_in(r[4], r[5], n3, d)
-}
-
 // Whether amounts of sum d are a mixture's.
 fn is_mixture(d: u64) -> bool
     ensures { λ r. ⌜ r ≡ isMixture d ⌝ }
 {
     0 < d && d <= MILLION
-}
-
-// The amounts, added.
-fn sum(n1: u32, n2: u32, n3: u32) -> u64
-    ensures { λ r. ⌜ r ≡ n1 + n2 + n3 ⌝ }
-{
-    n1 as u64 + n2 as u64 + n3 as u64
-}
-
-// Whether n / d lies between two percents.
-fn share_in(least: u8, greatest: u8, n: u32, d: u64) -> bool
-    requires { ⌜ d ≤ 12884901885 ⌝ }
-    ensures { λ r. ⌜ r ≡ shareIn least greatest n d ⌝ }
-{
-    let parts = 100 * n as u64;
-    least as u64 * d <= parts && parts <= greatest as u64 * d
 }
 
 // Why amounts of sum d whose shares lie outside the ranges have no partial number.

@@ -1,8 +1,9 @@
 -- `c_sheets::read_sheet` meets its contract. Assumes nothing.
-use mathlib.Core.Path.{_≡_, ap}
+use mathlib.Core.Path.{_≡_, ap, _∙_}
 use native.Mathlib.Omega.{arith}
 use Prim.Native.Nat.{ℕ}
 use Rattle.sheet.specs.declared.Sheet.{Sheet}
+use Rattle.c_reply.specs.Interface.{reply}
 use Rattle.c_sheets.proofs.Sheets.{whole, read-done, is-read, reply-refused, stays, read-fault}
 use borrow.Author.Needs.{needs}
 use Rattle.c_sheets.proofs.read_sheet.Statement.{statement}
@@ -14,15 +15,19 @@ read-requires c κs = search needs
 enum-known-answer : tie.Need-enum-known-answer
 enum-known-answer c = search needs
 
-read-refused-requires : tie.Need-read-refused-requires
-read-refused-requires c κs = search needs
+carried-requires : tie.Need-carried-requires
+carried-requires c κs = search needs
+
+refused-requires : tie.Need-refused-requires
+refused-requires c κs = search needs
 
 returns : tie.Need-returns
 returns c =
-    let h = c .before .before .before .before .read .ensures in
-    let e = c .before .before .answer .given .1 in
-    let o = c .read-refused .result in
-    let q = c .read-refused .ensures in (
+    let k = c .before .before .before in
+    let h = k .before .before .read .ensures in
+    let e = k .answer .given .1 in
+    let o = c .refused .result in
+    let q = c .refused .ensures ∙ ap (reply _) (c .before .carried .ensures) in (
       (
         reply-refused _ _ h _ _ _ e o q,
         stays _ _ h _ _ _ e o q _ _,
@@ -56,4 +61,4 @@ returns-2 c =
 pub read-sheet-spec : {M : Type 1} → statement M
 read-sheet-spec =
     tie.close
-    (tie.spec read-requires enum-known-answer read-refused-requires returns enum-told returns-2)
+    (tie.spec read-requires enum-known-answer carried-requires refused-requires returns enum-told returns-2)

@@ -36,9 +36,9 @@ use Rattle.outcome.specs.Laws.Ready.{room, shared, input}
 use Rattle.outcome.specs.declared.Outcome.{Outcome}
 
 -- the records expected of the chosen systems fit
-pub expected-fit : (ch : List ℕ) (k : ℕ) → 3 * k ≤ RECORDS → fitsOf ch k (3 * k) (systemsOf ch k) (codesOf ch k) ≡ true
+pub written-fits : (ch : List ℕ) (k : ℕ) → 3 * k ≤ RECORDS → fitsOf ch k (3 * k) (systemsOf ch k) (codesOf ch k) ≡ true
 unfolding fitsOf matchesAt systemsOf codesOf
-expected-fit ch k h =
+written-fits ch k h =
     rw (eq-eqb (3 * k) (3 * k) refl) (all-of (matchesAt ch k (systemsOf ch k) (codesOf ch k)) (3 * k) each)
   where
     each : (r : ℕ) → r < 3 * k → matchesAt ch k (systemsOf ch k) (codesOf ch k) r ≡ true
@@ -84,7 +84,14 @@ module _ (ch : List ℕ) (k count : ℕ) (systems codes : List ℕ) where
 
 -- ---- a proposed split
 
--- of an analysis that is rated on: 7 where its records do not fit, else the answer to its cells
+-- of an analysis that is rated on: the answer of its chosen systems
+pub split-passed : (a : List ℕ) (p : Split) (code : ℕ) → RatedOn a
+    → splitAnswer a p code ≡ splitBy (systemsFor a) (countFor a) (mixOf a) (inertFirst a) p
+unfolding splitAnswer
+split-passed a p code passed =
+    ap (λ (n : ℕ). checkedBy n code (splitBy (systemsFor a) (countFor a) (mixOf a) (inertFirst a) p)) passed
+
+-- 7 where its records do not fit, else the answer to its cells
 pub split-by-records : (a : List ℕ) (p : Split) (code : ℕ) (fits : Bool) → RatedOn a
     → fitsOf (systemsFor a) (countFor a) (p .count) (p .systems) (p .codes) ≡ fits
     → let cells = cellsOf (systemsFor a) (countFor a) (p .amounts) in
@@ -98,10 +105,10 @@ pub split-fits : (a : List ℕ) (p : Split) (code : ℕ) → RatedOn a → p .co
     → p .systems ≡ systemsOf (systemsFor a) (countFor a) → p .codes ≡ codesOf (systemsFor a) (countFor a)
     → splitAnswer a p code ≡ proposedOf LIMIT (systemsFor a) (countFor a) (mixOf a)
     (cellsOf (systemsFor a) (countFor a) (p .amounts)) (inertFirst a)
-unfolding splitAnswer splitBy
+unfolding splitBy
 split-fits a p code passed c s d =
-    ap (λ (n : ℕ). checkedBy n code (splitBy (systemsFor a) (countFor a) (mixOf a) (inertFirst a) p)) passed
-    ∙ rw (c, s, d, expected-fit (systemsFor a) (countFor a) (room a passed))
+    split-passed a p code passed
+    ∙ rw (c, s, d, written-fits (systemsFor a) (countFor a) (room a passed))
 
 -- a rating says that 5, 6 and 16 let the analysis pass, and is that of the cells
 pub split-rated : (a : List ℕ) (p : Split) (code : ℕ) (w : ℤ) (s r : ℕ) → splitAnswer a p code ≡ Rated w s r

@@ -302,7 +302,7 @@ module _ (a : List ℕ) (p : Split) where
       unfolding writeRefusal
       number-check n = rw (h, ne-eqb _ _ n)
 
-      pub number-short : analysisRefusal a ≡ 0 → size < length (sheetOf a p) → writeRefusal a p size ≡ SHORT_BLANK
+      pub number-short : analysisRefusal a ≡ 0 → size < length (sheetOf a p) → writeRefusal a p size ≡ 14
       unfolding writeRefusal
       number-short e l = rw (h, eq-eqb _ _ e, lt-leb _ _ l)
 

@@ -4,7 +4,7 @@ use Prim.Native.Nat.{_*_, _≤_}
 use mathlib.Core.Path.{sym}
 use borrow.Author.Needs.{needs}
 use Rattle.outcome.specs.Records.{MOST_SYSTEMS}
-use Rattle.split_records.proofs.RecordCases.{Fitting, fits-other, few-fits, many-misfit, fitting-none}
+use Rattle.split_records.proofs.RecordCases.{Fitting, fits-other, misfit, few-fits, many-misfit, fitting-none}
 use Rattle.split_records.proofs.RecordCases.{row-fails, row-fits, fitting-all}
 use Rattle.split_records.proofs.fits.Statement.{statement}
 use Rattle.split_records.proofs.fits.Tie as tie
@@ -22,7 +22,7 @@ mul-if2 : tie.Need-mul-if2 Inv-loop μ-loop
 mul-if2 c = omega (arith, c .if1 .left)
 
 returns-2 : tie.Need-returns-2 Inv-loop μ-loop
-returns-2 c = few-fits _ _ _ _ _ _ (c .before .if1 .left) (sym (fits-other _ _ _ _ _ (c .if2 .taken)))
+returns-2 c = misfit _ _ _ _ _ (sym (fits-other _ _ _ _ _ (c .if2 .taken)))
 
 loop-holds : tie.Need-loop-holds Inv-loop μ-loop
 loop-holds c = fitting-none _ _ _ _ _ (c .if2 .left)
@@ -89,7 +89,7 @@ returns-3 c =
     let t = h .before in
     let l = t .before in
     let e = h .components-of .ensures in
-    few-fits _ _ _ _ _ _ (l .before .before .if1 .left)
+    misfit _ _ _ _ _
     (row-fails _ _ _ _ _ (l .loop .s) _ (l .loop .inv) (omega (arith, t .loop-test .taken)) _ _ _ _ _ _
     (e .first-is) (e .second-is) (e .third-is)
     (m .matches .ensures) (c .before .before .matches2 .ensures) (c .before .matches3 .ensures) (c .if3 .taken))

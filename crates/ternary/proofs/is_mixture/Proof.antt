@@ -1,5 +1,5 @@
 -- `ternary::is_mixture` meets its contract. Assumes nothing.
-use Rattle.ternary.proofs.Shares.{some-parts, no-parts}
+use Rattle.ternary.proofs.OutOfRange.{some-parts, no-parts}
 use Rattle.ternary.proofs.is_mixture.Statement.{statement}
 use Rattle.ternary.proofs.is_mixture.Tie as tie
 

@@ -2,7 +2,7 @@
 use mathlib.Core.Path.{sym, _∙_}
 use borrow.Author.Needs.{needs}
 use borrow.Author.Tests.{not-true, not-false}
-use Rattle.ternary.proofs.Shares.{outside-13, outside-12, outside-17}
+use Rattle.ternary.proofs.OutOfRange.{outside-13, outside-12, outside-17}
 use Rattle.ternary.proofs.outside.Statement.{statement}
 use Rattle.ternary.proofs.outside.Tie as tie
 

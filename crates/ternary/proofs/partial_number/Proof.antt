@@ -2,7 +2,7 @@
 use mathlib.Core.Path.{sym, _∙_}
 use borrow.Author.Needs.{needs}
 use Rattle.ternary.specs.Laws.Answer.{partial-inside}
-use Rattle.ternary.proofs.Shares.{with-ranged, out-of-range}
+use Rattle.ternary.proofs.OutOfRange.{with-ranged, out-of-range}
 use Rattle.ternary.proofs.partial_number.Statement.{statement}
 use Rattle.ternary.proofs.partial_number.Tie as tie
 

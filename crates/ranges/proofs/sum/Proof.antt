@@ -1,7 +1,7 @@
--- `ternary::sum` meets its contract. Assumes nothing.
+-- `ranges::sum` meets its contract. Assumes nothing.
 use borrow.Author.Needs.{needs}
-use Rattle.ternary.proofs.sum.Statement.{statement}
-use Rattle.ternary.proofs.sum.Tie as tie
+use Rattle.ranges.proofs.sum.Statement.{statement}
+use Rattle.ranges.proofs.sum.Tie as tie
 
 add-result : tie.Need-add-result
 add-result c = search needs

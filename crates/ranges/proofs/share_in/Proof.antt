@@ -1,10 +1,10 @@
--- `ternary::share_in` meets its contract. Assumes nothing.
+-- `ranges::share_in` meets its contract. Assumes nothing.
 use Prim.Native.Nat.{_≤_}
 use native.Mathlib.Omega.{arith}
 use borrow.Author.Needs.{needs}
-use Rattle.ternary.proofs.Shares.{product-fits, share-upper, share-lower}
-use Rattle.ternary.proofs.share_in.Statement.{statement}
-use Rattle.ternary.proofs.share_in.Tie as tie
+use Rattle.ranges.proofs.Shares.{product-fits, share-upper, share-lower}
+use Rattle.ranges.proofs.share_in.Statement.{statement}
+use Rattle.ranges.proofs.share_in.Tie as tie
 
 mul-parts : tie.Need-mul-parts
 mul-parts c = search needs

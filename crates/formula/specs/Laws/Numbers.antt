@@ -1,4 +1,5 @@
--- A test that passes at each number of a list, and numbers that are none of it. Assumes nothing.
+-- A test that passes at each number of a list, and numbers that are none of it, as those from 21 on are none that
+-- Table A.2 prints. Assumes nothing.
 use mathlib.Core.Path.{_≡_, refl, ap, subst⁻¹}
 use mathlib.Core.Bool.{Bool, true, false, cond, _&&_}
 use mathlib.Core.List.{List, [], _∷_}
@@ -10,7 +11,7 @@ use lib.Dec.{T, eqb, ltb, ltb→lt}
 use lib.ListN.{length}
 use borrow.Author.Tests.{eqb-true}
 use Rattle.refusal.specs.Keys.{isIn}
-use Rattle.formula.specs.Coefficients.{placeIn}
+use Rattle.formula.specs.Coefficients.{printed, placeIn}
 
 -- ---- a test that passes at each number of a list
 
@@ -58,3 +59,7 @@ above n top (m ∷ ms) t h = (
   above n top ms (and-r (ltb m top) (every (λ k. ltb k top) ms) t) h,
   λ e. omega (arith, ltb→lt m top (and-l (ltb m top) (every (λ k. ltb k top) ms) t)),
 )
+
+-- from 21 on none is printed
+pub none-printed : (s : ℕ) → 21 ≤ s → Apart s printed
+none-printed s h = above s 21 printed tt h

@@ -1,12 +1,12 @@
--- `ternary::in_range` meets its contract. Assumes nothing.
+-- `ranges::in_range` meets its contract. Assumes nothing.
 use mathlib.Core.Path.{sym, _∙_}
 use native.Mathlib.Omega.{arith}
 use borrow.Author.Needs.{needs}
 use borrow.Author.Tests.{not-true, not-false}
 use Rattle.formula.specs.InRange.{full-range}
-use Rattle.ternary.proofs.Shares.{first-out, second-out, third-is}
-use Rattle.ternary.proofs.in_range.Statement.{statement}
-use Rattle.ternary.proofs.in_range.Tie as tie
+use Rattle.ranges.proofs.Shares.{first-out, second-out, third-is}
+use Rattle.ranges.proofs.in_range.Statement.{statement}
+use Rattle.ranges.proofs.in_range.Tie as tie
 
 returns : tie.Need-returns
 returns c =

@@ -1,13 +1,13 @@
--- `coefficients::ranges_of` meets its contract: arm by arm, a row of the whole table. Assumes nothing.
+-- `ranges::ranges_of` meets its contract: arm by arm, a row of the whole table. Assumes nothing.
 use mathlib.Core.Path.{refl}
 use mathlib.Core.Logic.{⊎-elim}
 use Prim.Native.Nat.{zero-le}
 use borrow.Author.Needs.{needs}
 use Rattle.formula.specs.Coefficients.{placeIn}
 use Rattle.formula.specs.Ranges.{rangesOf}
-use Rattle.coefficients.proofs.Rows.{ranges-run, ranges-19, ranges-20}
-use Rattle.coefficients.proofs.ranges_of.Statement.{statement}
-use Rattle.coefficients.proofs.ranges_of.Tie as tie
+use Rattle.ranges.proofs.Rows.{ranges-run, ranges-19, ranges-20}
+use Rattle.ranges.proofs.ranges_of.Statement.{statement}
+use Rattle.ranges.proofs.ranges_of.Tie as tie
 
 whole-requires : tie.Need-whole-requires
 whole-requires c κs = search needs

@@ -1,7 +1,7 @@
--- `rating::carried` meets its contract. Assumes nothing.
+-- `refusal::carried` meets its contract. Assumes nothing.
 use borrow.Author.Tests.{eq-eqb, ne-eqb}
-use Rattle.rating.proofs.carried.Statement.{statement}
-use Rattle.rating.proofs.carried.Tie as tie
+use Rattle.refusal.proofs.carried.Statement.{statement}
+use Rattle.refusal.proofs.carried.Tie as tie
 
 returns : tie.Need-returns
 returns c = simp (eq-eqb _ _ (c .if1 .taken))
