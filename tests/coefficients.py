@@ -4,7 +4,8 @@
 tests/data/table-a2.txt holds 000 Table A.2 as printed, tests/data/coefficients.txt the decimals that document 01 uses
 for systems 2, 4, 7, 8 and 20; where they differ, document 01's stays. Each decimal is read exactly, multiplied by
 100^(k+l) * 10^7, and must be a whole count of units: the figure in specs/Coefficients.antt of the crate formula and in
-src/table.rt of the crate coefficients. The ranges must be those in specs/Ranges.antt and src/ranges.rt.
+src/table.rt of the crate coefficients. The ranges must be those in specs/Ranges.antt and in src/table.rt of the crate
+ranges.
 A system whose counts' magnitudes add up to more than 2000000000000 is left out: the others are those that the code lets
 through, and that the header, README.md and docs/PROMISES.md have in their tables.
 Exit status 1 and a message where a figure differs, is missing, or stands there in excess."""
@@ -17,7 +18,7 @@ ROOT = os.path.dirname(os.path.dirname(os.path.abspath(__file__)))
 DATA = 'tests/data/table-a2.txt'
 OWN = 'tests/data/coefficients.txt'
 SPEC, SPEC_RANGES = 'crates/formula/specs/Coefficients.antt', 'crates/formula/specs/Ranges.antt'
-CODE, CODE_RANGES = 'crates/coefficients/src/table.rt', 'crates/coefficients/src/ranges.rt'
+CODE, CODE_RANGES = 'crates/coefficients/src/table.rt', 'crates/ranges/src/table.rt'
 CODE_SYSTEMS = 'crates/coefficients/src/lib.rt'
 HEADER, DOCUMENTS = 'include/saugrinte.h', ('README.md', 'docs/PROMISES.md')
 
