@@ -1,7 +1,7 @@
 -- The code's table agrees with the register, tested at each code by one computation, and the range test by it.
 -- Assumes nothing.
 use mathlib.Core.Path.{_≡_, refl, sym, _∙_}
-use mathlib.Core.Bool.{Bool, true, false, not, _&&_, _||_, cond}
+use mathlib.Core.Bool.{Bool, true, false, not, _&&_, _||_, cond, or-false}
 use mathlib.Core.List.{List, [], _∷_}
 use Prim.Native.Nat.{ℕ, _<_, _≤_}
 use native.Mathlib.Omega.{arith}
@@ -30,10 +30,6 @@ range-at k h = (
   eqb→eq _ _ (at (λ i _. eqb (getD (getD ranges i []) 1 0) (greatestOf i)) codes tt k h),
 )
 
-or-false : (b : Bool) → (b || false) ≡ b
-or-false true = refl
-or-false false = refl
-
 module _ (k x least greatest : ℕ) (h : k < CODES) (e : (least ≡ leastOf k) × (greatest ≡ greatestOf k)) where
   least-some : 1 ≤ leastOf k
   unfolding statusOf
@@ -53,7 +49,7 @@ module _ (k x least greatest : ℕ) (h : k < CODES) (e : (least ≡ leastOf k) �
       rw (e .0, e .1, required-is)
       (go (not (requiredOf k)) (leb x (greatestOf k)) (eqb x 0) (leb (leastOf k) x) refl refl)
     where
-      go : (a c t u : Bool) → eqb x 0 ≡ t → leb (leastOf k) x ≡ u → ((t && a) || (u && c)) ≡ cond t a (cond u c false)
+      go : (a c t u : Bool) → eqb x 0 ≡ t → leb (leastOf k) x ≡ u → ((t && a) || (u && c)) ≡ cond t a (u && c)
       go a c true true p q = absurd (omega (arith, eqb-true x 0 p, leb-true (leastOf k) x q, least-some))
       go a c true false p q = or-false a
       go a c false true p q = refl

@@ -1,6 +1,6 @@
 -- What passes for each key of a register passes for one of them. Assumes nothing.
 use mathlib.Core.Path.{_≡_, refl, ap, _∙_}
-use mathlib.Core.Bool.{Bool, true, false, cond}
+use mathlib.Core.Bool.{Bool, true, false, _&&_, _||_}
 use mathlib.Core.List.{List, [], _∷_}
 use Prim.Native.Nat.{ℕ}
 use native.Mathlib.Omega.{arith}
@@ -18,7 +18,7 @@ each-passes test x [] t h = never h
 each-passes test x (y ∷ ys) t h = go (eqb x y) (test y) refl refl (each-passes test x ys) t h
   where
     go : (b p : Bool) → eqb x y ≡ b → test y ≡ p → (each test ys ≡ true → isIn x ys ≡ true → test x ≡ true)
-        → cond p (each test ys) false ≡ true → cond b true (isIn x ys) ≡ true → test x ≡ true
+        → (p && each test ys) ≡ true → (b || isIn x ys) ≡ true → test x ≡ true
     go b false e f rest t h = never t
     go true true e f rest t h = ap test (eqb-true x y e) ∙ f
     go false true e f rest t h = rest t h
