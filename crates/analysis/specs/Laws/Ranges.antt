@@ -2,7 +2,7 @@
 -- it. Assumes nothing.
 use mathlib.Core.Path.{_≡_, refl, sym, ap, _∙_}
 use mathlib.Core.List.{List}
-use mathlib.Core.Bool.{Bool, true, false, not, _&&_, cond, and-eq-true-iff}
+use mathlib.Core.Bool.{Bool, true, false, not, _&&_, cond, false≢true, and-eq-true-iff}
 use mathlib.Core.Logic.{_⊎_, inl, inr}
 use Prim.Native.Nat.{ℕ, _+_, _≤_, _<_}
 use native.Mathlib.Omega.{arith}
@@ -48,19 +48,17 @@ module _ (least greatest x : ℕ) where
       → cond t absent (u && leb x greatest) ≡ true → (x ≡ 0 → ⊥) → least ≤ x
   by-least absent true u e d h n = absurd (n (eqb-true x 0 e))
   by-least absent false true e d h n = leb-true least x d
-  by-least absent false false e d h n =
-      let z : _≡_ {A = Bool} false true = h in let y : _≡_ {A = ℕ} 0 1 = cc in absurd (omega arith)
+  by-least absent false false e d h n = absurd (false≢true h)
 
   by-greatest : (absent t u : Bool) → eqb x 0 ≡ t → leb least x ≡ u
       → cond t absent (u && leb x greatest) ≡ true → x ≤ greatest
   by-greatest absent true u e d h = let z = eqb-true x 0 e in omega arith
   by-greatest absent false true e d h = leb-true x greatest h
-  by-greatest absent false false e d h =
-      let z : _≡_ {A = Bool} false true = h in let y : _≡_ {A = ℕ} 0 1 = cc in absurd (omega arith)
+  by-greatest absent false false e d h = absurd (false≢true h)
 
   by-required : (t u : Bool) → eqb x 0 ≡ t → leb least x ≡ u
       → cond t false (u && leb x greatest) ≡ true → x ≡ 0 → ⊥
-  by-required true u e d h n = let z : _≡_ {A = Bool} false true = h in let y : _≡_ {A = ℕ} 0 1 = cc in omega arith
+  by-required true u e d h n = false≢true h
   by-required false u e d h n = eqb-false x 0 e n
 
 module _ (code x : ℕ) (h : inRange code x ≡ true) where

@@ -1,7 +1,7 @@
 -- What the check by a register in which more codes must be present says, and what it asks besides. Assumes nothing.
 use mathlib.Core.Path.{_≡_, refl, sym, ap, _∙_}
 use mathlib.Core.List.{List, [], _∷_}
-use mathlib.Core.Bool.{Bool, true, false, not, _&&_, _||_, cond, and-eq-true-iff}
+use mathlib.Core.Bool.{Bool, true, false, not, _&&_, _||_, cond, false≢true, and-eq-true-iff}
 use mathlib.Core.Logic.{_↔_}
 use Prim.Native.Nat.{ℕ, zero, suc, _+_, _<_}
 use native.Mathlib.Omega.{arith}
@@ -29,9 +29,6 @@ refusal-register a = ap (λ (b : Bool). refusalByTests b (totalFits (totalOf a))
 
 -- ---- what passes where more must be present, passes
 
-never : _≡_ {A = Bool} false true → ⊥
-never e = let y : _≡_ {A = ℕ} 0 1 = cc in omega arith
-
 status-passes : (also : Bool) (s : Status) (x : ℕ) → inRangeBy (requiredToo also s) x ≡ true → inRangeBy s x ≡ true
 status-passes also retired x h = h
 status-passes also splitsOnly x h = h
@@ -42,7 +39,7 @@ status-passes also (live least greatest required) x h = go (eqb x 0) required al
         → cond b (not r) (leb least x && leb x greatest) ≡ true
     go false r o h = h
     go true false o h = refl
-    go true true o h = absurd (never h)
+    go true true o h = absurd (false≢true h)
 
 code-passes : (codes : List ℕ) (es : List Entry) (c x : ℕ) → inRangeBy (statusIn (requiring codes es) c) x ≡ true
     → inRangeBy (statusIn es c) x ≡ true
@@ -95,8 +92,8 @@ some s x r h = go (eqb x 0) (requiredBy s) refl r h
   where
     go : (b q : Bool) → eqb x 0 ≡ b → q ≡ true
         → cond b (not q) (leb (leastBy s) x && leb x (greatestBy s)) ≡ true → 0 < x
-    go true true e r h = absurd (never h)
-    go true false e r h = absurd (never r)
+    go true true e r h = absurd (false≢true h)
+    go true false e r h = absurd (false≢true r)
     go false q e r h = omega (arith, eqb-false x 0 e)
 
 pub required-present : (entries : List Entry) (a : List ℕ) (k : ℕ) → refusalIn entries a ≡ 0 → k < length a
@@ -119,7 +116,7 @@ status-required also (live least greatest required) x h p = go (eqb x 0) require
     go : (b r o : Bool) → eqb x 0 ≡ b → cond b (not r) (leb least x && leb x greatest) ≡ true
         → (o ≡ true → 0 < x) → cond b (not (r || o)) (leb least x && leb x greatest) ≡ true
     go false r o e h p = h
-    go true true o e h p = absurd (never h)
+    go true true o e h p = absurd (false≢true h)
     go true false false e h p = refl
     go true false true e h p = let z = eqb-true x 0 e in absurd (omega (arith, p refl))
 
