@@ -1,15 +1,16 @@
 -- The code's table agrees with the register, tested at each code by one computation, and the range test by it.
 -- Assumes nothing.
 use mathlib.Core.Path.{_≡_, refl, sym, _∙_}
-use mathlib.Core.Bool.{Bool, true, false, not, _&&_, _||_, cond}
+use mathlib.Core.Bool.{Bool, true, false, not, _&&_, _||_, Bool·beq, cond, or-false}
 use mathlib.Core.List.{List, [], _∷_}
 use Prim.Native.Nat.{ℕ, _<_, _≤_}
 use native.Mathlib.Omega.{arith}
 use lib.Dec.{eqb, leb, eqb→eq, leb→le}
 use lib.ListN.{getD, replicate}
 use borrow.Author.Tests.{eqb-true, leb-true}
+use Rattle.refusal.specs.Laws.Alike.{beq-is}
 use Rattle.analysis.specs.Register.{CODES, statusOf}
-use Rattle.analysis.specs.Laws.Table.{at, same, same-eq}
+use Rattle.analysis.specs.Laws.Table.{at}
 use Rattle.analysis.specs.Check.{leastOf, greatestOf, requiredOf, inRange}
 
 abbrev ranges : List (List ℕ)
@@ -30,10 +31,6 @@ range-at k h = (
   eqb→eq _ _ (at (λ i _. eqb (getD (getD ranges i []) 1 0) (greatestOf i)) codes tt k h),
 )
 
-or-false : (b : Bool) → (b || false) ≡ b
-or-false true = refl
-or-false false = refl
-
 module _ (k x least greatest : ℕ) (h : k < CODES) (e : (least ≡ leastOf k) × (greatest ≡ greatestOf k)) where
   least-some : 1 ≤ leastOf k
   unfolding statusOf
@@ -42,7 +39,8 @@ module _ (k x least greatest : ℕ) (h : k < CODES) (e : (least ≡ leastOf k) �
   required-is : not (eqb k 1) ≡ not (requiredOf k)
   unfolding statusOf
   required-is =
-      same-eq (not (eqb k 1)) (not (requiredOf k)) (at (λ i _. same (not (eqb i 1)) (not (requiredOf i))) codes tt k h)
+      beq-is (not (eqb k 1)) (not (requiredOf k))
+      (at (λ i _. Bool·beq (not (eqb i 1)) (not (requiredOf i))) codes tt k h)
 
   abbrev fits : Bool
   fits = (eqb x 0 && not (eqb k 1)) || (leb least x && leb x greatest)
@@ -53,7 +51,7 @@ module _ (k x least greatest : ℕ) (h : k < CODES) (e : (least ≡ leastOf k) �
       rw (e .0, e .1, required-is)
       (go (not (requiredOf k)) (leb x (greatestOf k)) (eqb x 0) (leb (leastOf k) x) refl refl)
     where
-      go : (a c t u : Bool) → eqb x 0 ≡ t → leb (leastOf k) x ≡ u → ((t && a) || (u && c)) ≡ cond t a (cond u c false)
+      go : (a c t u : Bool) → eqb x 0 ≡ t → leb (leastOf k) x ≡ u → ((t && a) || (u && c)) ≡ cond t a (u && c)
       go a c true true p q = absurd (omega (arith, eqb-true x 0 p, leb-true (leastOf k) x q, least-some))
       go a c true false p q = or-false a
       go a c false true p q = refl

@@ -1,7 +1,7 @@
 -- One turn of the walk over the codes, and the cases of the check. Assumes nothing.
 use mathlib.Core.Path.{_≡_, refl, ap, sym, _∙_}
 use mathlib.Core.List.{List}
-use mathlib.Core.Bool.{Bool, true, false, cond}
+use mathlib.Core.Bool.{Bool, true, false, _&&_, cond}
 use Prim.Native.Nat.{ℕ, suc, _+_, _-_, _*_, _≤_, _<_}
 use native.Mathlib.Omega.{arith}
 use lib.ListN.{length, getD, drop, drop-of-length-le}
@@ -11,7 +11,8 @@ use borrow.Author.Tests.{le-leb, lt-leb, eq-eqb, ne-eqb, eqb-false}
 use Rattle.analysis.specs.Register.{CODES}
 use Rattle.analysis.specs.declared.Checked.{Checked}
 use Rattle.analysis.specs.declared.Checked.the-variants.{InRange, Refused}
-use Rattle.analysis.specs.Check.{inRange, allInRange, totalOf, totalFits, refusalByTests, analysisRefusal}
+use Rattle.analysis.specs.Check.{inRange, allInRange, totalOf, LEAST_SUM, GREATEST_SUM, totalFits}
+use Rattle.analysis.specs.Check.{refusalByTests, analysisRefusal}
 use Rattle.analysis.specs.Check.{AtFault, checkedOf, Checking}
 use Rattle.analysis.specs.CheckedCases.{numberOf, faultOf}
 use Rattle.analysis.specs.Laws.Ranges.{answer-number}
@@ -22,17 +23,19 @@ module _ (fault sum : ℕ) where
   pub refused-range : (fault ≡ CODES → ⊥) → 5 ≡ refusalByTests (eqb fault CODES) (totalFits sum)
   refused-range f = rw (ne-eqb fault CODES f)
 
-  pub refused-low : fault ≡ CODES → sum < 999900 → 6 ≡ refusalByTests (eqb fault CODES) (totalFits sum)
+  pub refused-low : fault ≡ CODES → sum < LEAST_SUM → 6 ≡ refusalByTests (eqb fault CODES) (totalFits sum)
   unfolding totalFits
-  refused-low f h = simp (eq-eqb fault CODES f, lt-leb 999900 sum h)
+  refused-low f h = simp (eq-eqb fault CODES f, lt-leb LEAST_SUM sum h)
 
-  pub refused-not : fault ≡ CODES → 999900 ≤ sum → sum ≤ 1000100 → 0 ≡ refusalByTests (eqb fault CODES) (totalFits sum)
+  pub refused-not : fault ≡ CODES → LEAST_SUM ≤ sum → sum ≤ GREATEST_SUM
+      → 0 ≡ refusalByTests (eqb fault CODES) (totalFits sum)
   unfolding totalFits
-  refused-not f h l = simp (eq-eqb fault CODES f, le-leb 999900 sum h, le-leb sum 1000100 l)
+  refused-not f h l = simp (eq-eqb fault CODES f, le-leb LEAST_SUM sum h, le-leb sum GREATEST_SUM l)
 
-  pub refused-high : fault ≡ CODES → 999900 ≤ sum → 1000100 < sum → 6 ≡ refusalByTests (eqb fault CODES) (totalFits sum)
+  pub refused-high : fault ≡ CODES → LEAST_SUM ≤ sum → GREATEST_SUM < sum
+      → 6 ≡ refusalByTests (eqb fault CODES) (totalFits sum)
   unfolding totalFits
-  refused-high f h l = simp (eq-eqb fault CODES f, le-leb 999900 sum h, lt-leb sum 1000100 l)
+  refused-high f h l = simp (eq-eqb fault CODES f, le-leb LEAST_SUM sum h, lt-leb sum GREATEST_SUM l)
 
 -- ---- the answer with a number
 
@@ -80,7 +83,7 @@ module _ (a : List ℕ) (fault sum code next : ℕ) (w : Walked a fault sum code
   go-total-here = go-total (code - 1) (omega arith) (s .0)
 
   all-next : (k : ℕ) (b : Bool) → code ≡ suc k → inRange k (getD a k 0) ≡ b
-      → allInRange k (drop k a) ≡ cond b (allInRange code (drop code a)) false
+      → allInRange k (drop k a) ≡ (b && allInRange code (drop code a))
   all-next k true e f = rw (drop-cons a k 0 (omega (arith, w .long, w .most)), f, e)
   all-next k false e f = rw (drop-cons a k 0 (omega (arith, w .long, w .most)), f)
 

@@ -2,7 +2,7 @@
 -- its list of amounts, that of code k at index k. Assumes nothing.
 use mathlib.Core.Path.{_≡_}
 use mathlib.Core.List.{List, [], _∷_}
-use mathlib.Core.Bool.{Bool, true, false, not, cond}
+use mathlib.Core.Bool.{Bool, true, false, not, _&&_, cond}
 use Prim.Native.Nat.{ℕ, suc, _+_}
 use lib.ListN.{getD}
 use lib.Dec.{leb, eqb}
@@ -12,7 +12,7 @@ use Rattle.analysis.specs.declared.Checked.the-variants.{InRange, Refuse
 use Rattle.analysis.specs.CheckedCases.{numberOf, faultOf}
 use Rattle.analysis.specs.Register.{Status, live, retired, splitsOnly, unknown, statusOf}
 
--- the least and the greatest amount; 1 and 0, which leave no amount, where the code is not live
+-- the least and the greatest amount of a code of a status; 1 and 0, which leave no amount, where it is not live
 abbrev pub leastBy : Status → ℕ
 leastBy (live least greatest required) = least
 leastBy retired = 1
@@ -25,13 +25,14 @@ greatestBy retired = 0
 greatestBy splitsOnly = 0
 greatestBy unknown = 0
 
--- may the code not be absent?
+-- may it not be absent?
 abbrev pub requiredBy : Status → Bool
 requiredBy (live least greatest required) = required
 requiredBy retired = false
 requiredBy splitsOnly = false
 requiredBy unknown = false
 
+-- the same of a code
 abbrev pub leastOf : ℕ → ℕ
 leastOf code = leastBy (statusOf code)
 
@@ -41,29 +42,35 @@ greatestOf code = greatestBy (statusOf code)
 abbrev pub requiredOf : ℕ → Bool
 requiredOf code = requiredBy (statusOf code)
 
--- is the amount in the range of a code of this status? 0 counts as absent, and is where the code may be absent
-abbrev pub inRangeBy : Status → ℕ → Bool
-inRangeBy status amount =
-    cond (eqb amount 0)
-    (not (requiredBy status))
-    (cond (leb (leastBy status) amount) (leb amount (greatestBy status)) false)
+-- is an amount in a range? 0 counts as absent, and is where it may be absent
+abbrev pub fitsRange : ℕ → ℕ → Bool → ℕ → Bool
+fitsRange least greatest required amount =
+    cond (eqb amount 0) (not required) (leb least amount && leb amount greatest)
 
+-- is the amount in the range of the code?
 unfoldable pub inRange : ℕ → ℕ → Bool
-inRange code amount = inRangeBy (statusOf code) amount
+inRange code amount = fitsRange (leastOf code) (greatestOf code) (requiredOf code) amount
 
 -- is each amount in its range, the first being that of `code`?
 abbrev pub allInRange : ℕ → List ℕ → Bool
 allInRange code [] = true
-allInRange code (x ∷ xs) = cond (inRange code x) (allInRange (suc code) xs) false
+allInRange code (x ∷ xs) = inRange code x && allInRange (suc code) xs
 
 -- the amounts added as whole numbers
 abbrev pub totalOf : List ℕ → ℕ
 totalOf [] = 0
 totalOf (x ∷ xs) = x + totalOf xs
 
+-- the least and the greatest total
+abbrev pub LEAST_SUM : ℕ
+LEAST_SUM = 999900
+
+abbrev pub GREATEST_SUM : ℕ
+GREATEST_SUM = 1000100
+
 -- is a total in its range?
 unfoldable pub totalFits : ℕ → Bool
-totalFits total = cond (leb 999900 total) (leb total 1000100) false
+totalFits total = leb LEAST_SUM total && leb total GREATEST_SUM
 
 -- 5 where the ranges do not hold, then 6 where the total does not, else 0
 abbrev pub refusalByTests : Bool → Bool → ℕ
@@ -86,4 +93,4 @@ checkedOf n code = cond (eqb n 0) InRange (Refused n (carried n code 0))
 -- the promise of the check: the answer is fixed but for the code of 5, and that is a code at fault
 pub record Checking (a : List ℕ) (r : Checked) : Type 0 where
   pub answer : r ≡ checkedOf (analysisRefusal a) (faultOf r)
-  pub code : numberOf r ≡ 5 → AtFault a (faultOf r)
+  pub code : numberOf r ≡ OUT_OF_RANGE → AtFault a (faultOf r)

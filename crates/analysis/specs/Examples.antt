@@ -10,6 +10,14 @@ use Rattle.analysis.specs.Check.{inRange, totalFits, analysisRefusal}
 abbrev gas : ℕ → ℕ → List ℕ
 gas methane ethane = 0 ∷ methane ∷ ethane ∷ 10000 ∷ 1000 ∷ 1000 ∷ replicate (CODES - 6) 0
 
+-- the gas of 001 Table A.1, by code; it is in range
+abbrev pub tableA1 : List ℕ
+tableA1 = 0 ∷ 970797 ∷ 16658 ∷ 2417 ∷ 346 ∷ 245 ∷ 11 ∷ 73 ∷ 125 ∷ 0 ∷ 84 ∷ 528 ∷ 8715 ∷ 0 ∷ 0 ∷ 0 ∷ []
+
+table-a1-passes : analysisRefusal tableA1 ≡ 0
+unfolding analysisRefusal inRange totalFits statusOf
+table-a1-passes = refl
+
 -- total 999899 is 6, 999900 and 1000100 pass, 1000101 is 6
 total-999899 : analysisRefusal (gas 967899 20000) ≡ 6
 unfolding analysisRefusal inRange totalFits statusOf

@@ -25,6 +25,11 @@ pub enum Checked {
     Refused { number: u32, code: u32 },
 }
 
+// The least and the greatest total.
+const LEAST_SUM: u64 = 999900;
+
+const GREATEST_SUM: u64 = 1000100;
+
 // The least and the greatest amount of each code, as 001 Table 1 has them; 1 and 0, which no amount lies between,
 // where it may have none. One computation ties the table to the register.
 const RANGES: [[u32; 2]; CODES] = [
@@ -88,10 +93,10 @@ fn refusal(fault: usize, sum: u64) -> u32
     if fault != CODES {
         return OUT_OF_RANGE;
     }
-    if sum < 999900 {
+    if sum < LEAST_SUM {
         return TOTAL;
     }
-    if sum <= 1000100 {
+    if sum <= GREATEST_SUM {
         return 0;
     }
     TOTAL

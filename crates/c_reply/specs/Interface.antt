@@ -3,13 +3,11 @@
 -- A reply is an answer's number with its place, and a refusal leaves every buffer as it was: by what each case of the
 -- answer is, as the crate that has it says (`AnswerCases`, `PartialCases`, `ReadingCases`, `WrittenCases`). `x` is the
 -- answer of the library's function, and `old` is what the buffer held.
-use mathlib.Core.Bool.{cond}
 use mathlib.Core.List.{List}
 use Prim.Native.Nat.{ℕ}
-use lib.Dec.{eqb}
 use lib.ListN.{length}
 use lib.IntN.{ℤ}
-use Rattle.refusal.specs.Register.{OUT_OF_RANGE}
+use Rattle.refusal.specs.Register.{carried}
 use Rattle.ternary.specs.declared.Partial.{Partial}
 use Rattle.ternary.specs.PartialCases as partial
 use Rattle.sheet.specs.declared.Split.{Split}
@@ -30,7 +28,7 @@ reply number place = record { number = number; place = place }
 
 -- the code that a refusal 5 carries, else 0
 abbrev pub codeIn : Reply → ℕ
-codeIn r = cond (eqb (r .number) OUT_OF_RANGE) (r .place) 0
+codeIn r = carried (r .number) (r .place) 0
 
 -- ---- a rating
 
@@ -66,6 +64,6 @@ writtenLength x old = written.figuresOf x old
 abbrev pub splitFrom : ℕ → List ℕ → List ℕ → List ℕ → Split
 splitFrom count systems codes parts = record { count = count; systems = systems; codes = codes; amounts = parts }
 
--- the bytes of a buffer
-abbrev pub size : List ℕ → ℕ
-size b = length b
+-- the bytes of a buffer (`length` is a parameter of the call that writes)
+abbrev pub bytesIn : List ℕ → ℕ
+bytesIn buffer = length buffer

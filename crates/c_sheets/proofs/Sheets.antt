@@ -19,7 +19,7 @@ use Rattle.sheet.specs.declared.Reading.the-variants as reading
 use Rattle.sheet.specs.declared.Sheet.{Sheet}
 use Rattle.sheet.specs.declared.Written.{Written}
 use Rattle.sheet.specs.declared.Written.the-variants.{Length, Refused}
-use Rattle.c_reply.specs.Interface.{reply, codeIn, readReply, readOr, writtenReply, writtenLength, size}
+use Rattle.c_reply.specs.Interface.{reply, codeIn, readReply, readOr, writtenReply, writtenLength}
 use Rattle.c_reply.specs.declared.Reply.{Reply}
 
 -- ---- writing: only 5 carries a code
@@ -48,8 +48,8 @@ module _ (a : List ℕ) (p : Split) (b : List ℕ) (r : Written) (left : List �
       ∙ sym (ap (λ (x : Written). cond (eqb (write.numberOf x) 5) (write.faultOf r) 0) (w .answer))
 
   pub written-done : (n : ℕ) → r ≡ Length n → (old : ℕ)
-      → ((reply 0 0 ≡ writtenReply (writtenOf a p (size b) 0)) × (left ≡ leftOf a p b)
-      × (n ≡ writtenLength (writtenOf a p (size b) 0) old))
+      → ((reply 0 0 ≡ writtenReply (writtenOf a p (length b) 0)) × (left ≡ leftOf a p b)
+      × (n ≡ writtenLength (writtenOf a p (length b) 0) old))
       × (_≡_ {A = ℕ} 0 5 → AtFault a 0)
   written-done n e old =
       let f : writtenOf a p (length b) 0 ≡ Length n = ap (writtenOf a p (length b)) (sym (ap write.faultOf e))
@@ -73,8 +73,8 @@ module _ (a : List ℕ) (p : Split) (b : List ℕ) (r : Written) (left : List �
       answer-then = ap (λ (x : Reply). writtenOf a p (length b) (codeIn x)) q ∙ answer-back
 
       pub written-refused : (old : ℕ)
-          → ((o ≡ writtenReply (writtenOf a p (size b) (codeIn o))) × (left ≡ leftOf a p b)
-          × (old ≡ writtenLength (writtenOf a p (size b) (codeIn o)) old))
+          → ((o ≡ writtenReply (writtenOf a p (length b) (codeIn o))) × (left ≡ leftOf a p b)
+          × (old ≡ writtenLength (writtenOf a p (length b) (codeIn o)) old))
           × (o .number ≡ 5 → AtFault a (codeIn o))
       written-refused old = (
         (q ∙ sym (ap writtenReply answer-then), w .buffer, sym (ap (λ (x : Written). writtenLength x old) answer-then)),

@@ -6,7 +6,7 @@ ghost use mathlib.Core.Path.{_≡_};
 ghost use Rattle.analysis.specs.Check.{AtFault};
 ghost use Rattle.sheet.specs.Read.{readOf, FaultInSheet};
 ghost use Rattle.sheet.specs.Write.{writtenOf, leftOf};
-ghost use Rattle.c_reply.specs.Interface.{codeIn, splitFrom, size, readReply, readOr, writtenReply, writtenLength};
+ghost use Rattle.c_reply.specs.Interface.{codeIn, splitFrom, bytesIn, readReply, readOr, writtenReply, writtenLength};
 use analysis::Analysis;
 use analysis::CODES;
 use c_reply::Reply;
@@ -70,7 +70,7 @@ pub fn write_sheet(
     length: &mut usize,
 ) -> Reply
     ensures { λ r. let p = splitFrom count (now (systems .entry)) (now (codes .entry)) (now (parts .entry)) in
-        let x = writtenOf (now (amounts .entry)) p (size (now (buffer .entry))) (codeIn r) in ⌜ (r ≡ writtenReply x)
+        let x = writtenOf (now (amounts .entry)) p (bytesIn (now (buffer .entry))) (codeIn r) in ⌜ (r ≡ writtenReply x)
         × (now (buffer .exit) ≡ leftOf (now (amounts .entry)) p (now (buffer .entry)))
         × (now (length .exit) ≡ writtenLength x (now (length .entry))) ⌝ }
     ensures { λ r. ⌜ (r .number ≡ 5 → AtFault (now (amounts .entry)) (codeIn r)) ⌝ }

@@ -14,7 +14,7 @@ use lib.Ieee.Back.{positive-back, negative-back, round-whole}
 use lib.Ieee.Exact.{HasValue}
 use lib.Ieee.Fits.{down-pos}
 use lib.Ieee.Scale.{round-same}
-use Rattle.controller.specs.Record.{methaneNumber}
+use Rattle.controller.specs.Record.{tenMillion, methaneNumber}
 
 -- the double d is the whole number n: it has no fraction, and turned back into 64 bits with a sign it is n
 pub record Exactly (d : Float) (n : ℤ) : Type 0 where
@@ -22,12 +22,12 @@ pub record Exactly (d : Float) (n : ℤ) : Type 0 where
   pub back : toSigned 63 d ≡ n
 
 -- a count of at most 2^53 converts exactly: its double, turned back, is the count
-pub exact : (units : ℤ) → natAbs units ≤ 9007199254740992 → Exactly (ofInt binary64 units) units
+pub converts-exactly : (units : ℤ) → natAbs units ≤ 9007199254740992 → Exactly (ofInt binary64 units) units
 unfolding inFloat
-exact (pos n) h =
+converts-exactly (pos n) h =
     let b = positive-back binary64 63 n (le→leb n 9007199254740992 h) (omega arith) in
     record { no-fraction = b .0; back = b .1 }
-exact (negsuc n) h =
+converts-exactly (negsuc n) h =
     let b = negative-back binary64 63 n (lt→ltb n 9007199254740992 h) (omega arith) in
     record { no-fraction = b .0; back = b .1 }
 
@@ -36,10 +36,7 @@ pub not-beyond : toSigned 63 (ofInt binary64 (pos 9007199254740993)) ≡ pos 900
 unfolding toSigned ofInt
 not-beyond = refl
 
--- the double 10000000.0, which is 10000000 exactly
-abbrev pub tenMillion : Float
-tenMillion = ofBits binary64 0x4163_12d0_0000_0000
-
+-- the double 10000000.0 is 10000000 exactly
 pub divisor : Exactly tenMillion (pos 10000000)
 unfolding whole inSigned toSigned ofBits
 divisor = record { no-fraction = tt; back = refl }
@@ -90,7 +87,7 @@ unfolding methaneNumber
 divided-once units h =
     record {
       count = ofInt binary64 units;
-      count-exact = exact units h;
+      count-exact = converts-exactly units h;
       quotient = refl;
       rounded = quotient-rounded units h;
     }

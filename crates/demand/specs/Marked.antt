@@ -8,7 +8,8 @@ use Rattle.whole_number.specs.Marked.{MarkedWholes, marked-wholes}
 use Rattle.analysis.specs.Check.{totalOf}
 use Rattle.mixture.specs.Simplification.{simplifiedOf}
 use Rattle.mixture.specs.Inert.{inertOf}
-use Rattle.mixture.specs.Marked.{tableA1, total, marked}
+use Rattle.analysis.specs.Examples.{tableA1}
+use Rattle.mixture.specs.Marked.{total, marked}
 use Rattle.systems.specs.Systems.{hasOf, memberOf}
 use Rattle.systems.specs.Choice.{fitnessOf, chooseOf, paddedOf}
 use Rattle.systems.specs.Marked.{fitness, choice}

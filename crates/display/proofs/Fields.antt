@@ -1,5 +1,5 @@
 -- The fields of an answer, put one after the other, and their room. Assumes nothing.
-use mathlib.Core.Path.{_≡_, refl, sym, ap, _∙_, subst}
+use mathlib.Core.Path.{_≡_, sym, ap, _∙_, subst}
 use mathlib.Core.List.{List, [], _∷_, _++_, append-assoc}
 use Prim.Native.Nat.{ℕ, _+_, _≤_}
 use native.Mathlib.Omega.{arith}
@@ -14,9 +14,10 @@ use Rattle.split.specs.declared.Answer.{Answer}
 use Rattle.split.specs.declared.Answer.the-variants.{Rated, Refused}
 use Rattle.display.specs.Decimal.{digitsOf, figureOf}
 use Rattle.display.specs.Line.{RATED, REFUSED, SPACE, NEWLINE, RATING_BYTES, WHOLE_BYTES, LINE, fieldsOf}
-use Rattle.display.specs.Line.{joined, lineOf, lineIn}
-use Rattle.display.specs.Longest.{rating-length, whole-length, no-longer}
-use Rattle.display.specs.Inner.Put.{Counts, Put, countsBytes, ratingBytes}
+use Rattle.display.specs.Line.{joined, lineOf, lineIn, Counts}
+use Rattle.display.specs.Laws.Lengths.{rating-length, whole-length}
+use Rattle.display.specs.Longest.{no-longer}
+use Rattle.display.specs.Inner.Put.{Put, countsBytes, ratingBytes}
 use Rattle.display.proofs.Runs.{then, put-as}
 
 pub length-two : (u v : List ℕ) → length (SPACE ∷ u ++ SPACE ∷ v) ≡ 1 + length u + (1 + length v)

@@ -1,21 +1,13 @@
 -- Runs of bytes, put one after the other. Assumes nothing.
-use mathlib.Core.Path.{_≡_, refl, sym, ap, _∙_}
-use mathlib.Core.List.{List, [], _∷_, _++_}
-use Prim.Native.Nat.{ℕ, zero, suc, _+_, _≤_, _<_}
+use mathlib.Core.Path.{_≡_, _∙_}
+use mathlib.Core.List.{List, _++_}
+use Prim.Native.Nat.{ℕ, suc, _+_, _≤_, _<_}
 use native.Mathlib.Omega.{arith}
 use native.Mathlib.Numerals.{add-one}
 use lib.ListN.{length, getD, set, drop, length-append, drop-of-length-le}
 use lib.Seq.{sets, drop-cons}
+use Rattle.refusal.specs.Laws.Runs.{sets-append}
 use Rattle.display.specs.Inner.Put.{Put}
-
--- two runs, the second where the first ends, are one run
-sets-append : (u v l : List ℕ) (i : ℕ) → sets (sets l i u) (i + length u) v ≡ sets l i (u ++ v)
-sets-append [] v l i =
-    let e : i + zero ≡ i = omega arith in
-    rw e
-sets-append (a ∷ u) v l i =
-    let e : i + suc (length u) ≡ suc i + length u = omega arith in
-    rw e (sets-append u v (set l i a) (suc i))
 
 pub then : {b c d u v : List ℕ} {at m n : ℕ} → Put b at u c m → Put c m v d n → Put b at (u ++ v) d n
 then {b} {c} {d} {u} {v} {at} {m} {n} p q =

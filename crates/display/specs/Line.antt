@@ -1,7 +1,8 @@
 -- The line that the display program prints (document 01, "Writer, display, controller"). Assumes nothing.
-use Prim.Native.Nat.{ℕ, _+_}
+use mathlib.Core.Path.{_≡_}
+use Prim.Native.Nat.{ℕ, _+_, _≤_}
 use mathlib.Core.List.{List, [], _∷_, _++_}
-use lib.ListN.{length, drop}
+use lib.ListN.{length, take, drop}
 use Rattle.whole_number.specs.Whole.{wholeNumber}
 use Rattle.split.specs.declared.Answer.{Answer}
 use Rattle.split.specs.declared.Answer.the-variants.{Rated, Refused}
@@ -42,6 +43,11 @@ lineOf answer = joined (fieldsOf answer) ++ NEWLINE ∷ []
 -- a lent buffer after it: the line's bytes at its start, and the rest as it was
 abbrev pub lineIn : Answer → List ℕ → List ℕ
 lineIn answer buffer = lineOf answer ++ drop (length (lineOf answer)) buffer
+
+-- n counts bytes at the start of the buffer. The second part follows from the first; both stand here, so that a
+-- caller's `&buffer[..n]` needs no proof file.
+abbrev pub Counts : ℕ → List ℕ → Type 0
+Counts n buffer = (n ≤ length buffer) × (n ≡ length (take n buffer))
 
 -- the most bytes of a rating (a minus sign and 19 digits), of its whole number (a minus sign and 12), of a spread, and
 -- of rounds or a refusal's number

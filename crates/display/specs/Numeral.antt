@@ -1,5 +1,5 @@
--- The digits of a number are its decimal numeral, whatever way they are worked out: bytes of digits that read as the
--- number, at least one, and `0` first in `0` alone. Assumes nothing.
+-- The digits of a number are its decimal numeral (document 01, "Writer, display, controller"), whatever way they are
+-- worked out: bytes of digits that read as the number, at least one, and `0` first in `0` alone. Assumes nothing.
 use mathlib.Core.Path.{_≡_, refl, sym, ap, _∙_}
 use Prim.Native.Nat.{ℕ, _+_, _*_, _-_, _/_, _%_, _≤_, _<_}
 use mathlib.Core.List.{List, [], _∷_, _++_}

@@ -7,8 +7,8 @@ ghost use lib.ListN.{length};
 ghost use lib.IntN.{natAbs};
 ghost use Rattle.whole_number.specs.Whole.{wholeNumber};
 ghost use Rattle.display.specs.Decimal.{digitsOf, figureOf};
-ghost use Rattle.display.specs.Line.{LINE, SPACE, fieldsOf, joined, lineOf, lineIn};
-ghost use Rattle.display.specs.Inner.Put.{Counts, Put, countsBytes, ratingBytes};
+ghost use Rattle.display.specs.Line.{LINE, SPACE, fieldsOf, joined, lineOf, lineIn, Counts};
+ghost use Rattle.display.specs.Inner.Put.{Put, countsBytes, ratingBytes};
 use split::Answer;
 
 // The bytes of the word of a rating.

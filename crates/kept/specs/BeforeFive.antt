@@ -31,7 +31,8 @@ use Rattle.sheet.specs.declared.Sections.the-variants.{Both}
 use Rattle.sheet.specs.declared.Reading.the-variants.{Read}
 use Rattle.sheet.specs.declared.Split.{Split}
 use Rattle.mixture.specs.Simplification.{tenthsOf}
-use Rattle.mixture.specs.Marked.{tableA1, methaneEthane}
+use Rattle.analysis.specs.Examples.{tableA1}
+use Rattle.mixture.specs.Marked.{methaneEthane}
 use Rattle.mixture.specs.Laws.Bounds.{simplified-methane, simplified-least}
 use Rattle.systems.specs.Systems.{hydrocarbonSystems}
 use Rattle.systems.specs.Choice.{hydrocarbonOrder, fitnessOf, chooseBy, choiceFrom}

@@ -20,6 +20,12 @@ use Rattle.mixture.specs.Simplification.{COMPONENTS, butaneOf, tenthsOf}
 use Rattle.mixture.specs.Inner.Factor.{factorOf}
 use Rattle.mixture.specs.Inner.Limits.{MOST_PARTS, Limited}
 
+-- an amount is no more than the sum
+pub sum-has : (l : List ℕ) (i : ℕ) → getD l i 0 ≤ totalOf l
+sum-has [] i = omega arith
+sum-has (x ∷ l) zero = omega arith
+sum-has (x ∷ l) (suc i) = omega (arith, sum-has l i)
+
 -- ---- amounts up to the limit
 
 limited-next : (x : ℕ) (xs : List ℕ) → x ≤ MOST_PARTS → ((i : ℕ) → getD xs i 0 ≤ MOST_PARTS) → (i : ℕ)

@@ -1,4 +1,5 @@
--- What the public function answers, for every analysis. Assumes nothing.
+-- What the public function answers, for every analysis (document 01, Simplification, "What is turned away", 5 and 6).
+-- Assumes nothing.
 use mathlib.Core.Bool.{cond}
 use Prim.Native.Nat.{ℕ}
 use mathlib.Core.List.{List}

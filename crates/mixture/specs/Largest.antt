@@ -18,7 +18,7 @@ use Rattle.mixture.specs.Laws.Total.{sum-set, sum-filled, greatest-below
 use Rattle.mixture.specs.Laws.Share.{getD-map, greatest-positive, scaled-near}
 
 -- component i comes before component j: a larger remainder, or an equal one and it stands first
-pub record Before (rs : List ℕ) (i j : ℕ) : Type 0 where
+pub record Precedes (rs : List ℕ) (i j : ℕ) : Type 0 where
   pub no-less : getD rs j 0 ≤ getD rs i 0
   pub equal : getD rs j 0 ≡ getD rs i 0 → i < j
 
@@ -37,7 +37,7 @@ greatest-first rs (suc n) j h =
     go true e l rec least = omega (arith, ltb-true (getD rs (largestTo rs n) 0) (getD rs n 0) e, least l)
     go false e l rec least = rec l
 
-greatest-before : (rs : List ℕ) (j : ℕ) → j < length rs → (j ≡ greatestPlace rs → ⊥) → Before rs (greatestPlace rs) j
+greatest-before : (rs : List ℕ) (j : ℕ) → j < length rs → (j ≡ greatestPlace rs → ⊥) → Precedes rs (greatestPlace rs) j
 greatest-before rs j l z =
     record { no-less = greatest-least rs (length rs) j l; equal = λ e. after e (ltb (greatestPlace rs) j) refl }
   where
@@ -96,7 +96,7 @@ module _ (t n : ℕ) (h : 0 < t) where
   -- one that gets more comes before one that does not
   more-before : (m : ℕ) (qs rs : List ℕ) → Left m qs rs → (i j : ℕ) → j < n
       → (getD (distributed m qs rs) i 0 ≡ getD qs i 0 → ⊥) → getD (distributed m qs rs) j 0 ≡ getD qs j 0
-      → Before rs i j
+      → Precedes rs i j
   unfolding distributed
   more-before zero qs rs w i j lj a b = absurd (a refl)
   more-before (suc m) qs rs w i j lj a b =
@@ -128,8 +128,8 @@ module _ (t n : ℕ) (h : 0 < t) where
           (oneMore qs (greatestPlace rs)) i 0 → ⊥)
           → getD (distributed m (oneMore qs (greatestPlace rs)) (set rs (greatestPlace rs) 0)) j 0 ≡ getD
           (oneMore qs (greatestPlace rs)) j 0
-          → Before (set rs (greatestPlace rs) 0) i j)
-          → Before rs i j
+          → Precedes (set rs (greatestPlace rs) 0) i j)
+          → Precedes rs i j
       go true e rec =
           let z : i ≡ greatestPlace rs = eqb-true i (greatestPlace rs) e in
           rw z (greatest-before rs j (omega (arith, w .remainders)) other)
@@ -165,7 +165,7 @@ module _ (xs : List ℕ) (h : 0 < totalOf xs) where
   pub largest-first : (i j : ℕ) → i < length xs → j < length xs
       → getD (scaledOf xs) i 0 ≡ quotientOf (totalOf xs) (getD xs i 0) + 1
       → getD (scaledOf xs) j 0 ≡ quotientOf (totalOf xs) (getD xs j 0)
-      → Before (remaindersOf xs (totalOf xs)) i j
+      → Precedes (remaindersOf xs (totalOf xs)) i j
   unfolding scaledOf
   largest-first i j li lj a b =
       let t = totalOf xs in

@@ -3,6 +3,7 @@ pub mod Simplification
 pub mod Inert
 pub mod Answers
 pub mod Largest
+pub mod Total
 pub mod Marked
 pub mod Inner
 pub mod Laws

@@ -1,16 +1,14 @@
--- The marked figures of simplification and of the inert mixture: the gas of 001 Table A.1; two analyses in range at the
--- rules for equal remainders and for halves; and one with absent components. Assumes nothing.
+-- The marked figures of simplification and of the inert mixture (document 01, "Gases and their figures"): the gas of
+-- 001 Table A.1; two analyses in range at the rules for equal remainders and for halves; and one with absent
+-- components. Assumes nothing.
 use Prim.Native.Nat.{ℕ}
 use mathlib.Core.Path.{_≡_, refl}
 use mathlib.Core.List.{List, [], _∷_}
 use Rattle.analysis.specs.Check.{totalOf}
+use Rattle.analysis.specs.Examples.{tableA1}
 use Rattle.mixture.specs.Scaling.{largestTo, distributed, scaledOf}
 use Rattle.mixture.specs.Simplification.{tenthsOf, simplifiedOf}
 use Rattle.mixture.specs.Inert.{methaneShare, inertOf}
-
--- the gas of 001 Table A.1, by codes
-abbrev pub tableA1 : List ℕ
-tableA1 = 0 ∷ 970797 ∷ 16658 ∷ 2417 ∷ 346 ∷ 245 ∷ 11 ∷ 73 ∷ 125 ∷ 0 ∷ 84 ∷ 528 ∷ 8715 ∷ 0 ∷ 0 ∷ 0 ∷ []
 
 pub total : totalOf tableA1 ≡ 999999
 total = refl

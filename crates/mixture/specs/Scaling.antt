@@ -1,6 +1,6 @@
 -- Scaling a list of amounts to a whole of 1000000 parts (document 01, Simplification; 000 A.3.1), for any number of
 -- components. Assumes nothing.
-use Prim.Native.Nat.{ℕ, zero, suc, _+_, _*_, _-_, _/_, _%_}
+use Prim.Native.Nat.{ℕ, zero, suc, _+_, _*_, _-_, _/_, _%_, _<_}
 use mathlib.Core.List.{List, map}
 use mathlib.Core.Bool.{cond}
 use lib.Dec.{ltb}
@@ -48,3 +48,8 @@ distributed (suc m) qs rs = distributed m (oneMore qs (greatestPlace rs)) (set r
 unfoldable pub scaledOf : List ℕ → List ℕ
 scaledOf xs =
     distributed (missingOf (quotientsOf xs (totalOf xs))) (quotientsOf xs (totalOf xs)) (remaindersOf xs (totalOf xs))
+
+-- s parts are less than one part from 1000000 × x / t
+pub record NearShare (t x s : ℕ) : Type 0 where
+  pub above : s * t < MILLION * x + t
+  pub below : MILLION * x < s * t + t

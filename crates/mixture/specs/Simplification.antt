@@ -3,6 +3,7 @@
 use Prim.Native.Nat.{ℕ, _+_, _*_}
 use mathlib.Core.List.{List, [], _∷_}
 use lib.ListN.{getD}
+use Rattle.analysis.specs.Register.{hydrogenCode}
 use Rattle.analysis.specs.Check.{totalOf}
 use Rattle.mixture.specs.Scaling.{scaledOf}
 
@@ -23,7 +24,8 @@ butaneOf a =
 -- the five components in tenths of a part
 unfoldable pub tenthsOf : List ℕ → List ℕ
 tenthsOf a =
-    10 * amountOfCode a 1 ∷ 10 * amountOfCode a 2 ∷ 10 * amountOfCode a 3 ∷ butaneOf a ∷ 10 * amountOfCode a 15 ∷ []
+    10 * amountOfCode a 1 ∷ 10 * amountOfCode a 2 ∷ 10 * amountOfCode a 3 ∷ butaneOf a ∷
+    10 * amountOfCode a hydrogenCode ∷ []
 
 -- T
 abbrev pub tenthsTotal : List ℕ → ℕ

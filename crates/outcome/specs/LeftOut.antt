@@ -1,7 +1,7 @@
 -- No chosen system is one that request Six left out (document 02, Six and Seven): every candidate keeps the rule of
 -- Table A.2. So no blend is refused 13, and the number of a mixture is 16 or none. Assumes nothing.
 use mathlib.Core.Path.{_≡_, refl, _∙_}
-use mathlib.Core.Bool.{Bool, true, false, cond}
+use mathlib.Core.Bool.{Bool, true, false, cond, and-eq-true-iff}
 use mathlib.Core.List.{List, [], _∷_, _++_}
 use Prim.Native.Nat.{ℕ}
 use native.Mathlib.Omega.{arith}
@@ -31,15 +31,11 @@ offered-kept present = go (inMask present HYDROGEN)
 
 -- ---- what is chosen is among the candidates
 
-both-of : (t u : Bool) → cond t u false ≡ true → (t ≡ true) × (u ≡ true)
-both-of true u h = (refl, h)
-both-of false u h = let z : _≡_ {A = ℕ} 0 1 = cc in absurd (omega arith)
-
 each-end : (test : ℕ → Bool) (xs : List ℕ) (x : ℕ) → each test xs ≡ true → test x ≡ true
     → each test (xs ++ (x ∷ [])) ≡ true
 each-end test [] x h t = rw t
 each-end test (y ∷ ys) x h t =
-    let (p, q) = both-of (test y) (each test ys) h in
+    let (p, q) = and-eq-true-iff (test y) (each test ys) .0 h in
     rw (p, each-end test ys x q t)
 
 -- a test that passes at each candidate passes at each that is chosen, whichever are
@@ -48,7 +44,7 @@ chosen-from : (test : ℕ → Bool) (marks : List Bool) (systems chosen : List �
 unfolding fold listOf
 chosen-from test marks [] chosen h c = c
 chosen-from test marks (s ∷ ss) chosen h c =
-    go (isChosen marks s) (both-of (test s) (each test ss) h) (λ l u v. chosen-from test marks ss l u v)
+    go (isChosen marks s) (and-eq-true-iff (test s) (each test ss) .0 h) (λ l u v. chosen-from test marks ss l u v)
   where
     go : (b : Bool) → (test s ≡ true) × (each test ss ≡ true)
         → ((l : List ℕ) → each test ss ≡ true → each test l ≡ true

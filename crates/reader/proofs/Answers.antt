@@ -8,6 +8,7 @@ use native.Mathlib.Omega.{arith}
 use lib.ListN.{getD}
 use lib.Dec.{eqb, leb}
 use borrow.Author.Tests.{le-leb, lt-leb, eqb-true, eqb-false}
+use Rattle.refusal.specs.Register.{carried}
 use Rattle.analysis.specs.Register.{Status, live, retired, splitsOnly, unknown, statusOf}
 use Rattle.analysis.specs.declared.Checked.{Checked}
 use Rattle.analysis.specs.declared.Checked.the-variants as checked
@@ -20,17 +21,18 @@ use Rattle.section.specs.Walk.{walkOf}
 use Rattle.sheet.specs.declared.Reading.the-variants.{Read, Refused}
 use Rattle.sheet.specs.declared.Sections.the-variants.{Torn, Both}
 use Rattle.sheet.specs.declared.Sheet.{Sheet}
-use Rattle.sheet.specs.Components.{refusalBy, codeRefusal, codesReading}
-use Rattle.sheet.specs.Split.{allowedCount}
+use Rattle.sheet.specs.Components.{COMPONENT_BYTES, refusalBy, codeRefusal, codesReading}
+use Rattle.sheet.specs.Split.{RECORD_BYTES, allowedCount}
 use Rattle.sheet.specs.Sheet.{LISTED, withSplit, withComponents, judged, sectionsOf}
 use Rattle.sheet.specs.Read.{readAmounts, amountsRefusal, refusedSheet, contentOf, readOf, FaultIn, ReadAs}
 use Rattle.sheet.specs.Laws.Cases.{never, sectioned, read-torn, read-codes, read-amounts, read-good, amounts-zero}
 use Rattle.sheet.specs.Laws.Cases.{amounts-checked}
-use Rattle.reader.specs.Inner.Find.{ZeroRecord, AmountsRefused}
+use Rattle.reader.specs.Inner.Refused.{AmountsRefused}
+use Rattle.reader.proofs.Turns.{ZeroRecord}
 
 -- ---- the two sections
 
-module _ (s : List ℕ) (w : Walked) (walked : w ≡ walkOf s 5 6) where
+module _ (s : List ℕ) (w : Walked) (walked : w ≡ walkOf s COMPONENT_BYTES RECORD_BYTES) where
   by-walk : sectionsOf s ≡ judged w
   unfolding sectionsOf
   by-walk = ap judged (sym walked)
@@ -65,7 +67,7 @@ module _ (s : List ℕ) (w : Walked) (walked : w ≡ walkOf s 5 6) where
 -- ---- the amounts
 
 module _ (n : ℕ) (s : List ℕ) where
-  pub zero-found : (place at : ℕ) → at ≡ 1 + 5 * place → ZeroRecord n s place → place < n
+  pub zero-found : (place at : ℕ) → at ≡ 1 + COMPONENT_BYTES * place → ZeroRecord n s place → place < n
       → AmountsRefused n s (checked.Refused 5 (getD s at 0))
   zero-found place at e z h =
       rw e
@@ -103,10 +105,10 @@ code-not-five c p h = go (eqb (refusalBy (statusOf c)) 0) (leb c p) h
 codes-not-five : (n : ℕ) (s : List ℕ) (at i p : ℕ) {k j c : ℕ} → codesReading n s at i p ≡ Refused k j c → k ≡ 5 → ⊥
 codes-not-five zero s at i p h = let z : _≡_ {A = ℕ} 0 1 = cc in absurd (never z)
 codes-not-five (suc n) s at i p {k} {j} {c} h =
-    go (eqb (codeRefusal (getD s at 0) p) 0) (λ e. codes-not-five n s (at + 5) (i + 1) (getD s at 0) e) h
+    go (eqb (codeRefusal (getD s at 0) p) 0) (λ e. codes-not-five n s (at + COMPONENT_BYTES) (i + 1) (getD s at 0) e) h
   where
-    go : (t : Bool) → (codesReading n s (at + 5) (i + 1) (getD s at 0) ≡ Refused k j c → k ≡ 5 → ⊥)
-        → cond t (codesReading n s (at + 5) (i + 1) (getD s at 0))
+    go : (t : Bool) → (codesReading n s (at + COMPONENT_BYTES) (i + 1) (getD s at 0) ≡ Refused k j c → k ≡ 5 → ⊥)
+        → cond t (codesReading n s (at + COMPONENT_BYTES) (i + 1) (getD s at 0))
         (Refused (codeRefusal (getD s at 0) p) i 0) ≡ Refused k j c → k ≡ 5 → ⊥
     go true ih h f = ih h f
     go false ih h f = let z : codeRefusal (getD s at 0) p ≡ k = cc in code-not-five (getD s at 0) p (z ∙ f)
@@ -128,14 +130,14 @@ module _ (s : List ℕ) (r : Sheet) where
       -- what an answer to the amounts says of the number
       refused-number : (number code : ℕ) → checked.Refused number code ≡ checkedOf (amountsRefusal n s) code
           → (amountsRefusal n s ≡ 0 → ⊥) × (number ≡ amountsRefusal n s)
-          × (code ≡ cond (eqb (amountsRefusal n s) 5) code 0)
+          × (code ≡ carried (amountsRefusal n s) code 0)
       refused-number number code e = go (eqb (amountsRefusal n s) 0) refl e
         where
           go : (t : Bool) → eqb (amountsRefusal n s) 0 ≡ t
               → checked.Refused number code ≡ cond t checked.InRange
-              (checked.Refused (amountsRefusal n s) (cond (eqb (amountsRefusal n s) 5) code 0))
+              (checked.Refused (amountsRefusal n s) (carried (amountsRefusal n s) code 0))
               → (amountsRefusal n s ≡ 0 → ⊥) × (number ≡ amountsRefusal n s)
-              × (code ≡ cond (eqb (amountsRefusal n s) 5) code 0)
+              × (code ≡ carried (amountsRefusal n s) code 0)
           go true q e = let z : _≡_ {A = ℕ} 0 1 = cc in absurd (never z)
           go false q e = (eqb-false _ _ q, cc, cc)
 
@@ -164,7 +166,7 @@ module _ (s : List ℕ) (r : Sheet) where
         where
           go : (t : Bool) → eqb (amountsRefusal n s) 0 ≡ t
               → checked.InRange ≡ cond t checked.InRange
-              (checked.Refused (amountsRefusal n s) (cond (eqb (amountsRefusal n s) 5) 0 0)) → amountsRefusal n s ≡ 0
+              (checked.Refused (amountsRefusal n s) (carried (amountsRefusal n s) 0 0)) → amountsRefusal n s ≡ 0
           go true q e = eqb-true _ _ q
           go false q e = let z : _≡_ {A = ℕ} 0 1 = cc in absurd (never z)
 

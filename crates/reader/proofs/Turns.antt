@@ -1,7 +1,7 @@
 -- One turn of each loop over records, and what the tests say of the definitions. Assumes nothing.
 use mathlib.Core.Path.{_≡_, refl, ap, sym, _∙_}
 use mathlib.Core.List.{List, _++_}
-use mathlib.Core.Bool.{Bool, true, false, _||_, cond}
+use mathlib.Core.Bool.{Bool, true, false, _||_, cond, or-true}
 use Prim.Native.Nat.{ℕ, suc, _+_, _-_, _*_, _≤_, _<_}
 use native.Mathlib.Omega.{arith}
 use native.Mathlib.Numerals.{add-one}
@@ -14,11 +14,10 @@ use Rattle.analysis.specs.Register.{CODES, statusOf}
 use Rattle.analysis.specs.Laws.Table.{at}
 use Rattle.sheet.specs.declared.Reading.the-variants.{Read, Refused}
 use Rattle.sheet.specs.Bytes.{fourBytesAt}
-use Rattle.sheet.specs.Components.{refusalBy, codeRefusal, codesReading, amountsFrom, zeroListed}
+use Rattle.sheet.specs.Components.{COMPONENT_BYTES, refusalBy, codeRefusal, codesReading, amountsFrom, zeroListed}
 use Rattle.sheet.specs.declared.Split.{Split}
-use Rattle.sheet.specs.Split.{RECORDS, byteColumn, amountColumn, padded, splitAt}
+use Rattle.sheet.specs.Split.{RECORDS, RECORD_BYTES, byteColumn, amountColumn, padded, splitAt}
 use Rattle.sheet.specs.Laws.Forth.{length-byte-column, length-amount-column}
-use Rattle.reader.specs.Inner.Find.{ZeroRecord}
 use Rattle.sheet.specs.Laws.Cases.{status-above, code-status, code-order, code-fine}
 
 -- the code's tests of a code are the register's
@@ -27,10 +26,6 @@ tested c = cond (eqb c 0 || eqb c 14 || ltb 15 c) 2 (cond (eqb c 9 || eqb c 13) 
 
 abbrev places : List ℕ
 places = replicate CODES 0
-
-or-true : (b : Bool) → (b || true) ≡ true
-or-true true = refl
-or-true false = refl
 
 tested-low : (c : ℕ) → c < CODES → T (eqb (tested c) (refusalBy (statusOf c)))
 unfolding statusOf
@@ -72,7 +67,7 @@ module _ (c p : ℕ) where
 
 module _ (n i : ℕ) (s : List ℕ) (at p : ℕ) where
   pub codes-go : i < n → codeRefusal (getD s at 0) p ≡ 0
-      → codesReading (n - i) s at i p ≡ codesReading (n - (i + 1)) s (at + 5) (i + 1) (getD s at 0)
+      → codesReading (n - i) s at i p ≡ codesReading (n - (i + 1)) s (at + COMPONENT_BYTES) (i + 1) (getD s at 0)
   codes-go h f =
       let e : n - i ≡ suc (n - (i + 1)) = omega arith in
       rw e (simp (eq-eqb _ _ f))
@@ -89,7 +84,7 @@ module _ (n i : ℕ) (s : List ℕ) (at p : ℕ) where
       rw e
 
 module _ (n i : ℕ) (s : List ℕ) (at : ℕ) (a : List ℕ) where
-  pub amounts-go : i < n → amountsFrom (n - i) s at a ≡ amountsFrom (n - (i + 1)) s (at + 5)
+  pub amounts-go : i < n → amountsFrom (n - i) s at a ≡ amountsFrom (n - (i + 1)) s (at + COMPONENT_BYTES)
       (set a (getD s at 0) (fourBytesAt s (at + 1)))
   amounts-go h =
       let e : n - i ≡ suc (n - (i + 1)) = omega arith in
@@ -103,7 +98,7 @@ module _ (n i : ℕ) (s : List ℕ) (at : ℕ) (a : List ℕ) where
 -- the amounts so far and the records from place i on give those of all
 pub record Listed (s : List ℕ) (n : ℕ) (a : List ℕ) (i at : ℕ) : Type 0 where
   pub most : i ≤ n
-  pub there : at ≡ 1 + 5 * i
+  pub there : at ≡ 1 + COMPONENT_BYTES * i
   pub long : length a ≡ CODES
   pub same : amountsFrom (n - i) s at a ≡ amountsFrom n s 1 (replicate CODES 0)
 
@@ -112,27 +107,30 @@ listed-none s n = record { most = omega arith; there = omega arith; long = refl;
 
 module _ (s : List ℕ) (n : ℕ) (a : List ℕ) (i at : ℕ) (w : Listed s n a i at) where
   module _ (h : i < n) (b : List ℕ) where
-    next : b ≡ set a (getD s at 0) (fourBytesAt s (at + 1)) → Listed s n b (i + 1) (at + 5)
+    next : b ≡ set a (getD s at 0) (fourBytesAt s (at + 1)) → Listed s n b (i + 1) (at + COMPONENT_BYTES)
     next e =
         record {
           most = omega arith;
           there = omega (arith, w .there);
           long = ap length e ∙ length-set a (getD s at 0) (fourBytesAt s (at + 1)) ∙ w .long;
           same =
-              ap (λ (x : List ℕ). amountsFrom (n - (i + 1)) s (at + 5) x) e ∙ sym (amounts-go n i s at a h) ∙ w .same;
+              ap (λ (x : List ℕ). amountsFrom (n - (i + 1)) s (at + COMPONENT_BYTES) x) e
+              ∙ sym (amounts-go n i s at a h) ∙ w .same;
         }
 
-    pub listed-in : (x : ℕ) → x ≡ fourBytesAt s (at + 1) → b ≡ set a (getD s at 0) x → Listed s n b (i + 1) (at + 5)
+    pub listed-in : (x : ℕ) → x ≡ fourBytesAt s (at + 1) → b ≡ set a (getD s at 0) x
+        → Listed s n b (i + 1) (at + COMPONENT_BYTES)
     listed-in x f e = next (e ∙ ap (λ (y : ℕ). set a (getD s at 0) y) f)
 
-    pub listed-out : CODES ≤ getD s at 0 → b ≡ a → Listed s n b (i + 1) (at + 5)
+    pub listed-out : CODES ≤ getD s at 0 → b ≡ a → Listed s n b (i + 1) (at + COMPONENT_BYTES)
     listed-out k e = next (e ∙ sym (set-out a (getD s at 0) (fourBytesAt s (at + 1)) (omega (arith, w .long))))
 
   pub listed-all : n ≤ i → a ≡ amountsFrom n s 1 (replicate CODES 0)
   listed-all h = sym (amounts-end n i s at a h) ∙ w .same
 
 module _ (n i : ℕ) (s : List ℕ) (at : ℕ) where
-  pub zero-go : i < n → (fourBytesAt s (at + 1) ≡ 0 → ⊥) → zeroListed (n - i) s at ≡ zeroListed (n - (i + 1)) s (at + 5)
+  pub zero-go : i < n → (fourBytesAt s (at + 1) ≡ 0 → ⊥)
+      → zeroListed (n - i) s at ≡ zeroListed (n - (i + 1)) s (at + COMPONENT_BYTES)
   zero-go h f =
       let e : n - i ≡ suc (n - (i + 1)) = omega arith in
       rw e (simp (ne-eqb _ _ f))
@@ -147,10 +145,17 @@ module _ (n i : ℕ) (s : List ℕ) (at : ℕ) where
       let e : n - i ≡ 0 = omega arith in
       rw e
 
+-- the place of a record with the amount 0 among `n`, or `n` where there is none
+pub record ZeroRecord (n : ℕ) (s : List ℕ) (r : ℕ) : Type 0 where
+  pub within : r ≤ n
+  pub none : n ≤ r → zeroListed n s 1 ≡ false
+  pub some : r < n → zeroListed n s 1 ≡ true
+  pub zero-there : r < n → fourBytesAt s (1 + COMPONENT_BYTES * r + 1) ≡ 0
+
 -- one of the records from place i on is at 0 where one of all is
 pub record Looked (s : List ℕ) (n i at : ℕ) : Type 0 where
   pub most : i ≤ n
-  pub there : at ≡ 1 + 5 * i
+  pub there : at ≡ 1 + COMPONENT_BYTES * i
   pub same : zeroListed (n - i) s at ≡ zeroListed n s 1
 
 pub looked-none : (s : List ℕ) (n : ℕ) → Looked s n 0 1
@@ -158,7 +163,7 @@ looked-none s n = record { most = omega arith; there = omega arith; same = rw su
 
 module _ (s : List ℕ) (n i at : ℕ) (w : Looked s n i at) where
   module _ (h : i < n) (x : ℕ) (f : x ≡ fourBytesAt s (at + 1)) where
-    pub looked-next : (x ≡ 0 → ⊥) → Looked s n (i + 1) (at + 5)
+    pub looked-next : (x ≡ 0 → ⊥) → Looked s n (i + 1) (at + COMPONENT_BYTES)
     looked-next k =
         record {
           most = omega arith;
@@ -186,7 +191,7 @@ module _ (s : List ℕ) (n i at : ℕ) (w : Looked s n i at) where
       }
 
 -- a turn that stores an element of a column
-module _ (m i : ℕ) (s : List ℕ) (v w : ℕ) (e : w ≡ v + 6) (xs : List ℕ) where
+module _ (m i : ℕ) (s : List ℕ) (v w : ℕ) (e : w ≡ v + RECORD_BYTES) (xs : List ℕ) where
   pub bytes-go : i < m → sets xs i (byteColumn (m - i) s v) ≡ sets (set xs i (getD s v 0)) (i + 1)
       (byteColumn (m - (i + 1)) s w)
   bytes-go h =
@@ -229,7 +234,7 @@ sets-padded vs h =
 -- the columns so far and the records from place i on give those of all
 pub record Columns (s : List ℕ) (at m : ℕ) (xs ys zs : List ℕ) (i w : ℕ) : Type 0 where
   pub most : i ≤ m
-  pub there : w ≡ at + 6 * i
+  pub there : w ≡ at + RECORD_BYTES * i
   pub systems : sets xs i (byteColumn (m - i) s w) ≡ sets (replicate RECORDS 0) 0 (byteColumn m s at)
   pub codes : sets ys i (byteColumn (m - i) s (w + 1)) ≡ sets (replicate RECORDS 0) 0 (byteColumn m s (at + 1))
   pub amounts : sets zs i (amountColumn (m - i) s (w + 2)) ≡ sets (replicate RECORDS 0) 0 (amountColumn m s (at + 2))
@@ -247,14 +252,14 @@ columns-none s at m =
 
 module _ (s : List ℕ) (at m : ℕ) (xs ys zs : List ℕ) (i w : ℕ) (l : Columns s at m xs ys zs i w) where
   pub columns-next : i < m → (n : ℕ) → n ≡ fourBytesAt s (w + 2)
-      → Columns s at m (set xs i (getD s w 0)) (set ys i (getD s (w + 1) 0)) (set zs i n) (i + 1) (w + 6)
+      → Columns s at m (set xs i (getD s w 0)) (set ys i (getD s (w + 1) 0)) (set zs i n) (i + 1) (w + RECORD_BYTES)
   columns-next t n f =
       record {
         most = omega arith;
         there = omega (arith, l .there);
-        systems = sym (bytes-go m i s w (w + 6) refl xs t) ∙ l .systems;
-        codes = sym (bytes-go m i s (w + 1) (w + 6 + 1) (omega arith) ys t) ∙ l .codes;
-        amounts = rw f (sym (column-go m i s (w + 2) (w + 6 + 2) (omega arith) zs t) ∙ l .amounts);
+        systems = sym (bytes-go m i s w (w + RECORD_BYTES) refl xs t) ∙ l .systems;
+        codes = sym (bytes-go m i s (w + 1) (w + RECORD_BYTES + 1) (omega arith) ys t) ∙ l .codes;
+        amounts = rw f (sym (column-go m i s (w + 2) (w + RECORD_BYTES + 2) (omega arith) zs t) ∙ l .amounts);
       }
 
   pub columns-all : m ≤ i → m ≤ RECORDS → (r : Split)

@@ -1,1 +1,1 @@
-pub mod Find
+pub mod Refused

@@ -8,7 +8,7 @@ ghost use Rattle.sheet.specs.Components.{COMPONENT_BYTES, codeRefusal, codesRea
 ghost use Rattle.sheet.specs.Split.{RECORDS, RECORD_BYTES, splitAt};
 ghost use Rattle.sheet.specs.Sheet.{LISTED, sectionsOf};
 ghost use Rattle.sheet.specs.Read.{readAmounts, refusedSheet, ReadAs};
-ghost use Rattle.reader.specs.Inner.Find.{AmountsRefused};
+ghost use Rattle.reader.specs.Inner.Refused.{AmountsRefused};
 use analysis::Analysis;
 use analysis::CODES;
 use analysis::Checked;

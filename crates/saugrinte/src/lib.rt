@@ -12,7 +12,7 @@ ghost use Rattle.whole_number.specs.Whole.{wholeNumber};
 ghost use Rattle.controller.specs.Record.{recordOf};
 ghost use Rattle.split.specs.AnswerCases.{figuresOf, bufferOf};
 ghost use Rattle.outcome.specs.Rate.{splitAnswer, searchOutcome, sheetOutcome};
-ghost use Rattle.c_reply.specs.Interface.{VERSION, codeIn, replyOf, splitFrom, size};
+ghost use Rattle.c_reply.specs.Interface.{VERSION, codeIn, replyOf, splitFrom, bytesIn};
 ghost use Rattle.c_reply.specs.Interface.{partialReply, partialIn, readReply, readOr};
 ghost use Rattle.c_reply.specs.Interface.{writtenReply, writtenLength};
 use analysis::CODES;
@@ -144,7 +144,7 @@ pub extern "C" fn saugrinte_write(
     length: &mut usize,
 ) -> Reply
     ensures { λ r. let p = splitFrom count (now (systems .entry)) (now (codes .entry)) (now (parts .entry)) in
-        let x = writtenOf (now (amounts .entry)) p (size (now (buffer .entry))) (codeIn r) in ⌜ (r ≡ writtenReply x)
+        let x = writtenOf (now (amounts .entry)) p (bytesIn (now (buffer .entry))) (codeIn r) in ⌜ (r ≡ writtenReply x)
         × (now (buffer .exit) ≡ leftOf (now (amounts .entry)) p (now (buffer .entry)))
         × (now (length .exit) ≡ writtenLength x (now (length .entry))) ⌝ }
     ensures { λ r. ⌜ (r .number ≡ 5 → AtFault (now (amounts .entry)) (codeIn r)) ⌝ }

@@ -1,4 +1,5 @@
--- The round trips of the calls: what the promises of the reader and the writer say together. Assumes nothing.
+-- The round trips of the calls (document 01, "Writer, display, controller"): what the promises of the reader and the
+-- writer say together. Assumes nothing.
 use mathlib.Core.Path.{_≡_, ap, sym, _∙_}
 use mathlib.Core.List.{List, _++_}
 use Prim.Native.Nat.{ℕ, _≤_}

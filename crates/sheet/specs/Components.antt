@@ -2,7 +2,7 @@
 -- bytes. Assumes nothing.
 use Prim.Native.Nat.{ℕ, zero, suc, _+_}
 use mathlib.Core.List.{List, [], _∷_, _++_}
-use mathlib.Core.Bool.{Bool, true, false, cond}
+use mathlib.Core.Bool.{Bool, false, _||_, cond}
 use lib.ListN.{getD, set}
 use lib.Dec.{leb, eqb}
 use Rattle.refusal.specs.Register.{UNKNOWN, RETIRED, OUT_OF_ORDER}
@@ -45,7 +45,7 @@ amountsFrom (suc n) s at amounts =
 -- is a component listed at 0 in `n` records at `at`?
 abbrev pub zeroListed : ℕ → List ℕ → ℕ → Bool
 zeroListed zero s at = false
-zeroListed (suc n) s at = cond (eqb (fourBytesAt s (at + 1)) 0) true (zeroListed n s (at + COMPONENT_BYTES))
+zeroListed (suc n) s at = eqb (fourBytesAt s (at + 1)) 0 || zeroListed n s (at + COMPONENT_BYTES)
 
 -- how many amounts are listed: only codes with an amount are
 abbrev pub listedCount : List ℕ → ℕ

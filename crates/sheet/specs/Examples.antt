@@ -2,12 +2,13 @@
 use mathlib.Core.Path.{_≡_, refl}
 use mathlib.Core.List.{List, [], _∷_}
 use mathlib.Core.Bool.{true, false}
-use Prim.Native.Nat.{ℕ, _-_}
+use Prim.Native.Nat.{ℕ}
 use lib.ListN.{length, replicate}
 use Rattle.refusal.specs.Keys.{isIn}
-use Rattle.analysis.specs.Register.{CODES, statusOf}
+use Rattle.analysis.specs.Register.{statusOf}
 use Rattle.analysis.specs.Check.{inRange, totalFits, analysisRefusal}
-use Rattle.section.specs.Section.{endAt, tornOr, sectionAt}
+use Rattle.analysis.specs.Examples.{tableA1}
+use Rattle.section.specs.Section.{endAt, sectionAt}
 use Rattle.sheet.specs.declared.Reading.the-variants.{Refused}
 use Rattle.sheet.specs.declared.Split.{Split}
 use Rattle.sheet.specs.Split.{RECORDS, LONGEST_SPLIT, allowedCount, noSplit}
@@ -18,23 +19,23 @@ use Rattle.sheet.specs.Write.{writeRefusal}
 
 -- the bytes 01 09 00 00 00 64 00 are refused 3, at place 0
 retired-code : readOf (1 ∷ 9 ∷ 0 ∷ 0 ∷ 0 ∷ 100 ∷ 0 ∷ []) 0 ≡ refusedSheet (Refused 3 0 0)
-unfolding readOf readBy sectionsOf sectionAt endAt tornOr allowedCount codeRefusal statusOf isIn
+unfolding readOf readBy sectionsOf sectionAt endAt allowedCount codeRefusal statusOf isIn
 retired-code = refl
 
 -- a sheet of two counts of 0 has no methane
 empty-sheet : readOf (0 ∷ 0 ∷ []) 1 ≡ refusedSheet (Refused 5 0 1)
-unfolding readOf readBy sectionsOf sectionAt endAt tornOr allowedCount amountsRefusal analysisRefusal inRange statusOf
+unfolding readOf readBy sectionsOf sectionAt endAt allowedCount amountsRefusal analysisRefusal inRange statusOf
     isIn
 empty-sheet = refl
 
 -- a byte left over
 byte-over : readOf (0 ∷ 0 ∷ 0 ∷ []) 0 ≡ refusedSheet (Refused 1 0 0)
-unfolding readOf readBy sectionsOf sectionAt endAt tornOr allowedCount isIn
+unfolding readOf readBy sectionsOf sectionAt endAt allowedCount isIn
 byte-over = refl
 
 -- a count of 6 is allowed, but its records are missing; one of 3 is not
 six-missing : readOf (0 ∷ 6 ∷ []) 0 ≡ refusedSheet (Refused 1 0 0)
-unfolding readOf readBy sectionsOf sectionAt endAt tornOr allowedCount isIn
+unfolding readOf readBy sectionsOf sectionAt endAt allowedCount isIn
 six-missing = refl
 
 counts-allowed : (allowedCount 0 ≡ true) × (allowedCount 6 ≡ true) × (allowedCount 9 ≡ true)
@@ -47,15 +48,7 @@ counts-refused : (allowedCount 3 ≡ false) × (allowedCount 10 ≡ false) × (a
 unfolding allowedCount isIn
 counts-refused = (refl, refl, refl, refl)
 
--- the gas of 001 Table A.1, by code
-abbrev pub tableA1 : List ℕ
-tableA1 = 0 ∷ 970797 ∷ 16658 ∷ 2417 ∷ 346 ∷ 245 ∷ 11 ∷ 73 ∷ 125 ∷ 0 ∷ 84 ∷ 528 ∷ 8715 ∷ replicate (CODES - 13) 0
-
--- it is in range, and its sheet has 57 bytes
-table-a1-passes : analysisRefusal tableA1 ≡ 0
-unfolding analysisRefusal inRange totalFits statusOf
-table-a1-passes = refl
-
+-- the sheet of the gas of 001 Table A.1 has 57 bytes
 table-a1-length : length (sheetOf tableA1 noSplit) ≡ 57
 table-a1-length = refl
 

@@ -77,4 +77,4 @@ FaultInSheet s code = FaultIn (getD s 0 0) s code
 -- the promise of the reader: the sheet is fixed but for the code of 5, and that is a code at fault
 pub record ReadAs (s : List ℕ) (r : Sheet) : Type 0 where
   pub sheet : r ≡ readOf s (faultOf (r .answer))
-  pub code : numberOf (r .answer) ≡ 5 → FaultInSheet s (faultOf (r .answer))
+  pub code : numberOf (r .answer) ≡ OUT_OF_RANGE → FaultInSheet s (faultOf (r .answer))

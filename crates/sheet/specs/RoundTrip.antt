@@ -2,7 +2,7 @@
 -- reading what was written gives the same analysis and the same split. Assumes nothing.
 use mathlib.Core.Path.{_≡_, refl, ap, sym, _∙_, subst}
 use mathlib.Core.List.{List, [], _∷_, _++_, append-nil}
-use mathlib.Core.Bool.{Bool, true, false, cond}
+use mathlib.Core.Bool.{Bool, true, false, cond, and-eq-true-iff}
 use Prim.Native.Nat.{ℕ, zero, suc, _+_, _-_, _*_, _≤_, _<_}
 use native.Mathlib.Omega.{arith}
 use lib.ListN.{length, getD, take, drop, replicate, length-append}
@@ -19,13 +19,14 @@ use Rattle.sheet.specs.declared.Sections.the-variants.{Torn, Both}
 use Rattle.sheet.specs.declared.Sheet.{Sheet}
 use Rattle.sheet.specs.declared.Split.{Split}
 use Rattle.sheet.specs.declared.Written.the-variants as w
-use Rattle.sheet.specs.Components.{codesReading, amountsFrom, zeroListed, listedCount, componentBytes}
+use Rattle.sheet.specs.Components.{COMPONENT_BYTES, codesReading, amountsFrom, zeroListed, listedCount}
+use Rattle.sheet.specs.Components.{componentBytes}
 use Rattle.sheet.specs.Split.{RECORDS, allowedCount, splitBytes, byteColumn, amountColumn, padded, splitAt}
 use Rattle.sheet.specs.Split.{trimmed}
 use Rattle.sheet.specs.Sheet.{LISTED, SHEET, sheetOf, sectionsOf}
 use Rattle.sheet.specs.Read.{readAmounts, amountsRefusal, refusedSheet, contentOf, readOf}
 use Rattle.sheet.specs.Write.{writeRefusal, writtenOf, leftOf}
-use Rattle.sheet.specs.Laws.Cases.{both-true, allowed-most, allowed-room, Sectioned, sectioned, sections-both}
+use Rattle.sheet.specs.Laws.Cases.{allowed-most, allowed-room, Sectioned, sectioned, sections-both}
 use Rattle.sheet.specs.Laws.Cases.{read-torn, read-good, Whole, read-whole, amounts-checked, amounts-back}
 use Rattle.sheet.specs.Laws.Cases.{length-components, length-sheet, number-none, number-back, written-length}
 use Rattle.sheet.specs.Laws.Cases.{written-back, left-sheet}
@@ -46,7 +47,7 @@ count-room : (k : ℕ) (xs : List ℕ) → allInRange k xs ≡ true → listedCo
 unfolding room
 count-room k [] h = omega arith
 count-room k (x ∷ xs) h =
-    let g = both-true (inRange k x) (allInRange (suc k) xs) h in
+    let g = and-eq-true-iff (inRange k x) (allInRange (suc k) xs) .0 h in
     go (g .0) (count-room (suc k) xs (g .1)) (eqb x 0) (eqb (greatestOf k) 0) refl refl
   where
     go : inRange k x ≡ true → listedCount xs ≤ room (suc k) (length xs) → (t u : Bool) → eqb x 0 ≡ t
@@ -169,27 +170,27 @@ module _ (xs : List ℕ) (p : Split) (k : Sized (0 ∷ xs) p) (allowed : allowed
   n = listedCount xs
 
   all : allInRange 1 xs ≡ true
-  all = both-true (inRange 0 0) (allInRange 1 xs) (passed-ranges (0 ∷ xs) passed) .1
+  all = and-eq-true-iff (inRange 0 0) (allInRange 1 xs) .0 (passed-ranges (0 ∷ xs) passed) .1
 
-  records-at : drop (1 + 5 * n) s ≡ r
+  records-at : drop (1 + COMPONENT_BYTES * n) s ≡ r
   unfolding s r n
   records-at =
       let e = length-components 1 xs in
-      drop-at (n ∷ componentBytes 1 xs) r (1 + 5 * n) (omega arith)
+      drop-at (n ∷ componentBytes 1 xs) r (1 + COMPONENT_BYTES * n) (omega arith)
 
-  records-count : getD s (1 + 5 * n) 0 ≡ p .count
+  records-count : getD s (1 + COMPONENT_BYTES * n) 0 ≡ p .count
   unfolding s r n
   records-count =
       let e = length-components 1 xs in
-      getD-at (n ∷ componentBytes 1 xs) (p .count) (splitBytes p) 0 (1 + 5 * n) (omega arith)
+      getD-at (n ∷ componentBytes 1 xs) (p .count) (splitBytes p) 0 (1 + COMPONENT_BYTES * n) (omega arith)
 
-  split-at : drop (2 + 5 * n) s ≡ splitBytes p
+  split-at : drop (2 + COMPONENT_BYTES * n) s ≡ splitBytes p
   unfolding s r n
   split-at =
-      let e : 2 + 5 * n ≡ 1 + 5 * n + 1 = omega arith in
-      ap (λ (j : ℕ). drop j s) e ∙ rest-here s (1 + 5 * n) r records-at 1
+      let e : 2 + COMPONENT_BYTES * n ≡ 1 + COMPONENT_BYTES * n + 1 = omega arith in
+      ap (λ (j : ℕ). drop j s) e ∙ rest-here s (1 + COMPONENT_BYTES * n) r records-at 1
 
-  sections : sectionsOf s ≡ Both n (p .count) (2 + 5 * n)
+  sections : sectionsOf s ≡ Both n (p .count) (2 + COMPONENT_BYTES * n)
   unfolding s n
   sections =
       let few = count-most (0 ∷ xs) (k .amounts-of-codes) passed in
@@ -209,11 +210,11 @@ module _ (xs : List ℕ) (p : Split) (k : Sized (0 ∷ xs) p) (allowed : allowed
       let l : length xs ≡ CODES - 1 = omega (arith, k .amounts-of-codes) in
       ap (λ (j : ℕ). amountsFrom n s 1 (0 ∷ replicate j 0)) (sym l) ∙ amounts-filled xs 1 (0 ∷ []) s 1 r refl refl
 
-  split : splitAt (p .count) s (2 + 5 * n) ≡ trimmed p
+  split : splitAt (p .count) s (2 + COMPONENT_BYTES * n) ≡ trimmed p
   unfolding s n
   split =
       let h = allowed-room (p .count) allowed in
-      let b = split-back (p .systems) (p .codes) (p .amounts) (p .count) 0 s (2 + 5 * n) split-at in
+      let b = split-back (p .systems) (p .codes) (p .amounts) (p .count) 0 s (2 + COMPONENT_BYTES * n) split-at in
       let x = ap padded (b .0 ∙ column-cut (p .count) (p .systems) h (k .systems)) in
       let y = ap padded (b .1 ∙ column-cut (p .count) (p .codes) h (k .codes)) in
       let z = ap padded (b .2 ∙ column-cut (p .count) (p .amounts) h (k .amounts)) in
@@ -223,9 +224,9 @@ module _ (xs : List ℕ) (p : Split) (k : Sized (0 ∷ xs) p) (allowed : allowed
   unfolding s n
   read-sheet =
       let j : amountsRefusal n s ≡ 0 = amounts-checked n s zeros ∙ ap analysisRefusal amounts ∙ passed in
-      let e : contentOf n (p .count) (2 + 5 * n) s ≡ asRead (0 ∷ xs) (trimmed p) =
+      let e : contentOf n (p .count) (2 + COMPONENT_BYTES * n) s ≡ asRead (0 ∷ xs) (trimmed p) =
       λ i. record { answer = Read; analysis = record { amounts = amounts i }; split = split i } in
-      read-good s code n (p .count) (2 + 5 * n) sections codes j ∙ e
+      read-good s code n (p .count) (2 + COMPONENT_BYTES * n) sections codes j ∙ e
 
 -- 0 is no code
 no-code : (x : ℕ) → inRange 0 x ≡ true → x ≡ 0
@@ -238,7 +239,7 @@ pub read-bytes : (a : List ℕ) (p : Split) → Sized a p → allowedCount (p .c
     → readOf (sheetOf a p) code ≡ asRead a (trimmed p)
 read-bytes [] p k allowed passed code = absurd (omega (arith, k .amounts-of-codes))
 read-bytes (x ∷ xs) p k allowed passed code =
-    let g = both-true (inRange 0 x) (allInRange 1 xs) (passed-ranges (x ∷ xs) passed) in
+    let g = and-eq-true-iff (inRange 0 x) (allInRange 1 xs) .0 (passed-ranges (x ∷ xs) passed) in
     let e : x ≡ 0 = no-code x (g .0) in
     subst (λ (y : ℕ). Sized (y ∷ xs) p → analysisRefusal (y ∷ xs) ≡ 0
     → readOf (sheetOf (y ∷ xs) p) code ≡ asRead (y ∷ xs) (trimmed p))
@@ -277,9 +278,10 @@ module _ (s : List ℕ) (bytes : Bytes s) (x : Whole s) where
   passed : (zeroListed (x .n) s 1 ≡ false) × (analysisRefusal (readAmounts (x .n) s) ≡ 0)
   passed = amounts-back (x .n) s (x .amounts)
 
-  filled : Filled (x .n) s 1 0 (1 + 5 * x .n) (0 ∷ []) (CODES - 1)
+  filled : Filled (x .n) s 1 0 (1 + COMPONENT_BYTES * x .n) (0 ∷ []) (CODES - 1)
   filled =
-      filled-forth (x .n) s bytes 1 0 0 (1 + 5 * x .n) (0 ∷ []) (CODES - 1) (x .codes) (passed .0) refl refl refl
+      filled-forth (x .n) s bytes 1 0 0 (1 + COMPONENT_BYTES * x .n) (0 ∷ []) (CODES - 1) (x .codes)
+      (passed .0) refl refl refl
       (omega (arith, shape .size))
 
   p : Split
@@ -303,9 +305,10 @@ module _ (s : List ℕ) (bytes : Bytes s) (x : Whole s) where
   unfolding p
   sheet-same =
       let q : List ℕ = x .m ∷ splitBytes p in
-      let e : q ≡ drop (1 + 5 * x .n) s = ap (λ (l : List ℕ). x .m ∷ l) records
+      let e : q ≡ drop (1 + COMPONENT_BYTES * x .n) s = ap (λ (l : List ℕ). x .m ∷ l) records
       ∙ ap (λ (j : ℕ). j ∷ drop (x .first) s) (shape .records)
-      ∙ sym (one s bytes (1 + 5 * x .n) (x .first) (omega (arith, shape .begins)) (omega (arith, shape .size))) in
+      ∙ sym (one s bytes (1 + COMPONENT_BYTES * x .n) (x .first) (omega (arith, shape .begins))
+      (omega (arith, shape .size))) in
       ap (λ (a : List ℕ). (listedCount a ∷ componentBytes 0 a) ++ q) (filled .filled)
       ∙ ap (λ (j : ℕ). (j ∷ componentBytes 1 (filled .ys)) ++ q) (filled .count)
       ∙ ap (λ (l : List ℕ). (x .n ∷ componentBytes 1 (filled .ys)) ++ l) e

@@ -30,10 +30,11 @@ splitCounts = 0 ∷ SHORTEST_SPLIT ∷ 9 ∷ 12 ∷ 15 ∷ 18 ∷ LONGEST_SPLIT 
 unfoldable pub allowedCount : ℕ → Bool
 allowedCount m = isIn m splitCounts
 
--- the bytes of `m` records from the place `i` on, of the columns `xs`, `ys` and `zs`
+-- the bytes of `m` records from the place `i` on, of the three columns
 abbrev pub recordBytes : ℕ → ℕ → List ℕ → List ℕ → List ℕ → List ℕ
-recordBytes zero i xs ys zs = []
-recordBytes (suc m) i xs ys zs = getD xs i 0 ∷ getD ys i 0 ∷ bytesOf (getD zs i 0) ++ recordBytes m (i + 1) xs ys zs
+recordBytes zero i systems codes amounts = []
+recordBytes (suc m) i systems codes amounts =
+    getD systems i 0 ∷ getD codes i 0 ∷ bytesOf (getD amounts i 0) ++ recordBytes m (i + 1) systems codes amounts
 
 abbrev pub splitBytes : Split → List ℕ
 splitBytes p = recordBytes (p .count) 0 (p .systems) (p .codes) (p .amounts)

@@ -6,7 +6,7 @@ use mathlib.Core.Path.{_≡_}
 use mathlib.Core.List.{List, _++_}
 use lib.ListN.{length, drop}
 use lib.Dec.{leb, eqb}
-use Rattle.refusal.specs.Register.{TORN, SHORT_BLANK, carried}
+use Rattle.refusal.specs.Register.{TORN, OUT_OF_RANGE, SHORT_BLANK, carried}
 use Rattle.analysis.specs.Check.{analysisRefusal, AtFault}
 use Rattle.sheet.specs.declared.Split.{Split}
 use Rattle.sheet.specs.declared.Written.{Written}
@@ -25,12 +25,13 @@ writeRefusal analysis split size =
     (analysisRefusal analysis))
     TORN
 
--- the answer; a refusal 5 carries `code`
+-- the answer by its number and the length of the sheet; a refusal 5 carries `code`
+abbrev pub writtenBy : ℕ → ℕ → ℕ → Written
+writtenBy number long code = cond (eqb number 0) (Length long) (Refused number (carried number code 0))
+
 unfoldable pub writtenOf : List ℕ → Split → ℕ → ℕ → Written
 writtenOf analysis split size code =
-    cond (eqb (writeRefusal analysis split size) 0)
-    (Length (length (sheetOf analysis split)))
-    (Refused (writeRefusal analysis split size) (carried (writeRefusal analysis split size) code 0))
+    writtenBy (writeRefusal analysis split size) (length (sheetOf analysis split)) code
 
 -- the buffer after it: the sheet's bytes at its start and the rest as it was, or all of it as it was
 unfoldable pub leftOf : List ℕ → Split → List ℕ → List ℕ
@@ -42,4 +43,4 @@ leftOf analysis split lent =
 pub record WrittenAs (analysis : List ℕ) (split : Split) (lent : List ℕ) (r : Written) (left : List ℕ) : Type 0 where
   pub answer : r ≡ writtenOf analysis split (length lent) (faultOf r)
   pub buffer : left ≡ leftOf analysis split lent
-  pub code : numberOf r ≡ 5 → AtFault analysis (faultOf r)
+  pub code : numberOf r ≡ OUT_OF_RANGE → AtFault analysis (faultOf r)

@@ -5,10 +5,11 @@ use mathlib.Core.Bool.{Bool, true, false, Bool·beq}
 use native.Mathlib.Omega.{arith}
 use lib.Dec.{T, eqb, leb, leb→le}
 use borrow.Author.Tests.{ne-eqb}
+use Rattle.refusal.specs.Laws.Alike.{beq-is}
 use Rattle.systems.specs.Systems.{COMPONENTS, memberOf, hasOf}
 use Rattle.systems.specs.Choice.{NUMBERS, maskFrom, maskOf}
 use Rattle.systems.specs.Laws.Members.{member-none}
-use Rattle.systems.specs.Laws.Table.{everyTo, eachTo, agree, agree-at, beq-is}
+use Rattle.systems.specs.Laws.Table.{everyTo, eachTo, agree, agree-at}
 
 -- ---- the members
 

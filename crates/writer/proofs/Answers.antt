@@ -7,14 +7,15 @@ use native.Mathlib.Omega.{arith}
 use lib.ListN.{length, drop}
 use lib.Dec.{eqb, ltb}
 use borrow.Author.Tests.{eqb-true, eqb-false, ltb-true, ltb-false, lt-ltb, le-ltb}
+use Rattle.refusal.specs.Register.{SHORT_BLANK, carried}
 use Rattle.analysis.specs.declared.Checked.{Checked}
 use Rattle.analysis.specs.declared.Checked.the-variants as checked
 use Rattle.analysis.specs.Check.{analysisRefusal, checkedOf, Checking}
 use Rattle.sheet.specs.declared.Split.{Split}
 use Rattle.sheet.specs.declared.Written.{Written}
 use Rattle.sheet.specs.declared.Written.the-variants.{Length, Refused}
-use Rattle.sheet.specs.Split.{allowedCount}
-use Rattle.sheet.specs.Components.{listedCount}
+use Rattle.sheet.specs.Split.{RECORD_BYTES, allowedCount}
+use Rattle.sheet.specs.Components.{COMPONENT_BYTES, listedCount}
 use Rattle.sheet.specs.Sheet.{sheetOf}
 use Rattle.sheet.specs.Write.{writeRefusal, writtenOf, WrittenAs}
 use Rattle.sheet.specs.Laws.Cases.{never, length-sheet, number-count, number-check, number-short, number-none}
@@ -23,13 +24,13 @@ use Rattle.sheet.specs.Laws.Cases.{left-same}
 use Rattle.writer.specs.Inner.Answered.{Answered, roomFor}
 
 -- room or none
-pub room-short : (len size : ℕ) → size < len → Refused 14 0 ≡ roomFor len size
+pub room-short : (len size : ℕ) → size < len → Refused SHORT_BLANK 0 ≡ roomFor len size
 unfolding roomFor
-room-short len size h = ap (λ (t : Bool). cond t (Refused 14 0) (Length len)) (sym (lt-ltb size len h))
+room-short len size h = ap (λ (t : Bool). cond t (Refused SHORT_BLANK 0) (Length len)) (sym (lt-ltb size len h))
 
 pub room-length : (len size : ℕ) → len ≤ size → Length len ≡ roomFor len size
 unfolding roomFor
-room-length len size h = ap (λ (t : Bool). cond t (Refused 14 0) (Length len)) (sym (le-ltb size len h))
+room-length len size h = ap (λ (t : Bool). cond t (Refused SHORT_BLANK 0) (Length len)) (sym (le-ltb size len h))
 
 module _ (a : List ℕ) (p : Split) (size : ℕ) where
   pub answer-count : allowedCount (p .count) ≡ false → Answered a p size (Refused 1 0)
@@ -43,14 +44,14 @@ module _ (a : List ℕ) (p : Split) (size : ℕ) where
   module _ (h : allowedCount (p .count) ≡ true) where
     -- what a refusal by the check says of the number
     refused-number : (number code : ℕ) → checked.Refused number code ≡ checkedOf (analysisRefusal a) code
-        → (analysisRefusal a ≡ 0 → ⊥) × (analysisRefusal a ≡ number) × (cond (eqb (analysisRefusal a) 5) code 0 ≡ code)
+        → (analysisRefusal a ≡ 0 → ⊥) × (analysisRefusal a ≡ number) × (carried (analysisRefusal a) code 0 ≡ code)
     refused-number number code e = go (eqb (analysisRefusal a) 0) refl e
       where
         go : (t : Bool) → eqb (analysisRefusal a) 0 ≡ t
             → checked.Refused number code ≡ cond t checked.InRange
-            (checked.Refused (analysisRefusal a) (cond (eqb (analysisRefusal a) 5) code 0))
+            (checked.Refused (analysisRefusal a) (carried (analysisRefusal a) code 0))
             → (analysisRefusal a ≡ 0 → ⊥) × (analysisRefusal a ≡ number)
-            × (cond (eqb (analysisRefusal a) 5) code 0 ≡ code)
+            × (carried (analysisRefusal a) code 0 ≡ code)
         go true q e = let z : _≡_ {A = ℕ} 0 1 = cc in absurd (never z)
         go false q e = (eqb-false _ _ q, cc, cc)
 
@@ -74,19 +75,22 @@ module _ (a : List ℕ) (p : Split) (size : ℕ) where
       where
         go : (t : Bool) → eqb (analysisRefusal a) 0 ≡ t
             → checked.InRange ≡ cond t checked.InRange
-            (checked.Refused (analysisRefusal a) (cond (eqb (analysisRefusal a) 5) 0 0)) → analysisRefusal a ≡ 0
+            (checked.Refused (analysisRefusal a) (carried (analysisRefusal a) 0 0)) → analysisRefusal a ≡ 0
         go true q e = eqb-true _ _ q
         go false q e = let z : _≡_ {A = ℕ} 0 1 = cc in absurd (never z)
 
     module _ (y : Checked) (k : Checking a y) (e : y ≡ checked.InRange) (n len : ℕ) (c : n ≡ listedCount a)
-        (l : len ≡ 2 + 5 * n + 6 * p .count) where
+        (l : len ≡ 2 + COMPONENT_BYTES * n + RECORD_BYTES * p .count) where
       exact : len ≡ length (sheetOf a p)
       exact = omega (arith, length-sheet a p)
 
-      pub answer-short : size < len → Answered a p size (Refused 14 0)
+      pub answer-short : size < len → Answered a p size (Refused SHORT_BLANK 0)
       answer-short s =
           let g = number-short a p size h (in-range y k e) (omega (arith, exact)) in
-          record { answer = sym (written-refused a p size 0 14 g (λ z. omega arith)); code = λ z. absurd (omega arith) }
+          record {
+            answer = sym (written-refused a p size 0 SHORT_BLANK g (λ z. omega arith));
+            code = λ z. absurd (omega arith);
+          }
 
       pub answer-length : len ≤ size → Answered a p size (Length len)
       answer-length s =
@@ -97,7 +101,7 @@ module _ (a : List ℕ) (p : Split) (size : ℕ) where
       unfolding roomFor
       answer-room r q = subst⁻¹ (λ (x : Written). Answered a p size x) q (go (ltb size len) refl)
         where
-          go : (t : Bool) → ltb size len ≡ t → Answered a p size (cond t (Refused 14 0) (Length len))
+          go : (t : Bool) → ltb size len ≡ t → Answered a p size (cond t (Refused SHORT_BLANK 0) (Length len))
           go true f = answer-short (ltb-true size len f)
           go false f = answer-length (ltb-false size len f)
 

@@ -1,14 +1,15 @@
 -- Runs of stores, and one turn of each loop over codes and records. Assumes nothing.
 use mathlib.Core.Path.{_≡_, ap, _∙_}
 use mathlib.Core.List.{List, [], _∷_, _++_}
-use Prim.Native.Nat.{ℕ, zero, suc, _+_, _-_, _*_, _≤_, _<_}
+use Prim.Native.Nat.{ℕ, suc, _+_, _-_, _*_, _≤_, _<_}
 use native.Mathlib.Omega.{arith}
 use native.Mathlib.Numerals.{add-one}
 use lib.ListN.{length, getD, set, drop, drop-of-length-le, length-set}
 use lib.Seq.{sets, sets-eq, length-sets, drop-cons}
 use borrow.Author.Tests.{eq-eqb, ne-eqb}
+use Rattle.refusal.specs.Laws.Runs.{sets-append}
 use Rattle.sheet.specs.Bytes.{bytesOf}
-use Rattle.sheet.specs.Components.{listedCount, componentBytes}
+use Rattle.sheet.specs.Components.{COMPONENT_BYTES, listedCount, componentBytes}
 use Rattle.sheet.specs.declared.Split.{Split}
 use Rattle.sheet.specs.Split.{recordBytes, splitBytes}
 use Rattle.sheet.specs.Sheet.{sheetOf}
@@ -34,15 +35,6 @@ four-bytes b b1 b2 b3 b4 at v0 v1 v2 v3 e1 e2 e3 e4 =
 pub byte-run : (b b1 b2 : List ℕ) (at v : ℕ) (u : List ℕ) → b1 ≡ set b at v → b2 ≡ sets b1 (at + 1) u
     → b2 ≡ sets b at (v ∷ u)
 byte-run b b1 b2 at v u e1 e2 = e2 ∙ ap (λ (l : List ℕ). sets l (at + 1) u) e1 ∙ rw (add-one at)
-
--- two runs, the second where the first ends, are one run
-pub sets-append : (u v l : List ℕ) (i : ℕ) → sets (sets l i u) (i + length u) v ≡ sets l i (u ++ v)
-sets-append [] v l i =
-    let e : i + zero ≡ i = omega arith in
-    rw e
-sets-append (a ∷ u) v l i =
-    let e : i + suc (length u) ≡ suc i + length u = omega arith in
-    rw e (sets-append u v (set l i a) (suc i))
 
 -- a count, a run, a count and a run, stored one after the other, are the whole at the front
 pub whole : (n m : ℕ) (u v b : List ℕ) (at : ℕ) → at ≡ 1 + length u → length ((n ∷ u) ++ (m ∷ v)) ≤ length b
@@ -89,7 +81,7 @@ module _ (m i : ℕ) (xs ys zs : List ℕ) where
 
 -- the stores of a whole sheet
 pub sheet-put : (a : List ℕ) (p : Split) (b b1 b2 b3 b4 : List ℕ) (n at : ℕ) → n ≡ listedCount a → b1 ≡ set b 0 n
-    → at ≡ 1 + 5 * listedCount a
+    → at ≡ 1 + COMPONENT_BYTES * listedCount a
     → b2 ≡ sets b1 1 (componentBytes 0 a) → b3 ≡ set b2 at (p .count) → b4 ≡ sets b3 (at + 1) (splitBytes p)
     → length (sheetOf a p) ≤ length b → b4 ≡ sheetOf a p ++ drop (length (sheetOf a p)) b
 sheet-put a p b b1 b2 b3 b4 n at en e1 ea e2 e3 e4 h =

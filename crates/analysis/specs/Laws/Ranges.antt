@@ -2,7 +2,7 @@
 -- it. Assumes nothing.
 use mathlib.Core.Path.{_≡_, refl, sym, ap, _∙_}
 use mathlib.Core.List.{List}
-use mathlib.Core.Bool.{Bool, true, false, not, cond}
+use mathlib.Core.Bool.{Bool, true, false, not, _&&_, cond, false≢true, and-eq-true-iff}
 use mathlib.Core.Logic.{_⊎_, inl, inr}
 use Prim.Native.Nat.{ℕ, _+_, _≤_, _<_}
 use native.Mathlib.Omega.{arith}
@@ -11,19 +11,20 @@ use lib.Dec.{eqb, leb}
 use lib.ListN.{length, getD, drop, drop-of-length-le}
 use lib.Seq.{drop-cons}
 use borrow.Author.Tests.{eqb-true, eqb-false, leb-true}
+use Rattle.refusal.specs.Register.{carried}
 use Rattle.analysis.specs.Register.{CODES, register, statusOf}
 use Rattle.analysis.specs.declared.Checked.{Checked}
 use Rattle.analysis.specs.declared.Checked.the-variants.{InRange, Refused}
 use Rattle.analysis.specs.CheckedCases.{numberOf, faultOf}
-use Rattle.analysis.specs.Check.{leastOf, greatestOf, requiredOf, inRange, allInRange, totalOf, totalFits}
-use Rattle.analysis.specs.Check.{analysisRefusal, checkedOf, Checking}
-use Rattle.analysis.specs.Laws.Required.{all-head, refusal-none, all-register, all-from}
+use Rattle.analysis.specs.Check.{leastOf, greatestOf, requiredOf, inRange, allInRange, totalOf, LEAST_SUM}
+use Rattle.analysis.specs.Check.{GREATEST_SUM, totalFits, analysisRefusal, checkedOf, Checking}
+use Rattle.analysis.specs.Laws.Required.{refusal-none, all-register, all-from}
 
 -- the number of the check's answer is the analysis's
 pub answer-number : (n code : ℕ) → numberOf (checkedOf n code) ≡ n
 answer-number n code = go (eqb n 0) refl
   where
-    go : (t : Bool) → eqb n 0 ≡ t → numberOf (cond t InRange (Refused n (cond (eqb n 5) code 0))) ≡ n
+    go : (t : Bool) → eqb n 0 ≡ t → numberOf (cond t InRange (Refused n (carried n code 0))) ≡ n
     go true e = sym (eqb-true n 0 e)
     go false e = refl
 
@@ -44,22 +45,20 @@ NoneOr least x = (x ≡ 0) ⊎ (least ≤ x)
 -- an amount that is in range, by cases on the two tests
 module _ (least greatest x : ℕ) where
   by-least : (absent t u : Bool) → eqb x 0 ≡ t → leb least x ≡ u
-      → cond t absent (cond u (leb x greatest) false) ≡ true → (x ≡ 0 → ⊥) → least ≤ x
+      → cond t absent (u && leb x greatest) ≡ true → (x ≡ 0 → ⊥) → least ≤ x
   by-least absent true u e d h n = absurd (n (eqb-true x 0 e))
   by-least absent false true e d h n = leb-true least x d
-  by-least absent false false e d h n =
-      let z : _≡_ {A = Bool} false true = h in let y : _≡_ {A = ℕ} 0 1 = cc in absurd (omega arith)
+  by-least absent false false e d h n = absurd (false≢true h)
 
   by-greatest : (absent t u : Bool) → eqb x 0 ≡ t → leb least x ≡ u
-      → cond t absent (cond u (leb x greatest) false) ≡ true → x ≤ greatest
+      → cond t absent (u && leb x greatest) ≡ true → x ≤ greatest
   by-greatest absent true u e d h = let z = eqb-true x 0 e in omega arith
   by-greatest absent false true e d h = leb-true x greatest h
-  by-greatest absent false false e d h =
-      let z : _≡_ {A = Bool} false true = h in let y : _≡_ {A = ℕ} 0 1 = cc in absurd (omega arith)
+  by-greatest absent false false e d h = absurd (false≢true h)
 
   by-required : (t u : Bool) → eqb x 0 ≡ t → leb least x ≡ u
-      → cond t false (cond u (leb x greatest) false) ≡ true → x ≡ 0 → ⊥
-  by-required true u e d h n = let z : _≡_ {A = Bool} false true = h in let y : _≡_ {A = ℕ} 0 1 = cc in omega arith
+      → cond t false (u && leb x greatest) ≡ true → x ≡ 0 → ⊥
+  by-required true u e d h n = false≢true h
   by-required false u e d h n = eqb-false x 0 e n
 
 module _ (code x : ℕ) (h : inRange code x ≡ true) where
@@ -103,19 +102,18 @@ module _ (a : List ℕ) (h : analysisRefusal a ≡ 0) where
   unfolding analysisRefusal
   passed-ranges = refusal-none (allInRange 0 a) (totalFits (totalOf a)) h .0
 
-  passed-total : totalFits (totalOf a) ≡ true
-  unfolding analysisRefusal
-  passed-total = refusal-none (allInRange 0 a) (totalFits (totalOf a)) h .1
+  passed-total : (LEAST_SUM ≤ totalOf a) × (totalOf a ≤ GREATEST_SUM)
+  unfolding analysisRefusal totalFits
+  passed-total =
+      let fits = refusal-none (allInRange 0 a) (totalFits (totalOf a)) h .1 in
+      let (low, high) = and-eq-true-iff (leb LEAST_SUM (totalOf a)) (leb (totalOf a) GREATEST_SUM) .0 fits in
+      (leb-true LEAST_SUM (totalOf a) low, leb-true (totalOf a) GREATEST_SUM high)
 
-  pub passed-least : 999900 ≤ totalOf a
-  unfolding totalFits
-  passed-least =
-      leb-true 999900 (totalOf a) (all-head (leb 999900 (totalOf a)) (leb (totalOf a) 1000100) passed-total .0)
+  pub passed-least : LEAST_SUM ≤ totalOf a
+  passed-least = passed-total .0
 
-  pub passed-greatest : totalOf a ≤ 1000100
-  unfolding totalFits
-  passed-greatest =
-      leb-true (totalOf a) 1000100 (all-head (leb 999900 (totalOf a)) (leb (totalOf a) 1000100) passed-total .1)
+  pub passed-greatest : totalOf a ≤ GREATEST_SUM
+  passed-greatest = passed-total .1
 
 -- the ranges as inequalities, code by code, and the total; what carbon dioxide and nitrogen have at least is not needed
 pub record WithinRanges (a : List ℕ) : Type 0 where
@@ -145,8 +143,8 @@ pub record WithinRanges (a : List ℕ) : Type 0 where
   pub splits-fourteen : getD a 14 0 ≡ 0
   pub hydrogen-least : NoneOr 10 (getD a 15 0)
   pub hydrogen-greatest : getD a 15 0 ≤ 100000
-  pub total-least : 999900 ≤ totalOf a
-  pub total-greatest : totalOf a ≤ 1000100
+  pub total-least : LEAST_SUM ≤ totalOf a
+  pub total-greatest : totalOf a ≤ GREATEST_SUM
 
 module _ (a : List ℕ) (l : length a ≡ CODES) where
   -- the total is the sum over the codes

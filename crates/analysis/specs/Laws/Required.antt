@@ -1,7 +1,7 @@
 -- What the check by a register in which more codes must be present says, and what it asks besides. Assumes nothing.
 use mathlib.Core.Path.{_≡_, refl, sym, ap, _∙_}
 use mathlib.Core.List.{List, [], _∷_}
-use mathlib.Core.Bool.{Bool, true, false, not, _||_, cond}
+use mathlib.Core.Bool.{Bool, true, false, not, _&&_, _||_, cond, false≢true, and-eq-true-iff}
 use mathlib.Core.Logic.{_↔_}
 use Prim.Native.Nat.{ℕ, zero, suc, _+_, _<_}
 use native.Mathlib.Omega.{arith}
@@ -11,10 +11,9 @@ use borrow.Author.Tests.{eqb-true, eqb-false}
 use Rattle.refusal.specs.Keys.{isIn}
 use Rattle.analysis.specs.Register.{Status, live, retired, splitsOnly, unknown, Entry, register, statusIn}
 use Rattle.analysis.specs.Register.{statusOf}
-use Rattle.analysis.specs.Check.{leastBy, greatestBy, requiredBy, inRangeBy, inRange, allInRange, totalOf}
-use Rattle.analysis.specs.Check.{totalFits}
+use Rattle.analysis.specs.Check.{leastBy, greatestBy, requiredBy, inRange, allInRange, totalOf, totalFits}
 use Rattle.analysis.specs.Check.{refusalByTests, analysisRefusal}
-use Rattle.analysis.specs.Required.{requiredToo, allInRangeIn, refusalIn, requiring}
+use Rattle.analysis.specs.Required.{requiredToo, requiring, inRangeBy, allInRangeIn, refusalIn}
 
 -- ---- by the register it is the check
 
@@ -22,7 +21,7 @@ pub all-register : (code : ℕ) (a : List ℕ) → allInRangeIn register code a 
 unfolding inRange statusOf
 all-register code [] = refl
 all-register code (x ∷ xs) =
-    ap (λ (b : Bool). cond (inRangeBy (statusIn register code) x) b false) (all-register (suc code) xs)
+    ap (λ (b : Bool). inRangeBy (statusIn register code) x && b) (all-register (suc code) xs)
 
 pub refusal-register : (a : List ℕ) → refusalIn register a ≡ analysisRefusal a
 unfolding refusalIn analysisRefusal
@@ -30,20 +29,17 @@ refusal-register a = ap (λ (b : Bool). refusalByTests b (totalFits (totalOf a))
 
 -- ---- what passes where more must be present, passes
 
-never : _≡_ {A = Bool} false true → ⊥
-never e = let y : _≡_ {A = ℕ} 0 1 = cc in omega arith
-
 status-passes : (also : Bool) (s : Status) (x : ℕ) → inRangeBy (requiredToo also s) x ≡ true → inRangeBy s x ≡ true
 status-passes also retired x h = h
 status-passes also splitsOnly x h = h
 status-passes also unknown x h = h
 status-passes also (live least greatest required) x h = go (eqb x 0) required also h
   where
-    go : (b r o : Bool) → cond b (not (r || o)) (cond (leb least x) (leb x greatest) false) ≡ true
-        → cond b (not r) (cond (leb least x) (leb x greatest) false) ≡ true
+    go : (b r o : Bool) → cond b (not (r || o)) (leb least x && leb x greatest) ≡ true
+        → cond b (not r) (leb least x && leb x greatest) ≡ true
     go false r o h = h
     go true false o h = refl
-    go true true o h = absurd (never h)
+    go true true o h = absurd (false≢true h)
 
 code-passes : (codes : List ℕ) (es : List Entry) (c x : ℕ) → inRangeBy (statusIn (requiring codes es) c) x ≡ true
     → inRangeBy (statusIn es c) x ≡ true
@@ -57,17 +53,12 @@ code-passes codes (e ∷ es) c x h = go (eqb c (e .code)) (λ t. code-passes cod
     go true rest h = status-passes (isIn (e .code) codes) (e .status) x h
     go false rest h = rest h
 
--- each of the tests of a list, where all pass
-pub all-head : (t u : Bool) → cond t u false ≡ true → (t ≡ true) × (u ≡ true)
-all-head true u h = (refl, h)
-all-head false u h = absurd (never h)
-
 all-passes : (codes : List ℕ) (es : List Entry) (code : ℕ) (a : List ℕ)
     → allInRangeIn (requiring codes es) code a ≡ true
     → allInRangeIn es code a ≡ true
 all-passes codes es code [] h = refl
 all-passes codes es code (x ∷ xs) h =
-    let (t, u) = all-head (inRangeBy (statusIn (requiring codes es) code) x) _ h in
+    let (t, u) = and-eq-true-iff (inRangeBy (statusIn (requiring codes es) code) x) _ .0 h in
     rw (code-passes codes es code x t, all-passes codes es (suc code) xs u)
 
 -- what it says that an analysis is not refused
@@ -91,18 +82,18 @@ pub all-from : (es : List Entry) (a : List ℕ) (code k : ℕ) → allInRangeIn 
 all-from es [] code k h l = absurd (omega arith)
 all-from es (x ∷ xs) code zero h l =
     let e : code + zero ≡ code = omega arith in
-    rw e (all-head (inRangeBy (statusIn es code) x) (allInRangeIn es (suc code) xs) h .0)
+    rw e (and-eq-true-iff (inRangeBy (statusIn es code) x) (allInRangeIn es (suc code) xs) .0 h .0)
 all-from es (x ∷ xs) code (suc k) h l =
     let e : code + suc k ≡ suc code + k = omega arith in
-    rw e (all-from es xs (suc code) k (all-head (inRangeBy (statusIn es code) x) _ h .1) (omega arith))
+    rw e (all-from es xs (suc code) k (and-eq-true-iff (inRangeBy (statusIn es code) x) _ .0 h .1) (omega arith))
 
 some : (s : Status) (x : ℕ) → requiredBy s ≡ true → inRangeBy s x ≡ true → 0 < x
 some s x r h = go (eqb x 0) (requiredBy s) refl r h
   where
     go : (b q : Bool) → eqb x 0 ≡ b → q ≡ true
-        → cond b (not q) (cond (leb (leastBy s) x) (leb x (greatestBy s)) false) ≡ true → 0 < x
-    go true true e r h = absurd (never h)
-    go true false e r h = absurd (never r)
+        → cond b (not q) (leb (leastBy s) x && leb x (greatestBy s)) ≡ true → 0 < x
+    go true true e r h = absurd (false≢true h)
+    go true false e r h = absurd (false≢true r)
     go false q e r h = omega (arith, eqb-false x 0 e)
 
 pub required-present : (entries : List Entry) (a : List ℕ) (k : ℕ) → refusalIn entries a ≡ 0 → k < length a
@@ -122,10 +113,10 @@ status-required also splitsOnly x h p = h
 status-required also unknown x h p = h
 status-required also (live least greatest required) x h p = go (eqb x 0) required also refl h p
   where
-    go : (b r o : Bool) → eqb x 0 ≡ b → cond b (not r) (cond (leb least x) (leb x greatest) false) ≡ true
-        → (o ≡ true → 0 < x) → cond b (not (r || o)) (cond (leb least x) (leb x greatest) false) ≡ true
+    go : (b r o : Bool) → eqb x 0 ≡ b → cond b (not r) (leb least x && leb x greatest) ≡ true
+        → (o ≡ true → 0 < x) → cond b (not (r || o)) (leb least x && leb x greatest) ≡ true
     go false r o e h p = h
-    go true true o e h p = absurd (never h)
+    go true true o e h p = absurd (false≢true h)
     go true false false e h p = refl
     go true false true e h p = let z = eqb-true x 0 e in absurd (omega (arith, p refl))
 
@@ -149,7 +140,7 @@ all-required : (codes : List ℕ) (es : List Entry) (code : ℕ) (a : List ℕ) 
     → allInRangeIn (requiring codes es) code a ≡ true
 all-required codes es code [] h p = refl
 all-required codes es code (x ∷ xs) h p =
-    let (t, u) = all-head (inRangeBy (statusIn es code) x) _ h in
+    let (t, u) = and-eq-true-iff (inRangeBy (statusIn es code) x) _ .0 h in
     let here : code + 0 ≡ code = omega arith in
     let first = code-required codes es code x t (λ i. p 0 (omega arith) (ap (λ (k : ℕ). isIn k codes) here ∙ i)) in
     let rest = all-required codes es (suc code) xs u

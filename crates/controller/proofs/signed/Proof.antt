@@ -1,10 +1,10 @@
 -- `controller::signed` meets its contract. Assumes nothing.
 use borrow.Author.Needs.{needs}
 use mathlib.Core.Path.{ap, _∙_}
-use lib.Ieee.{Float, binary64, div, ofInt, ofBits}
+use lib.Ieee.{Float, binary64, div, ofInt}
 use mir.Syntax.{w64}
 use mir.ValLaws.{toZ-ofZ}
-use Rattle.controller.specs.Record.{methaneNumber}
+use Rattle.controller.specs.Record.{tenMillion, methaneNumber}
 use Rattle.controller.proofs.signed.Statement.{statement}
 use Rattle.controller.proofs.signed.Tie as tie
 
@@ -14,7 +14,7 @@ nearest-i64-to-f64-requires c κs = search needs
 returns : tie.Need-returns
 unfolding methaneNumber
 returns c =
-    ap (λ (x : Float). div binary64 x (ofBits binary64 0x4163_12d0_0000_0000))
+    ap (λ (x : Float). div binary64 x tenMillion)
     (c .nearest-i64-to-f64 .ensures
     ∙ ap (ofInt binary64) (toZ-ofZ w64 (c .before .args .units) (c .before .fits .units)))
 

@@ -1,8 +1,8 @@
 -- `controller::unsigned` meets its contract. Assumes nothing.
 use borrow.Author.Needs.{needs}
 use mathlib.Core.Path.{ap}
-use lib.Ieee.{Float, binary64, div, ofBits}
-use Rattle.controller.specs.Record.{methaneNumber}
+use lib.Ieee.{Float, binary64, div}
+use Rattle.controller.specs.Record.{tenMillion, methaneNumber}
 use Rattle.controller.proofs.unsigned.Statement.{statement}
 use Rattle.controller.proofs.unsigned.Tie as tie
 
@@ -12,7 +12,7 @@ nearest-u64-to-f64-requires c κs = search needs
 returns : tie.Need-returns
 unfolding methaneNumber
 returns c =
-    ap (λ (x : Float). div binary64 x (ofBits binary64 0x4163_12d0_0000_0000)) (c .nearest-u64-to-f64 .ensures)
+    ap (λ (x : Float). div binary64 x tenMillion) (c .nearest-u64-to-f64 .ensures)
 
 pub unsigned-spec : {M : Type 1} → statement M
 unsigned-spec = tie.close (tie.spec nearest-u64-to-f64-requires returns)

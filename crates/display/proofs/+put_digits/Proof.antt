@@ -1,12 +1,14 @@
 -- The proof of the cycle of calls {put_digits}. The measure is the number, of which each call takes a tenth. Assumes
 -- nothing.
-use mathlib.Core.Path.{ap, subst}
+use mathlib.Core.Path.{_≡_, ap, _∙_, subst}
+use mathlib.Core.List.{[], _∷_}
 use native.Mathlib.Omega.{arith}
-use lib.ListN.{length}
+use lib.ListN.{length, length-append}
 use borrow.Author.Needs.{needs}
-use Rattle.display.specs.Laws.Digits.{digits-one, digits-more, length-more}
+use Rattle.display.specs.Laws.Digits.{digits-one, digits-more}
 use Rattle.display.proofs.Runs.{then}
-use Prim.Native.Nat.{ℕ, _<_, _/_}
+use Prim.Native.Nat.{ℕ, _+_, _/_, _%_, _≤_, _<_}
+use Rattle.display.specs.Decimal.{digit, digitsOf}
 use borrow.Fn.Kinds.{In}
 use borrow.Fn.PlainCycle.{Measures, is, falls, and}
 use Rattle.display.proofs.put_digits.Reads as put-digits
@@ -15,6 +17,9 @@ use Rattle.display.proofs.+put_digits.Lts-put_digits as put-digits-lts
 use Rattle.display.proofs.put_byte.Reads as put-byte-reads
 use Rattle.display.proofs.+put_digits.{statement}
 use Rattle.display.proofs.+put_digits.Tie.{close}
+
+length-more : (n : ℕ) → 10 ≤ n → length (digitsOf n) ≡ length (digitsOf (n / 10)) + 1
+length-more n h = ap length (digits-more n h) ∙ length-append (digitsOf (n / 10)) (digit (n % 10) ∷ [])
 
 abbrev μ-put-digits : Measures 1 put-digits-kinds.ps ℕ
 μ-put-digits κs a = a .1 .1 .0

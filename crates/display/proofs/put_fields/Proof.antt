@@ -1,12 +1,11 @@
 -- `display::put_fields` meets its contract. Assumes nothing.
 use native.Mathlib.Omega.{arith}
 use lib.IntN.{ℤ}
-use lib.Dec.{T}
 use mir.Syntax.{w32, w64}
 use mir.Val.{Fits, SFits, toZ, ofZ}
 use Rattle.whole_number.specs.Whole.{wholeNumber}
 use Rattle.display.specs.Decimal.{figureOf}
-use Rattle.display.specs.Longest.{spread-length, count-length}
+use Rattle.display.specs.Laws.Lengths.{spread-length, count-length}
 use Rattle.display.proofs.Fields.{length-two, rating-room, whole-room, rated-room, rated-put, refused-room}
 use Rattle.display.proofs.Fields.{refused-put}
 use borrow.Author.Needs.{needs}

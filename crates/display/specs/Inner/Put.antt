@@ -1,8 +1,8 @@
 -- Bytes put into a buffer. Assumes nothing.
 use mathlib.Core.Path.{_≡_}
-use Prim.Native.Nat.{ℕ, _+_, _≤_}
+use Prim.Native.Nat.{ℕ, _+_}
 use mathlib.Core.List.{List, _∷_, _++_}
-use lib.ListN.{length, take}
+use lib.ListN.{length}
 use lib.Seq.{sets}
 use lib.IntN.{ℤ}
 use Rattle.whole_number.specs.Whole.{wholeNumber}
@@ -20,8 +20,3 @@ ratingBytes rating = SPACE ∷ figureOf rating ++ SPACE ∷ figureOf (wholeNumbe
 
 abbrev pub countsBytes : ℕ → ℕ → List ℕ
 countsBytes spread rounds = SPACE ∷ digitsOf spread ++ SPACE ∷ digitsOf rounds
-
--- n counts bytes at the start of the buffer. The second part follows from the first; both stand here, so that a
--- caller's `&buffer[..n]` needs no proof file.
-abbrev pub Counts : ℕ → List ℕ → Type 0
-Counts n buffer = (n ≤ length buffer) × (n ≡ length (take n buffer))

@@ -1,7 +1,7 @@
 -- Digits one at a time: a number below ten has one digit, any other those of its tenth and one more. Assumes nothing.
 use mathlib.Core.Path.{_≡_, refl, sym, ap, _∙_}
 use mathlib.Core.Bool.{Bool, true, false}
-use Prim.Native.Nat.{ℕ, zero, suc, _+_, _*_, _/_, _%_, _^_, _≤_, _<_}
+use Prim.Native.Nat.{ℕ, zero, suc, _/_, _%_, _^_, _≤_, _<_}
 use mathlib.Core.List.{List, [], _∷_, _++_}
 use native.Mathlib.Nat.{pow-suc}
 use native.Mathlib.Omega.{arith}
@@ -43,9 +43,6 @@ digits-more n h =
     enough n (suc n) n (omega arith) (omega arith)
     ∙ in-more n n h
     ∙ ap (λ (u : List ℕ). u ++ digit (n % 10) ∷ []) (enough n (n / 10) (n / 10) (omega arith) (omega arith))
-
-pub length-more : (n : ℕ) → 10 ≤ n → length (digitsOf n) ≡ length (digitsOf (n / 10)) + 1
-length-more n h = ap length (digits-more n h) ∙ length-append (digitsOf (n / 10)) (digit (n % 10) ∷ [])
 
 -- what holds of the numbers below ten, and of a number where it holds of its tenth, holds of every number
 pub by-tenths : (P : ℕ → Type 0) → ((n : ℕ) → n < 10 → P n) → ((n : ℕ) → 10 ≤ n → P (n / 10) → P n) → (n : ℕ) → P n

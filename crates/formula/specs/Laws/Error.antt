@@ -9,8 +9,9 @@ use lib.IntN.{ℤ, pos, natAbs, _+ℤ_, _-ℤ_, _*ℤ_, zero-*ℤ, +ℤ-idl, *�
 use lib.Signed.{quotZ}
 use lib.ListN.{length}
 use Rattle.integer.specs.Laws.Ring.{ring}
-use Rattle.integer.specs.Fraction.{ratio, Within, Close}
-use Rattle.integer.specs.Laws.Distance.{close, close-looser, close-over, within-same, close-times, within-over}
+use Rattle.integer.specs.Fraction.{Within}
+use Rattle.integer.specs.Laws.Distance.{ratio, Close, close, close-looser, close-over, within-same, close-times}
+use Rattle.integer.specs.Laws.Distance.{within-over}
 use Rattle.formula.specs.WorkingRule.{stepZ, horner, worked, rowSum, tableSum, exact, coefs, coefficientRows}
 
 -- ---- one division: less than one unit more

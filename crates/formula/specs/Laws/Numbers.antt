@@ -1,7 +1,7 @@
 -- A test that passes at each number of a list, and numbers that are none of it, as those from 21 on are none that
 -- Table A.2 prints. Assumes nothing.
 use mathlib.Core.Path.{_≡_, refl, ap, subst⁻¹}
-use mathlib.Core.Bool.{Bool, true, false, cond, _&&_}
+use mathlib.Core.Bool.{Bool, true, false, _&&_, _||_, cond}
 use mathlib.Core.List.{List, [], _∷_}
 use Prim.{Unit}
 use Prim.Native.Nat.{ℕ, suc, _≤_}
@@ -24,7 +24,7 @@ unfolding isIn
 each f [] t n h = absurd (subst⁻¹ T h tt)
 each f (m ∷ ms) t n h = at (eqb n m) refl h (each f ms (and-r (f m) (every f ms) t) n)
   where
-    at : (b : Bool) → eqb n m ≡ b → cond b true (isIn n ms) ≡ true → (isIn n ms ≡ true → T (f n)) → T (f n)
+    at : (b : Bool) → eqb n m ≡ b → (b || isIn n ms) ≡ true → (isIn n ms ≡ true → T (f n)) → T (f n)
     at true e q r = subst⁻¹ (λ (u : ℕ). T (f u)) (eqb-true n m e) (and-l (f m) (every f ms) t)
     at false e q r = r q
 
@@ -39,7 +39,7 @@ unfolding isIn
 not-in n [] a = refl
 not-in n (m ∷ ms) a = at (eqb n m) refl (not-in n ms (a .0))
   where
-    at : (b : Bool) → eqb n m ≡ b → isIn n ms ≡ false → cond b true (isIn n ms) ≡ false
+    at : (b : Bool) → eqb n m ≡ b → isIn n ms ≡ false → (b || isIn n ms) ≡ false
     at true e r = absurd (a .1 (eqb-true n m e))
     at false e r = r
 

@@ -2,10 +2,19 @@
 use mathlib.Core.Path.{_≡_, _∙_, ap}
 use Prim.Native.Nat.{ℕ, suc, _+_, _*_, _<_, _≤_}
 use native.Mathlib.Nat as N
-use lib.IntN.{ℤ, pos, _+ℤ_, _-ℤ_, _*ℤ_, +ℤ-invr, *ℤ-one, one}
+use lib.IntN.{ℤ, pos, natAbs, _+ℤ_, _-ℤ_, _*ℤ_, +ℤ-invr, *ℤ-one, one}
 use lib.Signed.{quotZ, remZ}
 use Rattle.integer.specs.Laws.Ring.{ring, natAbs-*, natAbs-+, natAbs--, quot-is, rem-lt}
-use Rattle.integer.specs.Fraction.{Fraction, ratio, whole, plus, times, over, Within, Close}
+use Rattle.integer.specs.Fraction.{Fraction, whole, plus, times, over, Within}
+
+-- e / K
+abbrev pub ratio : ℤ → ℕ → Fraction
+ratio e K = record { num = e; den = K }
+
+-- the whole number w is at most u away from f
+pub record Close (w : ℤ) (f : Fraction) (u : ℕ) : Type 0 where
+  pub positive : 0 < f .den
+  pub near : natAbs (w *ℤ pos (f .den) -ℤ f .num) ≤ u * f .den
 
 pub close : {w : ℤ} {f : Fraction} {u : ℕ} → Within w f u → Close w f u
 close h = record { positive = h .positive; near = N.le-of-lt (h .near) }
@@ -25,23 +34,6 @@ close-whole z = record { positive = N.le-refl 1; near = rw (*ℤ-one z, +ℤ-inv
 
 pub close-over : (z : ℤ) (K : ℕ) → 0 < K → Close z (ratio (z *ℤ pos K) K) 0
 close-over z K p = record { positive = p; near = rw (+ℤ-invr (z *ℤ pos K), N.zero-mul K) (N.le-refl 0) }
-
--- the fraction's terms multiplied by a positive number: the same distance
-scaled : (w e K p : ℤ) → w *ℤ (K *ℤ p) -ℤ e *ℤ p ≡ (w *ℤ K -ℤ e) *ℤ p
-scaled w e K p = simp ring
-
-pub within-scaled : {w : ℤ} {f : Fraction} {u : ℕ} (p : ℕ) → 0 < p → Within w f u
-    → Within w (ratio (f .num *ℤ pos p) (f .den * p)) u
-within-scaled {w} {f} {u} p p>0 h = record {
-  positive = N.mul-pos (h .positive) p>0;
-  near =
-      rw (
-        scaled w (f .num) (pos (f .den)) (pos p),
-        natAbs-* (w *ℤ pos (f .den) -ℤ f .num) (pos p),
-        ← N.mul-assoc u (f .den) p,
-      )
-      (N.mul-lt-mul-of-pos-right (h .near) p>0);
-}
 
 -- ---- sums
 
@@ -116,20 +108,6 @@ close-times {w} {f} {u} p h = record {
         ← more-units u (f .den) p,
       )
       (N.mul-le-mul-right p (h .near));
-}
-
--- the strict one, by a positive number
-pub within-times : {w : ℤ} {f : Fraction} {u : ℕ} (p : ℕ) → 0 < p → Within w f u
-    → Within (w *ℤ pos p) (times f p) (u * p)
-within-times {w} {f} {u} p p>0 h = record {
-  positive = h .positive;
-  near =
-      rw (
-        taken w (f .num) (pos (f .den)) (pos p),
-        natAbs-* (w *ℤ pos (f .den) -ℤ f .num) (pos p),
-        ← more-units u (f .den) p,
-      )
-      (N.mul-lt-mul-of-pos-right (h .near) p>0);
 }
 
 -- ---- one division, the fraction dropped: less than one unit more

@@ -7,7 +7,7 @@ use Prim.Native.Nat.{ℕ, zero, suc}
 use lib.Ieee.Fits.{and-l, and-r}
 use lib.Dec.{T, ltb, leb, eqb, eqb→eq}
 use lib.ListN.{getD}
-use lib.IntN.{ℤ, pos, negsuc, negℤ, _+ℤ_, _-ℤ_, _*ℤ_, +ℤ-idl, +ℤ-idr, +ℤ-assoc, zero-*ℤ, *ℤ-one, *ℤ-comm, one}
+use lib.IntN.{ℤ, pos, negsuc, negℤ, _+ℤ_, _*ℤ_, +ℤ-idl, +ℤ-idr, +ℤ-assoc, zero-*ℤ, *ℤ-one, *ℤ-comm, one}
 use Rattle.integer.specs.Laws.Tests.{at-cond}
 use Rattle.integer.specs.Laws.Ring.{ring, distr, neg-*, *ℤ-assoc}
 
@@ -197,12 +197,3 @@ module _ (ρ : ℕ → ℤ) where
 -- an environment of a few integers
 abbrev pub env : List ℤ → ℕ → ℤ
 env l i = getD l i (pos 0)
-
--- examples
-telescope : (a b c : ℤ) → (a -ℤ b) +ℤ (b -ℤ c) ≡ a -ℤ c
-telescope a b c = solve (env (a ∷ b ∷ c ∷ [])) ((X 0 ⊕ ⊖ (X 1)) ⊕ (X 1 ⊕ ⊖ (X 2))) (X 0 ⊕ ⊖ (X 2)) refl
-
-cube : (a b : ℤ) → (a -ℤ b) *ℤ (a *ℤ a +ℤ a *ℤ b +ℤ b *ℤ b) ≡ a *ℤ a *ℤ a -ℤ b *ℤ b *ℤ b
-cube a b =
-    solve (env (a ∷ b ∷ [])) ((X 0 ⊕ ⊖ (X 1)) ⊗ (X 0 ⊗ X 0 ⊕ X 0 ⊗ X 1 ⊕ X 1 ⊗ X 1))
-    (X 0 ⊗ X 0 ⊗ X 0 ⊕ ⊖ (X 1 ⊗ X 1 ⊗ X 1)) refl

@@ -1,7 +1,7 @@
 -- The check before document 02's Seven and the check of today. Assumes nothing.
 use mathlib.Core.Path.{_≡_, refl, sym, ap, _∙_}
 use mathlib.Core.List.{List, [], _∷_, _++_}
-use mathlib.Core.Bool.{Bool, true, false, cond}
+use mathlib.Core.Bool.{Bool, true, false, _&&_, cond, and-eq-true-iff}
 use mathlib.Core.Logic.{_↔_}
 use Prim.Native.Nat.{ℕ, suc, _+_}
 use native.Mathlib.Nat.{add-zero}
@@ -10,9 +10,9 @@ use lib.Dec.{eqb, leb}
 use lib.ListN.{length, getD, drop}
 use borrow.Author.Tests.{eqb-true, eqb-false, ne-eqb, leb-true}
 use Rattle.analysis.specs.Register.{CODES, BASE, Status, unknown, Entry, register, statusIn, hydrogenCode}
-use Rattle.analysis.specs.Check.{inRangeBy, totalOf, totalFits, refusalByTests, analysisRefusal}
-use Rattle.analysis.specs.Required.{allInRangeIn, refusalIn}
-use Rattle.analysis.specs.Laws.Required.{refusal-register, all-head, all-from, refusal-none}
+use Rattle.analysis.specs.Check.{totalOf, totalFits, refusalByTests, analysisRefusal}
+use Rattle.analysis.specs.Required.{inRangeBy, allInRangeIn, refusalIn}
+use Rattle.analysis.specs.Laws.Required.{refusal-register, all-from, refusal-none}
 use Rattle.kept.specs.BeforeCheck.{registerBefore}
 
 -- ---- two registers
@@ -31,8 +31,8 @@ all-alike : (es fs : List Entry) (code : ℕ) (a : List ℕ)
     → allInRangeIn es code a ≡ allInRangeIn fs code a
 all-alike es fs code [] h = refl
 all-alike es fs code (x ∷ xs) h =
-    ap (λ (b : Bool). cond b (allInRangeIn es (suc code) xs) false) (rw (add-zero code) at (h 0))
-    ∙ ap (λ (b : Bool). cond (inRangeBy (statusIn fs code) x) b false)
+    ap (λ (b : Bool). b && allInRangeIn es (suc code) xs) (rw (add-zero code) at (h 0))
+    ∙ ap (λ (b : Bool). inRangeBy (statusIn fs code) x && b)
     (all-alike es fs (suc code) xs (λ k. let e : code + suc k ≡ suc code + k = omega arith in rw e at (h (suc k))))
 
 -- ---- the register and the one before
@@ -68,9 +68,9 @@ without-kept a none =
 unknown-none : (x : ℕ) → inRangeBy unknown x ≡ true → x ≡ 0
 unknown-none x h = go (eqb x 0) refl h
   where
-    go : (b : Bool) → eqb x 0 ≡ b → cond b true (cond (leb 1 x) (leb x 0) false) ≡ true → x ≡ 0
+    go : (b : Bool) → eqb x 0 ≡ b → cond b true (leb 1 x && leb x 0) ≡ true → x ≡ 0
     go true e h = eqb-true x 0 e
-    go false e h = let l = leb-true x 0 (all-head (leb 1 x) (leb x 0) h .1) in omega arith
+    go false e h = let l = leb-true x 0 (and-eq-true-iff (leb 1 x) (leb x 0) .0 h .1) in omega arith
 
 -- hydrogen did not pass
 before-none : (a : List ℕ) → length a ≡ CODES → refusalIn registerBefore a ≡ 0 → getD a hydrogenCode 0 ≡ 0

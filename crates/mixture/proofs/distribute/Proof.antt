@@ -3,8 +3,7 @@ use native.Mathlib.Omega.{arith}
 use mathlib.Core.Path.{refl, _∙_}
 use Rattle.integer.specs.Figures.{MILLION}
 use Rattle.mixture.specs.Simplification.{COMPONENTS}
-use Rattle.mixture.specs.Laws.Total.{sum-has}
-use Rattle.mixture.proofs.Loops.{Distributing, distributing-next, distributed-all}
+use Rattle.mixture.proofs.Loops.{sum-has, Distributing, distributing-next, distributed-all}
 use Rattle.mixture.proofs.distribute.Statement.{statement}
 use Rattle.mixture.proofs.distribute.Tie as tie
 

@@ -2,8 +2,7 @@
 use Prim.Native.Nat.{_-_}
 use native.Mathlib.Omega.{arith}
 use Rattle.mixture.specs.Simplification.{COMPONENTS}
-use Rattle.mixture.specs.Laws.Total.{sum-has}
-use Rattle.mixture.proofs.Loops.{Shared, shared-none, share-left, shared-next, shared-fits, shared-all}
+use Rattle.mixture.proofs.Loops.{sum-has, Shared, shared-none, share-left, shared-next, shared-fits, shared-all}
 use borrow.Author.Needs.{needs}
 use Rattle.mixture.proofs.scale.Statement.{statement}
 use Rattle.mixture.proofs.scale.Tie as tie

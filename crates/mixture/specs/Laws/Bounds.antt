@@ -9,14 +9,12 @@ use native.Mathlib.Omega.{arith}
 use lib.ListN.{getD, length}
 use Rattle.integer.specs.Figures.{MILLION}
 use Rattle.analysis.specs.Register.{CODES, statusOf}
-use Rattle.analysis.specs.Check.{totalOf, greatestOf, analysisRefusal}
+use Rattle.analysis.specs.Check.{greatestOf, GREATEST_SUM, analysisRefusal}
 use Rattle.analysis.specs.Laws.Ranges.{NoneOr, WithinRanges, within-ranges, total-sum}
-use Rattle.mixture.specs.Scaling.{quotientOf, remaindersOf}
 use Rattle.mixture.specs.Simplification.{COMPONENTS, amountOfCode, tenthsOf, tenthsTotal, simplifiedOf}
-use Rattle.mixture.specs.Inert.{methaneShare, inertFirst, inertSecond, inertOf}
-use Rattle.mixture.specs.Laws.Total.{scaled-length, scaled-sum}
-use Rattle.mixture.specs.Largest.{Before, largest-first}
-use Rattle.mixture.specs.Laws.Share.{NearShare, scaled-near, scaled-absent, scaled-least}
+use Rattle.mixture.specs.Inert.{methaneShare, inertFirst}
+use Rattle.mixture.specs.Laws.Total.{scaled-length}
+use Rattle.mixture.specs.Laws.Share.{scaled-absent, scaled-least}
 
 -- ---- n1 of the inert mixture
 
@@ -39,40 +37,14 @@ pub simplified-length : (a : List ℕ) → length (simplifiedOf a) ≡ COMPONENT
 unfolding tenthsOf
 simplified-length a = scaled-length (tenthsOf a)
 
-module _ (a : List ℕ) (p : 0 < tenthsTotal a) where
-  -- the total is exactly 1000000
-  pub simplified-total : totalOf (simplifiedOf a) ≡ MILLION
-  simplified-total = scaled-sum (tenthsOf a) p
-
-  -- each amount is less than one part from its exact share
-  pub simplified-near : (i : ℕ) → i < COMPONENTS
-      → NearShare (tenthsTotal a) (getD (tenthsOf a) i 0) (getD (simplifiedOf a) i 0)
-  unfolding tenthsOf
-  simplified-near i l = scaled-near (tenthsOf a) p i l
-
-  -- a component with a part more comes before one without
-  pub simplified-largest : (i j : ℕ) → i < COMPONENTS → j < COMPONENTS
-      → getD (simplifiedOf a) i 0 ≡ quotientOf (tenthsTotal a) (getD (tenthsOf a) i 0) + 1
-      → getD (simplifiedOf a) j 0 ≡ quotientOf (tenthsTotal a) (getD (tenthsOf a) j 0)
-      → Before (remaindersOf (tenthsOf a) (tenthsTotal a)) i j
-  unfolding tenthsOf
-  simplified-largest i j li lj = largest-first (tenthsOf a) p i j li lj
-
-  pub inert-greatest : inertFirst a ≤ MILLION
-  inert-greatest = share-greatest (tenthsTotal a) (amountOfCode a 11) p
-
-  pub inert-total : inertFirst a + inertSecond a ≡ MILLION
-  inert-total = let l = inert-greatest in omega arith
-
-  -- n1, n2 and n3 make a whole, for n3 is 0
-  pub inert-sum : totalOf (inertOf a) ≡ MILLION
-  inert-sum = let l = inert-greatest in omega arith
+pub inert-greatest : (a : List ℕ) → 0 < tenthsTotal a → inertFirst a ≤ MILLION
+inert-greatest a p = share-greatest (tenthsTotal a) (amountOfCode a 11) p
 
 -- ---- an analysis in range
 
 -- the greatest T, at the greatest total with nothing inert and at the greatest pentanes and hexanes+
 abbrev pub GREATEST_TENTHS : ℕ
-GREATEST_TENTHS = 10 * 1000100 + 13 * (greatestOf 6 + greatestOf 7 + greatestOf 8) + 43 * greatestOf 10
+GREATEST_TENTHS = 10 * GREATEST_SUM + 13 * (greatestOf 6 + greatestOf 7 + greatestOf 8) + 43 * greatestOf 10
 
 -- a bound of what a component has that is present after simplification: 100 tenths of a part in the greatest T
 abbrev pub LEAST_PARTS : ℕ
@@ -148,9 +120,3 @@ module _ (a : List ℕ) (l : length a ≡ CODES) (h : analysisRefusal a ≡ 0) w
   pub simplified-methane : LEAST_PARTS ≤ getD (simplifiedOf a) 0 0
   unfolding tenthsOf
   simplified-methane = let w = within-ranges a l h in simplified-least 0 (omega arith) (omega (arith, w .methane-least))
-
-  pub inert-least : 1 ≤ inertFirst a
-  inert-least =
-      let w = within-ranges a l h in
-      let t = tenths-least in
-      share-least (tenthsTotal a) (amountOfCode a 11) tenths-positive (omega arith)

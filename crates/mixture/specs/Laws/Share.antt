@@ -12,13 +12,8 @@ use borrow.Author.Tests.{eqb-true, eqb-false, ltb-true, ltb-false}
 use Rattle.integer.specs.Figures.{MILLION}
 use Rattle.analysis.specs.Check.{totalOf}
 use Rattle.mixture.specs.Scaling.{quotientOf, remainderOf, quotientsOf, remaindersOf, missingOf}
-use Rattle.mixture.specs.Scaling.{greatestPlace, oneMore, distributed, scaledOf}
+use Rattle.mixture.specs.Scaling.{greatestPlace, oneMore, distributed, scaledOf, NearShare}
 use Rattle.mixture.specs.Laws.Total.{sum-set, greatest-below, greatest-least, remainders-sum}
-
--- s parts are less than one part from 1000000 × x / t
-pub record NearShare (t x s : ℕ) : Type 0 where
-  pub above : s * t < MILLION * x + t
-  pub below : MILLION * x < s * t + t
 
 -- what holds of quotient and remainder of each amount while parts are given out
 record Fair (t x q r : ℕ) : Type 0 where

@@ -24,12 +24,6 @@ pub sum-filled : (l : List ℕ) → 0 < totalOf l → 0 < length l
 sum-filled [] h = h
 sum-filled (x ∷ l) h = omega arith
 
--- an amount is no more than the sum
-pub sum-has : (l : List ℕ) (i : ℕ) → getD l i 0 ≤ totalOf l
-sum-has [] i = omega arith
-sum-has (x ∷ l) zero = omega arith
-sum-has (x ∷ l) (suc i) = omega (arith, sum-has l i)
-
 -- ---- the greatest of a list
 
 pub greatest-below : (rs : List ℕ) (n : ℕ) → 0 < n → largestTo rs n < n

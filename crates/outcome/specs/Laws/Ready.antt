@@ -16,7 +16,8 @@ use Rattle.analysis.specs.Check as analysis
 use Rattle.analysis.specs.Laws.Ranges.{NoneOr, total-go, total-end}
 use Rattle.mixture.specs.Simplification.{simplifiedOf}
 use Rattle.mixture.specs.Inert.{inertFirst}
-use Rattle.mixture.specs.Laws.Bounds.{LEAST_PARTS, simplified-length, simplified-total, simplified-or-absent}
+use Rattle.mixture.specs.Total.{simplified-total}
+use Rattle.mixture.specs.Laws.Bounds.{LEAST_PARTS, simplified-length, simplified-or-absent}
 use Rattle.mixture.specs.Laws.Bounds.{inert-greatest, tenths-positive, simplified-methane}
 use Rattle.systems.specs.Systems.{COMPONENTS, hasOf}
 use Rattle.systems.specs.Choice.{countTo, presentAt, presentOf}

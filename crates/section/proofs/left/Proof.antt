@@ -3,7 +3,7 @@
 -- kept for the exit, and of the other the sheet's part goes to the callee with the lifetime's token, which comes
 -- back. Assumes nothing.
 use mathlib.Core.Path.{_≡_, refl}
-use Prim.Native.Nat.{ℕ, _<_, _^_}
+use Prim.Native.Nat.{_<_, _^_}
 use mathlib.Core.Bool.{Bool}
 use mathlib.Core.List.{[], _∷_}
 use lib.Dec.{T as Holds}

@@ -1,14 +1,14 @@
 -- What the definition of a section says, case by case and back. Assumes nothing.
 use mathlib.Core.Path.{_≡_, refl}
-use mathlib.Core.Bool.{Bool, true, false}
+use mathlib.Core.Bool.{Bool, true, false, cond}
 use mathlib.Core.List.{List}
 use Prim.Native.Nat.{ℕ, _+_, _≤_, _<_}
 use native.Mathlib.Omega.{arith}
 use lib.Dec.{ltb}
 use lib.ListN.{length, getD}
-use borrow.Author.Tests.{lt-ltb, le-ltb, ltb-true, ltb-false}
+use borrow.Author.Tests.{lt-ltb, le-ltb, ltb-false}
 use Rattle.section.specs.declared.Section.the-variants.{Records, Torn}
-use Rattle.section.specs.Section.{endAt, tornOr, sectionAt}
+use Rattle.section.specs.Section.{endAt, sectionAt}
 
 -- what a section that was found says of the sheet
 pub record SectionFound (s : List ℕ) (at size count first end : ℕ) : Type 0 where
@@ -21,12 +21,12 @@ module _ (s : List ℕ) (at size : ℕ) where
   -- a section that ends within the sheet is its records
   pub section-records : endAt s at size ≤ length s
       → sectionAt s at size ≡ Records (getD s at 0) (at + 1) (endAt s at size)
-  unfolding sectionAt tornOr
+  unfolding sectionAt
   section-records h = rw (le-ltb (length s) (endAt s at size) h)
 
   -- one that ends beyond the sheet is torn
   pub section-torn : length s < endAt s at size → sectionAt s at size ≡ Torn
-  unfolding sectionAt tornOr
+  unfolding sectionAt
   section-torn h = rw (lt-ltb (length s) (endAt s at size) h)
 
   -- and so is one that begins beyond it
@@ -35,9 +35,8 @@ module _ (s : List ℕ) (at size : ℕ) where
   section-outside h = section-torn (omega arith)
 
   found-by : (t : Bool) {count first end : ℕ} → ltb (length s) (endAt s at size) ≡ t
-      → tornOr t (Records (getD s at 0) (at + 1) (endAt s at size)) ≡ Records count first end
+      → cond t Torn (Records (getD s at 0) (at + 1) (endAt s at size)) ≡ Records count first end
       → SectionFound s at size count first end
-  unfolding tornOr
   found-by true e h =
       let z : _≡_ {A = ℕ} 0 1 = cc in
       record { counted = omega arith; begins = omega arith; ends = omega arith; within = omega arith }
@@ -56,14 +55,3 @@ module _ (s : List ℕ) (at size : ℕ) where
       → SectionFound s at size count first end
   unfolding sectionAt
   section-found h = found-by (ltb (length s) (endAt s at size)) refl h
-
-  torn-by : (t : Bool) → ltb (length s) (endAt s at size) ≡ t
-      → tornOr t (Records (getD s at 0) (at + 1) (endAt s at size)) ≡ Torn → length s < endAt s at size
-  unfolding tornOr
-  torn-by true e h = ltb-true _ _ e
-  torn-by false e h = let z : _≡_ {A = ℕ} 0 1 = cc in omega arith
-
-  -- and what torn says
-  pub section-beyond : sectionAt s at size ≡ Torn → length s < endAt s at size
-  unfolding sectionAt
-  section-beyond h = torn-by (ltb (length s) (endAt s at size)) refl h

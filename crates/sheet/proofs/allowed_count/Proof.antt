@@ -1,27 +1,28 @@
 -- `sheet::allowed_count` meets its contract. Assumes nothing.
 use mathlib.Core.Path.{_≡_, refl, sym, _∙_}
-use mathlib.Core.Bool.{Bool, true, false, cond}
+use mathlib.Core.Bool.{Bool, true, false, _&&_, _||_, not, Bool·beq}
 use Prim.Native.Nat.{ℕ, suc, _%_, _≤_, _<_}
 use native.Mathlib.Omega.{arith}
 use lib.Dec.{eqb, ltb, leb}
 use lib.ListN.{replicate}
 use borrow.Author.Tests.{eq-eqb, ne-eqb, lt-ltb, le-ltb, leb-true}
 use Rattle.refusal.specs.Keys.{isIn}
+use Rattle.refusal.specs.Laws.Alike.{beq-is}
 use Rattle.refusal.specs.Laws.Keys.{each-passes}
-use Rattle.analysis.specs.Laws.Table.{at, same, same-eq}
+use Rattle.analysis.specs.Laws.Table.{at}
 use Rattle.sheet.specs.Split.{SHORTEST_SPLIT, LONGEST_SPLIT, splitCounts, allowedCount}
 use Rattle.sheet.proofs.allowed_count.Statement.{statement}
 use Rattle.sheet.proofs.allowed_count.Tie as tie
 
 -- the code's tests of a count that is not above the most: computed at each
 abbrev tested : ℕ → Bool
-tested m = cond (eqb m 0) true (cond (ltb m SHORTEST_SPLIT) false (eqb (m % 3) 0))
+tested m = eqb m 0 || not (ltb m SHORTEST_SPLIT) && eqb (m % 3) 0
 
 counted : (m : ℕ) → m ≤ LONGEST_SPLIT → tested m ≡ allowedCount m
 unfolding allowedCount isIn
 counted m l =
-    same-eq (tested m) (allowedCount m)
-    (at (λ k x. same (tested k) (allowedCount k)) (replicate (suc LONGEST_SPLIT) 0) tt m (omega arith))
+    beq-is (tested m) (allowedCount m)
+    (at (λ k x. Bool·beq (tested k) (allowedCount k)) (replicate (suc LONGEST_SPLIT) 0) tt m (omega arith))
 
 none : (m : ℕ) → m ≡ 0 → allowedCount m ≡ true
 none m e = rw (eq-eqb m 0 e) at (sym (counted m (omega arith)))

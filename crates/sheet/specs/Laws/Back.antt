@@ -1,7 +1,7 @@
 -- Reading what was written gives it back, part by part. Assumes nothing.
 use mathlib.Core.Path.{_≡_, refl, ap, sym, _∙_}
 use mathlib.Core.List.{List, [], _∷_, _++_}
-use mathlib.Core.Bool.{Bool, true, false}
+use mathlib.Core.Bool.{Bool, true, false, and-eq-true-iff}
 use Prim.Native.Nat.{ℕ, zero, suc, _+_, _-_, _/_, _%_, _≤_, _<_}
 use native.Mathlib.Omega.{arith}
 use native.Mathlib.Numerals.{add-one}
@@ -14,10 +14,10 @@ use Rattle.analysis.specs.Check.{greatestBy, greatestOf, inRange, allInRange}
 use Rattle.analysis.specs.Laws.Ranges.{range-greatest}
 use Rattle.sheet.specs.declared.Reading.the-variants.{Read}
 use Rattle.sheet.specs.Bytes.{fourBytes, fourBytesAt, bytesOf}
-use Rattle.sheet.specs.Components.{refusalBy, codeRefusal, codesReading, amountsFrom, zeroListed, listedCount}
-use Rattle.sheet.specs.Components.{componentBytes}
-use Rattle.sheet.specs.Split.{recordBytes, byteColumn, amountColumn}
-use Rattle.sheet.specs.Laws.Cases.{both-true, code-fine}
+use Rattle.sheet.specs.Components.{COMPONENT_BYTES, refusalBy, codeRefusal, codesReading, amountsFrom}
+use Rattle.sheet.specs.Components.{zeroListed, listedCount, componentBytes}
+use Rattle.sheet.specs.Split.{RECORD_BYTES, recordBytes, byteColumn, amountColumn}
+use Rattle.sheet.specs.Laws.Cases.{code-fine}
 
 -- the number of the four bytes of a number is that number
 pub number-bytes : (x : ℕ) → fourBytes (x / 16777216) (x / 65536 % 256) (x / 256 % 256) (x % 256) ≡ x
@@ -79,8 +79,8 @@ module _ (s : List ℕ) (at k x : ℕ) (xs r : List ℕ) (e : drop at s ≡ comp
   pub amount-back : fourBytesAt s (at + 1) ≡ x
   amount-back = number-here s at 1 _ (rest-here s at _ here 1) ∙ number-bytes x
 
-  pub next-back : drop (at + 5) s ≡ componentBytes (suc k) xs ++ r
-  next-back = rest-here s at _ here 5
+  pub next-back : drop (at + COMPONENT_BYTES) s ≡ componentBytes (suc k) xs ++ r
+  next-back = rest-here s at _ here COMPONENT_BYTES
 
 pub skip-back : (s : List ℕ) (at k x : ℕ) (xs r : List ℕ) → drop at s ≡ componentBytes k (x ∷ xs) ++ r
     → eqb x 0 ≡ true → drop at s ≡ componentBytes (suc k) xs ++ r
@@ -90,16 +90,17 @@ pub codes-back : (xs : List ℕ) (k i p : ℕ) (s : List ℕ) (at : ℕ) (r : Li
     → drop at s ≡ componentBytes k xs ++ r → codesReading (listedCount xs) s at i p ≡ Read
 codes-back [] k i p s at r a h e = refl
 codes-back (x ∷ xs) k i p s at r a h e =
-    let g : (inRange k x ≡ true) × (allInRange (suc k) xs ≡ true) = both-true (inRange k x) (allInRange (suc k) xs) a in
+    let g = and-eq-true-iff (inRange k x) (allInRange (suc k) xs) .0 a in
     go (g .0)
     (λ d. codes-back xs (suc k) i p s at r (g .1) (omega arith) d)
-    (λ d. codes-back xs (suc k) (i + 1) k s (at + 5) r (g .1) (omega arith) d)
+    (λ d. codes-back xs (suc k) (i + 1) k s (at + COMPONENT_BYTES) r (g .1) (omega arith) d)
     (eqb x 0)
     refl
   where
     go : inRange k x ≡ true
         → (drop at s ≡ componentBytes (suc k) xs ++ r → codesReading (listedCount xs) s at i p ≡ Read)
-        → (drop (at + 5) s ≡ componentBytes (suc k) xs ++ r → codesReading (listedCount xs) s (at + 5) (i + 1) k ≡ Read)
+        → (drop (at + COMPONENT_BYTES) s ≡ componentBytes (suc k) xs ++ r
+        → codesReading (listedCount xs) s (at + COMPONENT_BYTES) (i + 1) k ≡ Read)
         → (t : Bool) → eqb x 0 ≡ t → codesReading (listedCount (x ∷ xs)) s at i p ≡ Read
     go g skip next true f = rw f (skip (skip-back s at k x xs r e f))
     go g skip next false f =
@@ -112,12 +113,13 @@ zero-back [] k s at r e = refl
 zero-back (x ∷ xs) k s at r e =
     go
     (λ d. zero-back xs (suc k) s at r d)
-    (λ d. zero-back xs (suc k) s (at + 5) r d)
+    (λ d. zero-back xs (suc k) s (at + COMPONENT_BYTES) r d)
     (eqb x 0)
     refl
   where
     go : (drop at s ≡ componentBytes (suc k) xs ++ r → zeroListed (listedCount xs) s at ≡ false)
-        → (drop (at + 5) s ≡ componentBytes (suc k) xs ++ r → zeroListed (listedCount xs) s (at + 5) ≡ false)
+        → (drop (at + COMPONENT_BYTES) s ≡ componentBytes (suc k) xs ++ r
+        → zeroListed (listedCount xs) s (at + COMPONENT_BYTES) ≡ false)
         → (t : Bool) → eqb x 0 ≡ t → zeroListed (listedCount (x ∷ xs)) s at ≡ false
     go skip next true f = rw f (skip (skip-back s at k x xs r e f))
     go skip next false f =
@@ -131,7 +133,7 @@ amounts-filled [] k ws s at r h e = refl
 amounts-filled (x ∷ xs) k ws s at r h e =
     go
     (λ d. amounts-filled xs (suc k) (ws ++ (0 ∷ [])) s at r (longer 0) d)
-    (λ d. amounts-filled xs (suc k) (ws ++ (x ∷ [])) s (at + 5) r (longer x) d)
+    (λ d. amounts-filled xs (suc k) (ws ++ (x ∷ [])) s (at + COMPONENT_BYTES) r (longer x) d)
     (eqb x 0)
     refl
   where
@@ -140,8 +142,8 @@ amounts-filled (x ∷ xs) k ws s at r h e =
 
     go : (drop at s ≡ componentBytes (suc k) xs ++ r
         → amountsFrom (listedCount xs) s at ((ws ++ (0 ∷ [])) ++ replicate (length xs) 0) ≡ (ws ++ (0 ∷ [])) ++ xs)
-        → (drop (at + 5) s ≡ componentBytes (suc k) xs ++ r
-        → amountsFrom (listedCount xs) s (at + 5) ((ws ++ (x ∷ [])) ++ replicate (length xs) 0)
+        → (drop (at + COMPONENT_BYTES) s ≡ componentBytes (suc k) xs ++ r
+        → amountsFrom (listedCount xs) s (at + COMPONENT_BYTES) ((ws ++ (x ∷ [])) ++ replicate (length xs) 0)
         ≡ (ws ++ (x ∷ [])) ++ xs)
         → (t : Bool) → eqb x 0 ≡ t → amountsFrom (listedCount (x ∷ xs)) s at (ws ++ replicate (length (x ∷ xs)) 0) ≡ ws
         ++ (x ∷ xs)
@@ -153,7 +155,7 @@ amounts-filled (x ∷ xs) k ws s at r h e =
         ∙ ap (λ (y : ℕ). ws ++ (y ∷ xs)) (sym (eqb-true x 0 f)))
     go skip next false f =
         ap (λ (n : ℕ). amountsFrom n s at (ws ++ replicate (suc (length xs)) 0)) (some-count k x xs f)
-        ∙ ap (λ (l : List ℕ). amountsFrom (listedCount xs) s (at + 5) l)
+        ∙ ap (λ (l : List ℕ). amountsFrom (listedCount xs) s (at + COMPONENT_BYTES) l)
         (ap (λ (j : ℕ). set (ws ++ replicate (suc (length xs)) 0) j (fourBytesAt s (at + 1)))
         (code-back s at k x xs r e f)
         ∙ ap (λ (y : ℕ). set (ws ++ replicate (suc (length xs)) 0) k y) (amount-back s at k x xs r e f)
@@ -183,10 +185,10 @@ module _ (xs ys zs : List ℕ) where
       × (amountColumn m s (at + 2) ≡ cut m i zs)
   split-back zero i s at e = (refl, refl, refl)
   split-back (suc m) i s at e =
-      let r = split-back m (i + 1) s (at + 6) (rest-here s at _ e 6) in
+      let r = split-back m (i + 1) s (at + RECORD_BYTES) (rest-here s at _ e RECORD_BYTES) in
       let a = byte-here s at _ e in
       let b = byte-on s at _ e 1 in
       let z = number-here s at 2 _ (rest-here s at _ e 2) ∙ number-bytes (getD zs i 0) in
-      let f : at + 1 + 6 ≡ at + 6 + 1 = omega arith in
-      let g : at + 2 + 6 ≡ at + 6 + 2 = omega arith in
+      let f : at + 1 + RECORD_BYTES ≡ at + RECORD_BYTES + 1 = omega arith in
+      let g : at + 2 + RECORD_BYTES ≡ at + RECORD_BYTES + 2 = omega arith in
       (rw (a, r .0), rw (b, f, r .1), rw (z, g, r .2))

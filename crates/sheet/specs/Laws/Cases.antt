@@ -1,7 +1,7 @@
 -- The cases of the definitions, by the tests that lead to each, and back. Assumes nothing.
 use mathlib.Core.Path.{_≡_, refl, ap, sym, _∙_, subst}
 use mathlib.Core.List.{List, [], _∷_, _++_}
-use mathlib.Core.Bool.{Bool, true, false, cond}
+use mathlib.Core.Bool.{Bool, true, false, _||_, cond}
 use Prim.Native.Nat.{ℕ, zero, suc, _+_, _-_, _*_, _≤_, _<_}
 use native.Mathlib.Omega.{arith}
 use lib.ListN.{length, getD, drop, length-append}
@@ -9,7 +9,7 @@ use lib.Dec.{eqb, ltb, leb}
 use borrow.Author.Tests.{eq-eqb, ne-eqb, le-leb, lt-leb, le-ltb, leb-true, leb-false, ltb-true, ltb-false, eqb-true}
 use borrow.Author.Tests.{eqb-false}
 use Rattle.refusal.specs.Keys.{isIn}
-use Rattle.refusal.specs.Register.{TORN, SHORT_BLANK}
+use Rattle.refusal.specs.Register.{TORN, OUT_OF_RANGE, SHORT_BLANK, carried}
 use Rattle.refusal.specs.Laws.Keys.{each-passes}
 use Rattle.analysis.specs.Register.{CODES, Entry, unknown, register, keysOf, statusIn, statusOf}
 use Rattle.analysis.specs.Check.{analysisRefusal}
@@ -37,10 +37,6 @@ use Rattle.sheet.specs.Write.{writeRefusal, writtenOf, leftOf}
 pub never : _≡_ {A = ℕ} 0 1 → ⊥
 never z = omega arith
 
-pub both-true : (t x : Bool) → cond t x false ≡ true → (t ≡ true) × (x ≡ true)
-both-true true x h = (refl, h)
-both-true false x h = (h, cc)
-
 -- a count that is allowed is at most the most
 pub allowed-most : (m : ℕ) → allowedCount m ≡ true → m ≤ LONGEST_SPLIT
 unfolding allowedCount isIn
@@ -66,8 +62,10 @@ module _ (s : List ℕ) where
   abbrev ending : ℕ → ℕ → Section → Sections
   ending n at x = withSplit n x (leftAt s (standsAfter at x))
 
-  second-back : (n at : ℕ) (x : Section) → sectionAt s at 6 ≡ x → {k m first : ℕ} → ending n at x ≡ Both k m first
-      → (k ≡ n) × (m ≡ getD s at 0) × (first ≡ at + 1) × (allowedCount m ≡ true) × (length s ≡ at + 1 + m * 6)
+  second-back : (n at : ℕ) (x : Section) → sectionAt s at RECORD_BYTES ≡ x → {k m first : ℕ}
+      → ending n at x ≡ Both k m first
+      → (k ≡ n) × (m ≡ getD s at 0) × (first ≡ at + 1) × (allowedCount m ≡ true)
+      × (length s ≡ at + 1 + m * RECORD_BYTES)
   unfolding endAt
   second-back n at found.Torn e h =
       let z : _≡_ {A = ℕ} 0 1 = cc in
@@ -75,10 +73,11 @@ module _ (s : List ℕ) where
   second-back n at (found.Records m' first' end) e {k} {m} {first} h = go (allowedCount m') (leftAt s end) refl refl
     where
       go : (t u : Bool) → allowedCount m' ≡ t → leftAt s end ≡ u
-          → (k ≡ n) × (m ≡ getD s at 0) × (first ≡ at + 1) × (allowedCount m ≡ true) × (length s ≡ at + 1 + m * 6)
+          → (k ≡ n) × (m ≡ getD s at 0) × (first ≡ at + 1) × (allowedCount m ≡ true)
+          × (length s ≡ at + 1 + m * RECORD_BYTES)
       go true false a b =
           let w = rw (a, b) at h in
-          let f = section-found s at 6 e in
+          let f = section-found s at RECORD_BYTES e in
           let p : m' ≡ m = cc in
           let q : first' ≡ first = cc in
           let r : n ≡ k = cc in
@@ -99,22 +98,25 @@ module _ (s : List ℕ) where
 
   -- those of a sheet whose first one is `x`
   abbrev after : Section → Sections
-  after x = withComponents x (sectionAt s (standsAfter 0 x) 6) (leftAt s (movedAt s (standsAfter 0 x) 6))
+  after x =
+      withComponents x (sectionAt s (standsAfter 0 x) RECORD_BYTES)
+      (leftAt s (movedAt s (standsAfter 0 x) RECORD_BYTES))
 
-  first-back : (x : Section) → sectionAt s 0 5 ≡ x → {n m first : ℕ} → after x ≡ Both n m first → Sectioned s n m first
+  first-back : (x : Section) → sectionAt s 0 COMPONENT_BYTES ≡ x → {n m first : ℕ} → after x ≡ Both n m first
+      → Sectioned s n m first
   unfolding endAt
   first-back found.Torn e h = let z : _≡_ {A = ℕ} 0 1 = cc in absurd (never z)
   first-back (found.Records n' first' end) e {n} {m} {first} h = go (leb n' LISTED) refl h
     where
-      go : (t : Bool) → leb n' LISTED ≡ t → cond t (ending n' end (sectionAt s end 6)) Torn ≡ Both n m first
+      go : (t : Bool) → leb n' LISTED ≡ t → cond t (ending n' end (sectionAt s end RECORD_BYTES)) Torn ≡ Both n m first
           → Sectioned s n m first
       go true a h =
-          let f = section-found s 0 5 e in
-          let g = second-back n' end (sectionAt s end 6) refl h in
+          let f = section-found s 0 COMPONENT_BYTES e in
+          let g = second-back n' end (sectionAt s end RECORD_BYTES) refl h in
           let c = f .counted in
           let o = f .ends in
           let l = leb-true n' LISTED a in
-          let i : end ≡ 1 + 5 * n = omega (arith, g .0) in
+          let i : end ≡ 1 + COMPONENT_BYTES * n = omega (arith, g .0) in
           record {
             components = g .0 ∙ c;
             few = omega (arith, g .0);
@@ -127,7 +129,7 @@ module _ (s : List ℕ) where
 
   pub sectioned : {n m first : ℕ} → sectionsOf s ≡ Both n m first → Sectioned s n m first
   unfolding sectionsOf
-  sectioned h = first-back (sectionAt s 0 5) refl h
+  sectioned h = first-back (sectionAt s 0 COMPONENT_BYTES) refl h
 
   -- and the other way: bytes of that shape are two sections
   pub sections-both : (n m : ℕ) → getD s 0 0 ≡ n → n ≤ LISTED → getD s (1 + COMPONENT_BYTES * n) 0 ≡ m
@@ -135,17 +137,21 @@ module _ (s : List ℕ) where
       → length s ≡ 2 + COMPONENT_BYTES * n + RECORD_BYTES * m → sectionsOf s ≡ Both n m (2 + COMPONENT_BYTES * n)
   unfolding sectionsOf endAt
   sections-both n m en few em allowed size =
-      let i : 0 + 1 + getD s 0 0 * 5 ≡ 1 + 5 * n = omega arith in
-      let o : 1 + 5 * n + 1 + getD s (1 + 5 * n) 0 * 6 ≡ length s = omega arith in
-      let j : 1 + 5 * n + 1 ≡ 2 + 5 * n = omega arith in
-      ap after (section-records s 0 5 (omega arith))
+      let i : 0 + 1 + getD s 0 0 * COMPONENT_BYTES ≡ 1 + COMPONENT_BYTES * n = omega arith in
+      let o : 1 + COMPONENT_BYTES * n + 1 + getD s
+      (1 + COMPONENT_BYTES * n) 0 * RECORD_BYTES ≡ length s = omega arith in
+      let j : 1 + COMPONENT_BYTES * n + 1 ≡ 2 + COMPONENT_BYTES * n = omega arith in
+      ap after (section-records s 0 COMPONENT_BYTES (omega arith))
       ∙ ap (λ (k : ℕ). after (found.Records (getD s 0 0) 1 k)) i
-      ∙ ap (λ (k : ℕ). after (found.Records k 1 (1 + 5 * n))) en
-      ∙ ap (λ (t : Bool). cond t (ending n (1 + 5 * n) (sectionAt s (1 + 5 * n) 6)) Torn) (le-leb n LISTED few)
-      ∙ ap (ending n (1 + 5 * n)) (section-records s (1 + 5 * n) 6 (omega arith))
-      ∙ ap (λ (k : ℕ). ending n (1 + 5 * n) (found.Records (getD s (1 + 5 * n) 0) (1 + 5 * n + 1) k)) o
-      ∙ ap (λ (k : ℕ). ending n (1 + 5 * n) (found.Records k (1 + 5 * n + 1) (length s))) em
-      ∙ ap (λ (k : ℕ). ending n (1 + 5 * n) (found.Records m k (length s))) j
+      ∙ ap (λ (k : ℕ). after (found.Records k 1 (1 + COMPONENT_BYTES * n))) en
+      ∙ ap (λ (t : Bool). cond t
+      (ending n (1 + COMPONENT_BYTES * n) (sectionAt s (1 + COMPONENT_BYTES * n) RECORD_BYTES)) Torn)
+      (le-leb n LISTED few)
+      ∙ ap (ending n (1 + COMPONENT_BYTES * n)) (section-records s (1 + COMPONENT_BYTES * n) RECORD_BYTES (omega arith))
+      ∙ ap (λ (k : ℕ). ending n (1 + COMPONENT_BYTES * n)
+      (found.Records (getD s (1 + COMPONENT_BYTES * n) 0) (1 + COMPONENT_BYTES * n + 1) k)) o
+      ∙ ap (λ (k : ℕ). ending n (1 + COMPONENT_BYTES * n) (found.Records k (1 + COMPONENT_BYTES * n + 1) (length s))) em
+      ∙ ap (λ (k : ℕ). ending n (1 + COMPONENT_BYTES * n) (found.Records m k (length s))) j
       ∙ rw (allowed, le-ltb (length s) (length s) (omega arith))
 
 -- ---- reading
@@ -161,7 +167,7 @@ module _ (s : List ℕ) (code : ℕ) where
     read-codes e = rw (h, e)
 
     pub read-amounts : codesReading n s 1 0 0 ≡ Read → (amountsRefusal n s ≡ 0 → ⊥)
-        → readOf s code ≡ refusedSheet (Refused (amountsRefusal n s) 0 (cond (eqb (amountsRefusal n s) 5) code 0))
+        → readOf s code ≡ refusedSheet (Refused (amountsRefusal n s) 0 (carried (amountsRefusal n s) code 0))
     unfolding readOf readBy
     read-amounts e z = rw (h, e, ne-eqb _ _ z)
 
@@ -184,7 +190,7 @@ read-whole s code h = go (sectionsOf s) refl h
   where
     amounts-back : (n m first : ℕ) → sectionsOf s ≡ Both n m first → codesReading n s 1 0 0 ≡ Read → (t : Bool)
         → eqb (amountsRefusal n s) 0 ≡ t
-        → withAnswer (cond t Read (Refused (amountsRefusal n s) 0 (cond (eqb (amountsRefusal n s) 5) code 0)))
+        → withAnswer (cond t Read (Refused (amountsRefusal n s) 0 (carried (amountsRefusal n s) code 0)))
         (contentOf n m first s) .answer ≡ Read → Whole s
     amounts-back n m first e d true f h =
         record { n = n; m = m; first = first; sections = e; codes = d; amounts = eqb-true _ _ f }
@@ -201,7 +207,7 @@ read-whole s code h = go (sectionsOf s) refl h
 
 -- the amounts pass: none is listed at 0, and the analysis is in range
 module _ (n : ℕ) (s : List ℕ) where
-  pub amounts-zero : zeroListed n s 1 ≡ true → amountsRefusal n s ≡ 5
+  pub amounts-zero : zeroListed n s 1 ≡ true → amountsRefusal n s ≡ OUT_OF_RANGE
   unfolding amountsRefusal
   amounts-zero z = rw z
 
@@ -213,7 +219,7 @@ module _ (n : ℕ) (s : List ℕ) where
   unfolding amountsRefusal
   amounts-back h = go (zeroListed n s 1) refl h
     where
-      go : (t : Bool) → zeroListed n s 1 ≡ t → cond t 5 (analysisRefusal (readAmounts n s)) ≡ 0
+      go : (t : Bool) → zeroListed n s 1 ≡ t → cond t OUT_OF_RANGE (analysisRefusal (readAmounts n s)) ≡ 0
           → (zeroListed n s 1 ≡ false) × (analysisRefusal (readAmounts n s) ≡ 0)
       go true e h = (absurd (omega arith), absurd (omega arith))
       go false e h = (e, h)
@@ -226,7 +232,7 @@ unfolding isIn
 unlisted [] c h = refl
 unlisted (e ∷ es) c h = go (eqb c (e .code)) h (λ t. unlisted es c t)
   where
-    go : (b : Bool) → cond b true (isIn c (keysOf es)) ≡ false
+    go : (b : Bool) → (b || isIn c (keysOf es)) ≡ false
         → (isIn c (keysOf es) ≡ false → statusIn es c ≡ unknown)
         → cond b (e .status) (statusIn es c) ≡ unknown
     go true h rest = let y : _≡_ {A = ℕ} 0 1 = cc in absurd (omega arith)
@@ -331,7 +337,7 @@ module _ (a : List ℕ) (p : Split) where
     written-length e = rw e
 
     pub written-refused : (n : ℕ) → writeRefusal a p size ≡ n → (n ≡ 0 → ⊥)
-        → writtenOf a p size code ≡ w.Refused n (cond (eqb n 5) code 0)
+        → writtenOf a p size code ≡ w.Refused n (carried n code 0)
     unfolding writtenOf
     written-refused n e z = rw (e, ne-eqb _ _ z)
 
@@ -342,7 +348,7 @@ module _ (a : List ℕ) (p : Split) where
       where
         go : (t : Bool) → eqb (writeRefusal a p size) 0 ≡ t
             → cond t (w.Length (length (sheetOf a p)))
-            (w.Refused (writeRefusal a p size) (cond (eqb (writeRefusal a p size) 5) code 0)) ≡ w.Length n
+            (w.Refused (writeRefusal a p size) (carried (writeRefusal a p size) code 0)) ≡ w.Length n
             → (writeRefusal a p size ≡ 0) × (n ≡ length (sheetOf a p))
         go true e h = (eqb-true _ _ e, cc)
         go false e h = let z : _≡_ {A = ℕ} 0 1 = cc in absurd (never z)

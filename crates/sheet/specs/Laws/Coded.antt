@@ -6,6 +6,7 @@ use mathlib.Core.List.{List}
 use Prim.Native.Nat.{ℕ, zero, suc, _+_}
 use lib.Dec.{eqb}
 use lib.ListN.{getD}
+use Rattle.refusal.specs.Register.{OUT_OF_RANGE, carried}
 use Rattle.sheet.specs.Components.{COMPONENT_BYTES, codeRefusal, codesReading}
 use Rattle.sheet.specs.Sheet.{sectionsOf}
 use Rattle.sheet.specs.Read.{readBy, readOf, ReadAs, amountsRefusal, byAmounts, contentOf, withAnswer, afterCodes}
@@ -18,7 +19,7 @@ use Rattle.sheet.specs.declared.Sheet.{Sheet}
 
 abbrev Coded : Reading → Type 0
 Coded Read = Unit {0}
-Coded (Refused number place code) = eqb number 5 ≡ false → code ≡ 0
+Coded (Refused number place code) = eqb number OUT_OF_RANGE ≡ false → code ≡ 0
 
 codes-coded : (n : ℕ) (s : List ℕ) (at i p : ℕ) → Coded (codesReading n s at i p)
 codes-coded zero s at i p = tt
@@ -34,7 +35,7 @@ codes-coded (suc n) s at i p =
 by-coded : (number code : ℕ) → Coded (byAmounts number code)
 by-coded number code = go (eqb number 0)
   where
-    go : (t : Bool) → Coded (cond t Read (Refused number 0 (cond (eqb number 5) code 0)))
+    go : (t : Bool) → Coded (cond t Read (Refused number 0 (carried number code 0)))
     go true = tt
     go false = λ e. rw e
 
@@ -63,10 +64,11 @@ module _ (s : List ℕ) (r : Sheet) (h : ReadAs s r) (number place code : ℕ) (
     pub refused-answer : readOf s code .answer ≡ Refused number place code
     refused-answer = ap (λ (x : Sheet). x .answer) (sym (h .sheet ∙ ap (readOf s) (ap faultOf e))) ∙ e
 
-    pub carried-code : cond (eqb number 5) (placeOf (Refused number place code)) 0 ≡ code
-    carried-code = go (eqb number 5) refl (subst Coded refused-answer (read-coded s code))
+    pub carried-code : carried number (placeOf (Refused number place code)) 0 ≡ code
+    carried-code = go (eqb number OUT_OF_RANGE) refl (subst Coded refused-answer (read-coded s code))
       where
-        go : (t : Bool) → eqb number 5 ≡ t → Coded (Refused number place code) → cond t (cond t code place) 0 ≡ code
+        go : (t : Bool) → eqb number OUT_OF_RANGE ≡ t → Coded (Refused number place code)
+            → cond t (cond t code place) 0 ≡ code
         go true q z = refl
         go false q z = sym (z q)
 

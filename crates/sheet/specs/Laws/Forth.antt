@@ -1,7 +1,7 @@
 -- Writing what was read gives the same bytes, part by part. Assumes nothing.
 use mathlib.Core.Path.{_≡_, refl, ap, sym, _∙_}
 use mathlib.Core.List.{List, [], _∷_, _++_, append-assoc, append-nil}
-use mathlib.Core.Bool.{Bool, true, false, cond}
+use mathlib.Core.Bool.{Bool, true, false, _||_, cond}
 use Prim.Native.Nat.{ℕ, zero, suc, _+_, _-_, _*_, _/_, _%_, _≤_, _<_}
 use native.Mathlib.Omega.{arith}
 use lib.ListN.{length, getD, set, take, drop, replicate, length-append, length-replicate, replicate-append-replicate}
@@ -11,9 +11,9 @@ use borrow.Author.Tests.{ne-eqb, eqb-true, eqb-false, leb-true, leb-false}
 use Rattle.analysis.specs.Register.{CODES, statusOf}
 use Rattle.sheet.specs.declared.Reading.the-variants.{Read, Refused}
 use Rattle.sheet.specs.Bytes.{fourBytes, fourBytesAt, bytesOf, Bytes}
-use Rattle.sheet.specs.Components.{refusalBy, codeRefusal, codesReading, amountsFrom, zeroListed, listedCount}
-use Rattle.sheet.specs.Components.{componentBytes}
-use Rattle.sheet.specs.Split.{RECORDS, padded, recordBytes, byteColumn, amountColumn}
+use Rattle.sheet.specs.Components.{COMPONENT_BYTES, refusalBy, codeRefusal, codesReading, amountsFrom}
+use Rattle.sheet.specs.Components.{zeroListed, listedCount, componentBytes}
+use Rattle.sheet.specs.Split.{RECORDS, RECORD_BYTES, padded, recordBytes, byteColumn, amountColumn}
 use Rattle.sheet.specs.Laws.Cases.{status-above, code-back}
 use Rattle.sheet.specs.Laws.Back.{cut, cut-take, some-bytes, some-count}
 
@@ -47,35 +47,38 @@ module _ (s : List ℕ) (bytes : Bytes s) where
       ∙ ap (λ (l : List ℕ). getD s at 0 ∷ getD s (at + 1) 0 ∷ getD s (at + 2) 0 ∷ l) d
       ∙ ap (λ (l : List ℕ). l ++ drop next s) (sym f)
 
-  pub record-here : (at : ℕ) → at + 5 ≤ length s → drop at s ≡ (getD s at 0 ∷ bytesOf (fourBytesAt s (at + 1)))
-      ++ drop (at + 5) s
+  pub record-here : (at : ℕ) → at + COMPONENT_BYTES ≤ length s
+      → drop at s ≡ (getD s at 0 ∷ bytesOf (fourBytesAt s (at + 1)))
+      ++ drop (at + COMPONENT_BYTES) s
   record-here at h = one at (at + 1) (omega arith) (omega arith)
-      ∙ ap (λ (l : List ℕ). getD s at 0 ∷ l) (bytes-here (at + 1) (at + 5) (omega arith) h)
+      ∙ ap (λ (l : List ℕ). getD s at 0 ∷ l) (bytes-here (at + 1) (at + COMPONENT_BYTES) (omega arith) h)
 
-  pub part-here : (at : ℕ) → at + 6 ≤ length s
-      → drop at s ≡ (getD s at 0 ∷ getD s (at + 1) 0 ∷ bytesOf (fourBytesAt s (at + 2))) ++ drop (at + 6) s
+  pub part-here : (at : ℕ) → at + RECORD_BYTES ≤ length s
+      → drop at s ≡ (getD s at 0 ∷ getD s (at + 1) 0 ∷ bytesOf (fourBytesAt s (at + 2))) ++ drop (at + RECORD_BYTES) s
   part-here at h =
       one at (at + 1) (omega arith) (omega arith)
       ∙ ap (λ (l : List ℕ). getD s at 0 ∷ l) (one (at + 1) (at + 2) (omega arith) (omega arith))
-      ∙ ap (λ (l : List ℕ). getD s at 0 ∷ getD s (at + 1) 0 ∷ l) (bytes-here (at + 2) (at + 6) (omega arith) h)
+      ∙ ap (λ (l : List ℕ). getD s at 0 ∷ getD s (at + 1) 0 ∷ l)
+      (bytes-here (at + 2) (at + RECORD_BYTES) (omega arith) h)
 
   module _ (xs ys zs : List ℕ) where
-    pub split-forth : (m i at next : ℕ) → at + 6 * m ≡ next → next ≤ length s
+    pub split-forth : (m i at next : ℕ) → at + RECORD_BYTES * m ≡ next → next ≤ length s
         → cut m i xs ≡ byteColumn m s at → cut m i ys ≡ byteColumn m s (at + 1) → cut m i zs ≡ amountColumn m s (at + 2)
         → recordBytes m i xs ys zs ++ drop next s ≡ drop at s
     split-forth zero i at next e h p q r =
         let z : next ≡ at = omega arith in
         ap (λ (n : ℕ). drop n s) z
     split-forth (suc m) i at next e h p q r =
-        let f : at + 1 + 6 ≡ at + 6 + 1 = omega arith in
-        let g : at + 2 + 6 ≡ at + 6 + 2 = omega arith in
+        let f : at + 1 + RECORD_BYTES ≡ at + RECORD_BYTES + 1 = omega arith in
+        let g : at + 2 + RECORD_BYTES ≡ at + RECORD_BYTES + 2 = omega arith in
         let p0 : getD xs i 0 ≡ getD s at 0 = cc in
         let q0 : getD ys i 0 ≡ getD s (at + 1) 0 = cc in
         let r0 : getD zs i 0 ≡ fourBytesAt s (at + 2) = cc in
-        let p1 : cut m (i + 1) xs ≡ byteColumn m s (at + 6) = cc in
-        let q1 : cut m (i + 1) ys ≡ byteColumn m s (at + 1 + 6) = cc in
-        let r1 : cut m (i + 1) zs ≡ amountColumn m s (at + 2 + 6) = cc in
-        let ih = split-forth m (i + 1) (at + 6) next (omega arith) h p1 (q1 ∙ ap (λ (n : ℕ). byteColumn m s n) f)
+        let p1 : cut m (i + 1) xs ≡ byteColumn m s (at + RECORD_BYTES) = cc in
+        let q1 : cut m (i + 1) ys ≡ byteColumn m s (at + 1 + RECORD_BYTES) = cc in
+        let r1 : cut m (i + 1) zs ≡ amountColumn m s (at + 2 + RECORD_BYTES) = cc in
+        let ih = split-forth m (i + 1) (at + RECORD_BYTES) next (omega arith) h p1
+        (q1 ∙ ap (λ (n : ℕ). byteColumn m s n) f)
         (r1 ∙ ap (λ (n : ℕ). amountColumn m s n) g) in
         rw (p0, q0, r0)
         (ap (λ (l : List ℕ). (getD s at 0 ∷ getD s (at + 1) 0 ∷ bytesOf (fourBytesAt s (at + 2))) ++ l) ih
@@ -105,20 +108,22 @@ fault-none c p h =
 
 module _ (n : ℕ) (s : List ℕ) (at : ℕ) where
   pub codes-head : (i p : ℕ) → codesReading (suc n) s at i p ≡ Read → (codeRefusal (getD s at 0) p ≡ 0)
-      × (codesReading n s (at + 5) (i + 1) (getD s at 0) ≡ Read)
+      × (codesReading n s (at + COMPONENT_BYTES) (i + 1) (getD s at 0) ≡ Read)
   codes-head i p h = go (eqb (codeRefusal (getD s at 0) p) 0) refl h
     where
       go : (t : Bool) → eqb (codeRefusal (getD s at 0) p) 0 ≡ t
-          → cond t (codesReading n s (at + 5) (i + 1) (getD s at 0)) (Refused (codeRefusal (getD s at 0) p) i 0) ≡ Read
-          → (codeRefusal (getD s at 0) p ≡ 0) × (codesReading n s (at + 5) (i + 1) (getD s at 0) ≡ Read)
+          → cond t (codesReading n s (at + COMPONENT_BYTES) (i + 1) (getD s at 0))
+          (Refused (codeRefusal (getD s at 0) p) i 0) ≡ Read
+          → (codeRefusal (getD s at 0) p ≡ 0) × (codesReading n s (at + COMPONENT_BYTES) (i + 1) (getD s at 0) ≡ Read)
       go true e h = (eqb-true _ _ e, h)
       go false e h = (cc, cc)
 
-  pub zero-head : zeroListed (suc n) s at ≡ false → (fourBytesAt s (at + 1) ≡ 0 → ⊥) × (zeroListed n s (at + 5) ≡ false)
+  pub zero-head : zeroListed (suc n) s at ≡ false → (fourBytesAt s (at + 1) ≡ 0 → ⊥)
+      × (zeroListed n s (at + COMPONENT_BYTES) ≡ false)
   zero-head h = go (eqb (fourBytesAt s (at + 1)) 0) refl h
     where
-      go : (t : Bool) → eqb (fourBytesAt s (at + 1)) 0 ≡ t → cond t true (zeroListed n s (at + 5)) ≡ false
-          → (fourBytesAt s (at + 1) ≡ 0 → ⊥) × (zeroListed n s (at + 5) ≡ false)
+      go : (t : Bool) → eqb (fourBytesAt s (at + 1)) 0 ≡ t → (t || zeroListed n s (at + COMPONENT_BYTES)) ≡ false
+          → (fourBytesAt s (at + 1) ≡ 0 → ⊥) × (zeroListed n s (at + COMPONENT_BYTES) ≡ false)
       go true e h = let z : _≡_ {A = ℕ} 0 1 = cc in (λ _. omega arith, cc)
       go false e h = (eqb-false _ _ e, h)
 
@@ -142,16 +147,18 @@ pub record Filled (n : ℕ) (s : List ℕ) (at p next : ℕ) (ws : List ℕ) (z 
 -- one record more
 filled-step : (n : ℕ) (s : List ℕ) → Bytes s → (at p next : ℕ) (ws : List ℕ) (z gap w c x : ℕ) → getD s at 0 ≡ c
     → fourBytesAt s (at + 1) ≡ x
-    → gap + suc w ≡ z → length ws + gap ≡ c → p + 1 + gap ≡ c → suc c ≡ c + 1 → (x ≡ 0 → ⊥) → at + 5 ≤ length s
-    → Filled n s (at + 5) c next ((ws ++ replicate gap 0) ++ (x ∷ [])) w → Filled (suc n) s at p next ws z
+    → gap + suc w ≡ z → length ws + gap ≡ c → p + 1 + gap ≡ c → suc c ≡ c + 1 → (x ≡ 0 → ⊥)
+    → at + COMPONENT_BYTES ≤ length s
+    → Filled n s (at + COMPONENT_BYTES) c next ((ws ++ replicate gap 0) ++ (x ∷ [])) w → Filled (suc n) s at p next ws z
 filled-step n s bytes at p next ws z gap w c x ec ex zz lw pc sc o h r =
     record {
       ys = replicate gap 0 ++ (x ∷ r .ys);
       filled =
-          ap (λ (k : ℕ). amountsFrom n s (at + 5) (set (ws ++ replicate z 0) k (fourBytesAt s (at + 1)))) ec
-          ∙ ap (λ (k : ℕ). amountsFrom n s (at + 5) (set (ws ++ replicate z 0) c k)) ex
-          ∙ ap (λ (j : ℕ). amountsFrom n s (at + 5) (set (ws ++ replicate j 0) c x)) (sym zz)
-          ∙ ap (λ (v : List ℕ). amountsFrom n s (at + 5) v) (put-one ws gap w c x lw)
+          ap (λ (k : ℕ). amountsFrom n s (at + COMPONENT_BYTES)
+          (set (ws ++ replicate z 0) k (fourBytesAt s (at + 1)))) ec
+          ∙ ap (λ (k : ℕ). amountsFrom n s (at + COMPONENT_BYTES) (set (ws ++ replicate z 0) c k)) ex
+          ∙ ap (λ (j : ℕ). amountsFrom n s (at + COMPONENT_BYTES) (set (ws ++ replicate j 0) c x)) (sym zz)
+          ∙ ap (λ (v : List ℕ). amountsFrom n s (at + COMPONENT_BYTES) v) (put-one ws gap w c x lw)
           ∙ r .filled
           ∙ append-snoc (ws ++ replicate gap 0) x (r .ys)
           ∙ append-assoc ws (replicate gap 0) (x ∷ r .ys);
@@ -162,15 +169,16 @@ filled-step n s bytes at p next ws z gap w c x ec ex zz lw pc sc o h r =
           ∙ some-bytes c x (r .ys) (ne-eqb x 0 o)
           ∙ ap (λ (j : ℕ). (c ∷ bytesOf x) ++ componentBytes j (r .ys)) sc)
           ∙ ap (λ (v : List ℕ). (c ∷ bytesOf x) ++ v) (r .bytes-filled)
-          ∙ ap (λ (k : ℕ). (k ∷ bytesOf x) ++ drop (at + 5) s) (sym ec)
-          ∙ ap (λ (k : ℕ). (getD s at 0 ∷ bytesOf k) ++ drop (at + 5) s) (sym ex)
+          ∙ ap (λ (k : ℕ). (k ∷ bytesOf x) ++ drop (at + COMPONENT_BYTES) s) (sym ec)
+          ∙ ap (λ (k : ℕ). (getD s at 0 ∷ bytesOf k) ++ drop (at + COMPONENT_BYTES) s) (sym ex)
           ∙ sym (record-here s bytes at h);
       count = zeros-count gap (x ∷ r .ys) ∙ some-count c x (r .ys) (ne-eqb x 0 o) ∙ ap suc (r .count);
     }
 
 pub filled-forth : (n : ℕ) (s : List ℕ) → Bytes s → (at i p next : ℕ) (ws : List ℕ) (z : ℕ)
     → codesReading n s at i p ≡ Read → zeroListed n s at ≡ false
-    → length ws ≡ p + 1 → p + 1 + z ≡ CODES → at + 5 * n ≡ next → next ≤ length s → Filled n s at p next ws z
+    → length ws ≡ p + 1 → p + 1 + z ≡ CODES → at + COMPONENT_BYTES * n ≡ next → next ≤ length s
+    → Filled n s at p next ws z
 filled-forth zero s bytes at i p next ws z good nz l k e h =
     let q : next ≡ at = omega arith in
     let a : componentBytes (p + 1) (replicate z 0) ≡ [] = ap (λ (r : List ℕ). componentBytes (p + 1) r)
@@ -192,16 +200,17 @@ filled-forth (suc n) s bytes at i p next ws z good nz l k e h =
     filled-step n s bytes at p next ws z (getD s at 0 - (p + 1)) (CODES - (getD s at 0 + 1)) (getD s at 0)
     (fourBytesAt s (at + 1)) refl refl
     (omega arith) lw (omega arith) (omega arith) (o .0) (omega arith)
-    (filled-forth n s bytes (at + 5) (i + 1) (getD s at 0) next ((ws ++ replicate (getD s at 0 - (p + 1)) 0)
+    (filled-forth n s bytes (at + COMPONENT_BYTES) (i + 1) (getD s at 0) next
+    ((ws ++ replicate (getD s at 0 - (p + 1)) 0)
     ++ (fourBytesAt s (at + 1) ∷ [])) (CODES - (getD s at 0 + 1)) (g .1) (o .1) lv (omega arith) (omega arith) h)
 
 pub length-byte-column : (m : ℕ) (s : List ℕ) (at : ℕ) → length (byteColumn m s at) ≡ m
 length-byte-column zero s at = refl
-length-byte-column (suc m) s at = ap suc (length-byte-column m s (at + 6))
+length-byte-column (suc m) s at = ap suc (length-byte-column m s (at + RECORD_BYTES))
 
 pub length-amount-column : (m : ℕ) (s : List ℕ) (at : ℕ) → length (amountColumn m s at) ≡ m
 length-amount-column zero s at = refl
-length-amount-column (suc m) s at = ap suc (length-amount-column m s (at + 6))
+length-amount-column (suc m) s at = ap suc (length-amount-column m s (at + RECORD_BYTES))
 
 -- a column, out of the places that it was put into
 pub column-forth : (m : ℕ) (vs : List ℕ) → length vs ≡ m → m ≤ length (padded vs) → cut m 0 (padded vs) ≡ vs

@@ -7,8 +7,8 @@ use native.Mathlib.Nat as N
 use native.Mathlib.Omega.{arith}
 use lib.IntN.{pos}
 use Rattle.integer.specs.Figures.{neg, MILLION}
-use Rattle.integer.specs.Fraction.{Within, Close}
-use Rattle.integer.specs.Laws.Distance.{close, looser, close-looser, close-whole, close-plus, close-times}
+use Rattle.integer.specs.Fraction.{Within}
+use Rattle.integer.specs.Laws.Distance.{Close, close, looser, close-looser, close-whole, close-plus, close-times}
 use Rattle.integer.specs.Laws.Distance.{within-plus, within-over}
 use Rattle.formula.specs.Partial.{exactNumber}
 use Rattle.formula.specs.NineteenUnits.{partial-within}

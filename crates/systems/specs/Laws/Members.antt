@@ -8,8 +8,9 @@ use lib.Dec.{T, eqb, ltb, leb, eqb→eq, ltb→lt, leb→le}
 use lib.ListN.{getD, length, List·getD-eq-default}
 use borrow.Author.Tests.{eqb-true, eq-eqb}
 use Rattle.refusal.specs.Keys.{isIn}
+use Rattle.refusal.specs.Laws.Alike.{beq-is}
 use Rattle.systems.specs.Systems.{COMPONENTS, HYDROGEN, hydrocarbonSystems, members, memberOf, hasOf, Candidate}
-use Rattle.systems.specs.Laws.Table.{each-candidate, everyTo, eachTo, of-true, beq-is}
+use Rattle.systems.specs.Laws.Table.{each-candidate, everyTo, eachTo, of-true}
 use Rattle.systems.specs.Choice.{countTo}
 
 -- ---- of each candidate

@@ -2,7 +2,7 @@
 -- nothing.
 use Prim.Native.Nat.{ℕ, zero, suc, _<_}
 use mathlib.Core.Path.{_≡_, refl}
-use mathlib.Core.Bool.{Bool, true, false, not, _&&_, Bool·beq}
+use mathlib.Core.Bool.{Bool, true, false, not, _&&_}
 use mathlib.Core.List.{List, [], _∷_}
 use native.Mathlib.Omega.{arith}
 use lib.Ieee.Fits.{and-l, and-r}
@@ -18,12 +18,6 @@ of-true false e = absurd (let z : _≡_ {A = ℕ} 0 1 = cc in omega arith)
 pub to-true : (b : Bool) → T b → b ≡ true
 to-true true t = refl
 to-true false t = absurd t
-
-pub beq-is : (a b : Bool) → T (Bool·beq a b) → a ≡ b
-beq-is true true t = refl
-beq-is true false t = absurd t
-beq-is false true t = absurd t
-beq-is false false t = refl
 
 -- the test passes at each number of the list
 abbrev pub every : (ℕ → Bool) → List ℕ → Bool

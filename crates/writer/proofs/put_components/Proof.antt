@@ -10,7 +10,8 @@ use lib.ListN.{length, getD, drop}
 use lib.Seq.{sets, length-sets}
 use Rattle.sheet.specs.Bytes.{bytesOf}
 use Rattle.sheet.specs.Components.{listedCount, componentBytes}
-use Rattle.writer.proofs.Turns.{sets-append, count-none, count-one, count-end, component-none, component-one}
+use Rattle.refusal.specs.Laws.Runs.{sets-append}
+use Rattle.writer.proofs.Turns.{count-none, count-one, count-end, component-none, component-one}
 use Rattle.writer.proofs.Turns.{component-end}
 use borrow.Author.Needs.{needs}
 use Rattle.writer.proofs.put_components.Statement.{statement}

@@ -8,7 +8,8 @@ use lib.ListN.{length, getD}
 use lib.Seq.{sets, length-sets}
 use Rattle.sheet.specs.Bytes.{bytesOf}
 use Rattle.sheet.specs.Split.{recordBytes}
-use Rattle.writer.proofs.Turns.{sets-append, record-go, record-end}
+use Rattle.refusal.specs.Laws.Runs.{sets-append}
+use Rattle.writer.proofs.Turns.{record-go, record-end}
 use borrow.Author.Needs.{needs}
 use Rattle.writer.proofs.put_split.Statement.{statement}
 use Rattle.writer.proofs.put_split.Tie as tie

@@ -4,7 +4,7 @@ use mathlib.Core.List.{List}
 use mathlib.Core.Bool.{cond}
 use Prim.Native.Nat.{ℕ}
 use lib.Dec.{ltb}
-use Rattle.refusal.specs.Register.{SHORT_BLANK}
+use Rattle.refusal.specs.Register.{OUT_OF_RANGE, SHORT_BLANK}
 use Rattle.analysis.specs.Check.{AtFault}
 use Rattle.sheet.specs.declared.Split.{Split}
 use Rattle.sheet.specs.declared.Written.{Written}
@@ -13,9 +13,9 @@ use Rattle.sheet.specs.WrittenCases.{numberOf, faultOf}
 use Rattle.sheet.specs.Write.{writtenOf}
 
 -- fixed but for the code of 5, and that is a code at fault
-pub record Answered (a : List ℕ) (p : Split) (size : ℕ) (r : Written) : Type 0 where
-  pub answer : r ≡ writtenOf a p size (faultOf r)
-  pub code : numberOf r ≡ 5 → AtFault a (faultOf r)
+pub record Answered (analysis : List ℕ) (split : Split) (size : ℕ) (r : Written) : Type 0 where
+  pub answer : r ≡ writtenOf analysis split size (faultOf r)
+  pub code : numberOf r ≡ OUT_OF_RANGE → AtFault analysis (faultOf r)
 
 -- a length, or 14 where a buffer is shorter
 unfoldable pub roomFor : ℕ → ℕ → Written
