@@ -22,7 +22,7 @@ use Rattle.systems.specs.Choice.{oneIf, countContaining, containingOf, scoreOf,
 use Rattle.systems.specs.Choice.{marksOf}
 use Rattle.systems.specs.Laws.Table.{none-has, to-true, everyTo, eachTo}
 use Rattle.systems.specs.Laws.Presence.{Every, every-in, mask-lt}
-use Rattle.systems.specs.Without.{HYDROCARBONS}
+use Rattle.systems.specs.Before.{HYDROCARBONS}
 use Rattle.systems.specs.Laws.Scores.{better-next, better-before}
 use Rattle.choice.specs.Inner.Keys.{MOST_WEIGHTED, KEYS, keyWeights, keyOf, Keyed}
 use Rattle.choice.proofs.Loops.{next, done}

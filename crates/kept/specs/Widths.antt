@@ -10,7 +10,7 @@ use lib.IntN.{ℤ, pos, _+ℤ_, _*ℤ_}
 use lib.Signed.{quotZ}
 use Rattle.integer.specs.Figures.{neg, MILLION}
 use Rattle.formula.specs.Partial.{partialNumber}
-use Rattle.systems.specs.Without.{HYDROCARBONS}
+use Rattle.systems.specs.Before.{HYDROCARBONS}
 use Rattle.systems.specs.Systems.{COMPONENTS, memberOf, hasOf}
 use Rattle.split.specs.Fold.{sumTo, sumToZ, allTo, someTo, first, table}
 use Rattle.split.specs.Split.{SYSTEMS, RECORDS, systemOf, rankOf, recordedIn}

@@ -16,16 +16,16 @@ use lib.Count.{ones}
 use lib.Dec.{T, eqb, ltb, leb, ltb→lt, leb→le, le→leb}
 use lib.ListN.{getD, length, replicate}
 use borrow.Author.Tests.{eqb-true, eq-eqb, ne-eqb, lt-ltb}
-use Rattle.refusal.specs.Keys.{isIn}
+use Rattle.refusal.specs.Keys.{isIn, rising}
 use Rattle.systems.specs.Systems.{COMPONENTS, METHANE, HYDROGEN, memberOf, hasOf, Candidate}
 use Rattle.systems.specs.Laws.Table.{of-true, to-true, everyTo, eachTo}
 use Rattle.systems.specs.Choice.{countTo, NUMBERS, order, fold, maskFrom, maskOf, inMask, presentOf}
 use Rattle.systems.specs.Choice.{presentCount, presentIn, keep, containingOf}
 use Rattle.systems.specs.Choice.{passOf, marksOf, listOf, chosenOf, chooseBy, chooseOf, paddedOf, choiceOf}
 use Rattle.systems.specs.Choice.{standingOf, candidatesFor, candidatesOf}
-use Rattle.systems.specs.Laws.Presence.{present-is, present-lt, standing-more, offered-candidate}
+use Rattle.systems.specs.Laws.Presence.{present-is, present-lt, offered-candidate}
+use Rattle.systems.specs.Standing.{standing-more}
 use Rattle.systems.specs.Laws.Passes.{passed, always, pass-good}
-use Rattle.systems.specs.Fittest.{rises}
 
 -- ---- the theorems
 
@@ -163,11 +163,11 @@ unfolding enough first second goodMarks goodBoth good full choosable offeredAt r
     candidatesOf
 each-set = tt
 
-rising-offered : (present : ℕ) → T (rises 0 (candidatesOf present))
+rising-offered : (present : ℕ) → T (rising 0 (candidatesOf present))
 unfolding candidatesOf
 rising-offered present = go (inMask present HYDROGEN)
   where
-    go : (hydrogen : Bool) → T (rises 0 (candidatesFor hydrogen))
+    go : (hydrogen : Bool) → T (rising 0 (candidatesFor hydrogen))
     go true = tt
     go false = tt
 

@@ -4,7 +4,7 @@ use mathlib.Core.Path.{_∙_}
 use mathlib.Core.Bool.{false}
 use mathlib.Core.Logic.{⊎-elim}
 use native.Mathlib.Omega.{arith}
-use Rattle.systems.specs.Without.{HYDROCARBONS}
+use Rattle.systems.specs.Before.{HYDROCARBONS}
 use Rattle.choice.proofs.Packed.{order-lt, order-next}
 use Rattle.choice.proofs.Keying.{wantedAt, turnAt}
 use Rattle.choice.proofs.Listing.{Turns, turns-none, turns-next, turns-over, turns-all}

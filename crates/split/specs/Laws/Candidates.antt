@@ -10,7 +10,7 @@ use Rattle.formula.specs.WorkingRule.{sumAbs}
 use Rattle.formula.specs.Coefficients.{placeIn, keepsRule, isSystem, kept, systems}
 use Rattle.systems.specs.Systems.{COMPONENTS, candidates, memberOf, Candidate}
 use Rattle.systems.specs.Choice.{NUMBERS}
-use Rattle.systems.specs.Laws.Members.{candidate-le, member-none}
+use Rattle.systems.specs.Laws.Members.{member-none, candidate-lt}
 use Rattle.systems.specs.Laws.Table.{eachTo, each-candidate, to-true}
 
 -- each candidate is one of the systems
@@ -36,7 +36,7 @@ abbrev agree : ℕ → Bool
 agree system = same (ltb (memberOf system 0) COMPONENTS) (isIn system candidates)
 
 none-above : (system : ℕ) → NUMBERS ≤ system → (b : Bool) → isIn system candidates ≡ b → false ≡ b
-none-above system h true e = absurd (omega (arith, candidate-le system (record { listed = e })))
+none-above system h true e = absurd (omega (arith, candidate-lt system (record { listed = e })))
 none-above system h false e = refl
 
 pub candidate-is : (system r : ℕ) → r ≡ memberOf system 0 → ltb r COMPONENTS ≡ isIn system candidates

@@ -1,4 +1,5 @@
--- Where all components are present, or all but hydrogen, the choice is that by fitness alone. Assumes nothing.
+-- Two keys that order the systems alike choose alike, as standing and fitness do where every system has its three
+-- components present. Assumes nothing.
 use Prim.Native.Nat.{ℕ, zero, suc, _+_, _^_, _-_, _<_}
 use mathlib.Core.Path.{_≡_, refl, sym, ap, ap₂, _∙_}
 use mathlib.Core.List.{List, [], _∷_}
@@ -14,8 +15,9 @@ use Rattle.refusal.specs.Keys.{isIn}
 use Rattle.systems.specs.Systems.{COMPONENTS, HYDROGEN, memberOf, hasOf, candidates, hydrocarbonSystems}
 use Rattle.systems.specs.Laws.Table.{of-true, every, every-at, none-has, in-here, in-there}
 use Rattle.systems.specs.Laws.Scores.{score-open, score-closed, better-cases}
-use Rattle.systems.specs.Laws.Presence.{standing-fitter, choose-is}
-use Rattle.systems.specs.Without.{HYDROCARBONS, present-before}
+use Rattle.systems.specs.Standing.{standing-fitter}
+use Rattle.systems.specs.Laws.Without.{present-before}
+use Rattle.systems.specs.Before.{HYDROCARBONS}
 use Rattle.systems.specs.Choice.{NUMBERS, hydrocarbonOrder, order, fold, maskFrom, maskOf, inMask, presentAt}
 use Rattle.systems.specs.Choice.{presentTo, presentOf, presentIn, keep, fitnessOf, standingOf, isChosen}
 use Rattle.systems.specs.Choice.{containingOf, openOf, scoreOf, betterOf, fittestOf, takeOf, passOf, marksOf}
@@ -110,7 +112,7 @@ module _ (k l : ℕ → ℕ) (systems : List ℕ)
 
 -- ---- where every candidate has all three of its components present
 
-threeIn : ℕ → ℕ → Bool
+unfoldable pub threeIn : ℕ → ℕ → Bool
 threeIn present s = eqb (presentIn present s) 3
 
 -- the fitness alone decides
@@ -120,7 +122,7 @@ module _ (mix : List ℕ) (p : ℕ) (is : presentOf mix ≡ p) (systems componen
   unfolding threeIn
   three-in s e = ap (λ m. presentIn m s) is ∙ eqb→eq (presentIn p s) 3 (every-at (threeIn p) systems three s e)
 
-  by-fitness : chooseBy (standingOf mix) systems components ≡ chooseBy (fitnessOf mix) systems components
+  pub by-fitness : chooseBy (standingOf mix) systems components ≡ chooseBy (fitnessOf mix) systems components
   by-fitness =
       ap (chosenOf systems)
       (marks-alike (standingOf mix) (fitnessOf mix) systems
@@ -145,23 +147,7 @@ pub all-present : (mix : List ℕ) → ((c : ℕ) → c < COMPONENTS → 0 < get
 unfolding presentOf
 all-present mix h = omega (arith, all-to mix COMPONENTS h)
 
-pub choose-fittest : (mix : List ℕ) → ((c : ℕ) → c < COMPONENTS → 0 < getD mix c 0)
-    → chooseOf mix ≡ chooseBy (fitnessOf mix) candidates order
-unfolding candidatesOf keep inMask threeIn presentIn maskOf maskFrom hasOf memberOf ones
-choose-fittest mix h =
-    let e = all-present mix h in
-    choose-is mix ∙ ap (λ p. chooseBy (standingOf mix) (candidatesOf p) (keep p order)) e
-    ∙ by-fitness mix (2 ^ COMPONENTS - 1) e candidates order tt tt
-
 -- and of all but hydrogen
 pub four-present : (mix : List ℕ) → ((c : ℕ) → c < HYDROCARBONS → 0 < getD mix c 0)
     → getD mix HYDROGEN 0 ≡ 0 → presentOf mix ≡ 2 ^ HYDROCARBONS - 1
 four-present mix h none = present-before mix none ∙ omega (arith, all-to mix HYDROCARBONS h)
-
-pub four-fittest : (mix : List ℕ) → ((c : ℕ) → c < HYDROCARBONS → 0 < getD mix c 0)
-    → getD mix HYDROGEN 0 ≡ 0 → chooseOf mix ≡ chooseBy (fitnessOf mix) hydrocarbonSystems hydrocarbonOrder
-unfolding candidatesOf keep inMask threeIn presentIn maskOf maskFrom hasOf memberOf ones
-four-fittest mix h none =
-    let e = four-present mix h none in
-    choose-is mix ∙ ap (λ p. chooseBy (standingOf mix) (candidatesOf p) (keep p order)) e
-    ∙ by-fitness mix (2 ^ HYDROCARBONS - 1) e hydrocarbonSystems hydrocarbonOrder tt tt

@@ -4,22 +4,22 @@ use mathlib.Core.Path.{_≡_, refl}
 use mathlib.Core.Bool.{Bool, true, false, not, _||_, Bool·beq}
 use mathlib.Core.List.{[]}
 use native.Mathlib.Omega.{arith}
-use lib.Dec.{T, eqb, ltb, leb, eqb→eq, ltb→lt, leb→le}
+use lib.Dec.{T, eqb, ltb, ltb→lt}
 use lib.ListN.{getD, length, List·getD-eq-default}
 use borrow.Author.Tests.{eqb-true, eq-eqb}
 use Rattle.refusal.specs.Keys.{isIn}
 use Rattle.systems.specs.Systems.{COMPONENTS, HYDROGEN, hydrocarbonSystems, members, memberOf, hasOf, Candidate}
 use Rattle.systems.specs.Laws.Table.{each-candidate, everyTo, eachTo, of-true, beq-is}
-use Rattle.systems.specs.Choice.{countTo}
+use Rattle.systems.specs.Choice.{NUMBERS}
 
 -- ---- of each candidate
 
 small : ℕ → Bool
-small system = leb system 8
+small system = ltb system NUMBERS
 
-pub candidate-le : (system : ℕ) → Candidate system → system ≤ 8
+pub candidate-lt : (system : ℕ) → Candidate system → system < NUMBERS
 unfolding small
-candidate-le system k = leb→le system 8 (each-candidate small tt system k)
+candidate-lt system k = ltb→lt system NUMBERS (each-candidate small tt system k)
 
 low : ℕ → Bool
 low system = everyTo (λ j. ltb (memberOf system j) COMPONENTS) 3
@@ -49,14 +49,6 @@ members-apart system k i j hi hj e =
     go true b p q t = eqb-true i j p
     go false true p q t = absurd t
     go false false p q t = absurd (of-true false q)
-
--- it contains exactly three of the components
-three : ℕ → Bool
-three system = eqb (countTo (hasOf system) COMPONENTS) 3
-
-pub has-three : (system : ℕ) → Candidate system → countTo (hasOf system) COMPONENTS ≡ 3
-unfolding three countTo hasOf memberOf
-has-three system k = eqb→eq (countTo (hasOf system) COMPONENTS) 3 (each-candidate three tt system k)
 
 -- those of hydrocarbons alone are the ones that lack hydrogen
 lacksHydrogen : ℕ → Bool
@@ -115,14 +107,3 @@ has-member system j h = has-of-eq system (memberOf system j) j h refl
 pub member-none : (system j : ℕ) → length members ≤ system → memberOf system j ≡ COMPONENTS
 unfolding memberOf
 member-none system j h = rw (List·getD-eq-default members [] {n = system} h)
-
-few : ℕ → Bool
-few system = leb (length (getD members system [])) 3
-
--- and no system has a fourth
-pub member-few : (system j : ℕ) → system < length members → 3 ≤ j → memberOf system j ≡ COMPONENTS
-unfolding memberOf few
-member-few system j h l =
-    let t : length (getD members system []) ≤ 3 =
-    leb→le (length (getD members system [])) 3 (eachTo few (length members) tt system h) in
-    List·getD-eq-default (getD members system []) COMPONENTS {n = j} (omega arith)

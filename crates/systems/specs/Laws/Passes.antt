@@ -9,10 +9,10 @@ use lib.Ieee.Fits.{and-i, and-l, and-r}
 use lib.Dec.{T, ltb, leb, le→leb}
 use lib.ListN.{set}
 use borrow.Author.Tests.{ltb-true, ltb-false, not-true}
-use Rattle.refusal.specs.Keys.{isIn}
+use Rattle.refusal.specs.Keys.{isIn, rising}
 use Rattle.systems.specs.Laws.Table.{of-true, to-true, every, every-at, in-here, in-there}
 use Rattle.systems.specs.Choice.{fold, containingOf, openOf, fittestOf, takeOf, passOf}
-use Rattle.systems.specs.Fittest.{rises, Fittest, fittest-is}
+use Rattle.systems.specs.Fittest.{Fittest, fittest-is}
 
 -- the test passes at some number of the list
 abbrev pub some : (ℕ → Bool) → List ℕ → Bool
@@ -63,7 +63,7 @@ always good rank systems wanted (c ∷ cs) marks =
     (always good rank systems wanted cs marks)
 
 -- a key that puts higher ranks first takes a system of the highest rank
-module _ (key rank : ℕ → ℕ) (systems : List ℕ) (r : T (rises 0 systems))
+module _ (key rank : ℕ → ℕ) (systems : List ℕ) (r : T (rising 0 systems))
     (before : (s t : ℕ) → isIn s systems ≡ true → rank s < rank t → key s < key t) where
   module _ (marks : List Bool) (c : ℕ) where
     abbrev best : ℕ

@@ -223,30 +223,8 @@ fitness-le mix =
     )
 
 -- the first of two figures decides
-first-decides : (p q k f g : ℕ) → f < k → p < q → p * k + f < q * k + g
+pub first-decides : (p q k f g : ℕ) → f < k → p < q → p * k + f < q * k + g
 first-decides p q k f g h l =
     let m : (p + 1) * k ≤ q * k = mul-le-mul-right k (omega arith) in
     let e : (p + 1) * k ≡ p * k + k = add-mul p 1 k ∙ ap (λ (x : ℕ). p * k + x) (one-mul k) in
     omega arith
-
--- a candidate with more of its components present goes before one with fewer
-pub standing-more : (mix : List ℕ) (s t : ℕ) → isIn s candidates ≡ true
-    → presentIn (presentOf mix) s < presentIn (presentOf mix) t
-    → standingOf mix s < standingOf mix t
-unfolding standingOf
-standing-more mix s t e h =
-    first-decides (presentIn (presentOf mix) s) (presentIn (presentOf mix) t) (weightedTo mix COMPONENTS + 1)
-    (fitnessOf mix s) (fitnessOf mix t) (omega (arith, fitness-le mix s e)) h
-
--- and of two with as many the fitter
-pub standing-fitter : (mix : List ℕ) (s t : ℕ) → presentIn (presentOf mix) s ≡ presentIn (presentOf mix) t
-    → ltb (standingOf mix s) (standingOf mix t) ≡ ltb (fitnessOf mix s) (fitnessOf mix t)
-unfolding standingOf
-standing-fitter mix s t e =
-    rw e
-    (go (presentIn (presentOf mix) t * (weightedTo mix COMPONENTS + 1)) (fitnessOf mix s) (fitnessOf mix t)
-    (ltb (fitnessOf mix s) (fitnessOf mix t)) refl)
-  where
-    go : (a f g : ℕ) (b : Bool) → ltb f g ≡ b → ltb (a + f) (a + g) ≡ b
-    go a f g true p = let h = ltb-true f g p in lt-ltb (a + f) (a + g) (omega arith)
-    go a f g false p = let h = ltb-false f g p in le-ltb (a + f) (a + g) (omega arith)
