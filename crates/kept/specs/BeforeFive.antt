@@ -40,7 +40,7 @@ use Rattle.systems.specs.Laws.Without.{fitness-same}
 use Rattle.systems.specs.Before.{HYDROCARBONS}
 use Rattle.systems.specs.AllPresent.{four-fittest}
 use Rattle.systems.specs.declared.Choice.{Choice}
-use Rattle.split.specs.Rated.{IsRated}
+use Rattle.split.specs.AnswerCases.{IsRated}
 use Rattle.split.specs.declared.Answer.{Answer}
 use Rattle.split.specs.declared.Answer.the-variants.{Rated, Refused}
 use Rattle.outcome.specs.Rate.{ROUNDS, mixOf, checkedBy, splitAnswer, outcome, searchOutcome, sheetOutcome}

@@ -8,7 +8,8 @@ use mir.Syntax.{w32}
 use mir.Val.{Fits}
 use Rattle.integer.specs.Figures.{MILLION}
 use Rattle.systems.specs.Systems.{COMPONENTS, Candidate}
-use Rattle.split.specs.Split.{SYSTEMS, cellOf, systemOf, amountOf, partsOf, Stock}
+use Rattle.split.specs.Split.{cellOf, systemOf, amountOf, partsOf, Stock}
+use Rattle.systems.specs.Choice.{SYSTEMS}
 use Rattle.split.specs.Move.{componentOf, giverOf, takerOf, shift, movedOf}
 use Rattle.split.specs.Laws.Rows.{parts-few}
 

@@ -7,6 +7,7 @@ use lib.ListN.{replicate}
 use lib.Dec.{ltb}
 use borrow.Author.Tests.{not-true, not-false, le-leb, lt-leb, ltb-true, ltb-false}
 use native.Mathlib.Omega.{arith}
+use Rattle.systems.specs.Choice.{oneIf}
 use Rattle.split.specs.Split.{CELLS, Stock}
 use Rattle.split.specs.Laws.Members.{both-left, both-right}
 use Rattle.split.specs.Rating.{someEmpty}
@@ -24,7 +25,7 @@ use Rattle.split_rows.specs.Laws.Rows.{unfit-empty, fit-held}
 use Rattle.split_rows.specs.declared.Rows.{Rows}
 
 clash : true ≡ false → _≡_ {A = ℕ} 1 0
-clash u = ap (λ x. cond x 1 0) u
+clash u = ap oneIf u
 
 -- what is turned away before the start
 module _ (mix ch : List ℕ) (k limit level allowance : ℕ) where

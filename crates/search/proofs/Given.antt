@@ -14,7 +14,8 @@ use Rattle.formula.specs.Laws.Partial.{partial-small}
 use Rattle.systems.specs.Systems.{COMPONENTS, memberOf, hasOf}
 use Rattle.systems.specs.Laws.Members.{has-cases}
 use Rattle.split.specs.Laws.Folds.{sum-same}
-use Rattle.split.specs.Split.{SYSTEMS, CELLS, cellOf, systemOf, partsOf, rowNumber, Sound}
+use Rattle.split.specs.Split.{CELLS, cellOf, systemOf, partsOf, rowNumber, Sound}
+use Rattle.systems.specs.Choice.{SYSTEMS}
 use Rattle.split.specs.Move.{MOVES, imbalanceOf, componentOf, giverOf, takerOf, movedOf, lowersOf, canOf}
 use Rattle.split.specs.Laws.Members.{Three, three}
 use Rattle.split.specs.Laws.Rows.{parts-few}

@@ -8,7 +8,8 @@ use lib.Dec.{eqb, ltb}
 use lib.IntN.{ℤ}
 use borrow.Author.Tests.{lt-ltb, eq-eqb, ne-eqb, ltb-true, ltb-false, not-true, not-false}
 use Rattle.systems.specs.Systems.{hasOf}
-use Rattle.split.specs.Split.{SYSTEMS, cellOf, systemOf, partsOf, Sound}
+use Rattle.split.specs.Split.{cellOf, systemOf, partsOf, Sound}
+use Rattle.systems.specs.Choice.{SYSTEMS}
 use Rattle.split.specs.Laws.Members.{both-left, both-right}
 use Rattle.split.specs.Move.{MOVES, componentOf, giverOf, takerOf, betweenOf, affordsOf, lowersOf, canOf, firstOf}
 use Rattle.split.specs.Laws.Folds.{first-here, first-none}

@@ -15,7 +15,7 @@ use Rattle.integer.specs.Laws.Order.{sub-ge}
 use Rattle.integer.specs.Laws.Normal.{X, K, _⊕_, _⊗_, ⊖, solve, env}
 use Rattle.formula.specs.WorkingRule.{LARGEST}
 use Rattle.split.specs.Fold.{sumTo}
-use Rattle.split.specs.Split.{SYSTEMS}
+use Rattle.systems.specs.Choice.{SYSTEMS}
 use Rattle.split.specs.Laws.Folds.{sum-but, sum-has}
 use Rattle.split.specs.Move.{squareOf, imbalanceOf}
 use Rattle.search.specs.Inner.Balance.{markOf, Totalled}

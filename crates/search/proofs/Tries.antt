@@ -14,7 +14,8 @@ use mir.Val.{Fits, toZ, ofZ}
 use borrow.Author.Tests.{eqb-true, eqb-false, lt-ltb, le-ltb, ltb-true, ltb-false}
 use Rattle.formula.specs.WorkingRule.{LARGEST}
 use Rattle.systems.specs.Systems.{COMPONENTS, memberOf}
-use Rattle.split.specs.Split.{SYSTEMS, CELLS, cellOf, systemOf, rowNumber, Sound}
+use Rattle.split.specs.Split.{CELLS, cellOf, systemOf, rowNumber, Sound}
+use Rattle.systems.specs.Choice.{SYSTEMS}
 use Rattle.split.specs.Move.{componentOf, giverOf, takerOf, movedOf}
 use Rattle.split.specs.Laws.Members.{three}
 use Rattle.split.specs.Laws.Moves.{cell-row}

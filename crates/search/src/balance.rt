@@ -5,7 +5,7 @@ ghost use mathlib.Core.Path.{_≡_};
 ghost use Prim.Native.Nat.{_+_, _*_, _-_, _<_, _≤_};
 ghost use lib.IntN.{natAbs};
 ghost use Rattle.formula.specs.WorkingRule.{LARGEST};
-ghost use Rattle.split.specs.Split.{SYSTEMS};
+ghost use Rattle.systems.specs.Choice.{SYSTEMS};
 ghost use Rattle.split_rows.specs.Rows.{listed};
 ghost use Rattle.split_rows.specs.Inner.Small.{Small};
 ghost use Rattle.search.specs.Inner.Balance.{markOf, Totalled};

@@ -12,7 +12,8 @@ use Rattle.refusal.specs.Keys.{isIn}
 use Rattle.systems.specs.Systems.{COMPONENTS, candidates}
 use Rattle.split.specs.Fold.{sumTo, allTo}
 use Rattle.split.specs.Laws.Folds.{sum-none, sum-more}
-use Rattle.split.specs.Split.{SYSTEMS, systemOf}
+use Rattle.split.specs.Split.{systemOf}
+use Rattle.systems.specs.Choice.{SYSTEMS}
 use Rattle.split.specs.Find.{chosenFit, mixtureFit}
 use Rattle.split.specs.Laws.Downs.{all-next, all-false, all-end}
 

@@ -9,7 +9,8 @@ use Rattle.refusal.specs.Keys.{isIn}
 use Rattle.ternary.specs.Answer.{isMixture}
 use Rattle.systems.specs.Systems.{candidates}
 use Rattle.split.specs.Fold.{allTo}
-use Rattle.split.specs.Split.{SYSTEMS, systemOf, partsOf, rowNumber}
+use Rattle.split.specs.Split.{systemOf, partsOf, rowNumber}
+use Rattle.systems.specs.Choice.{SYSTEMS}
 use Rattle.split_rows.specs.declared.Rows.{Rows}
 
 -- a list of numbers as a function

@@ -12,9 +12,10 @@ use lib.Seq.{getD-set-same, getD-set-other, set-getD, ext-getD}
 use borrow.Author.Tests.{ltb-true, ltb-false, le-ltb, eqb-true, eqb-false}
 use Rattle.systems.specs.Systems.{COMPONENTS, hasOf}
 use Rattle.systems.specs.Laws.Table.{none-has}
+use Rattle.systems.specs.Choice.{oneIf, SYSTEMS}
 use Rattle.split.specs.Fold.{sumTo, table}
 use Rattle.split.specs.Laws.Tables.{length-table, getD-table}
-use Rattle.split.specs.Split.{SYSTEMS, CELLS, systemOf}
+use Rattle.split.specs.Split.{CELLS, systemOf}
 use Rattle.split.specs.Start.{sharersOf, shareOf, startAmount, startCell, startOf}
 use Rattle.split.specs.Laws.Starts.{cell-past, cell-off, cell-on, some-sharer}
 use Rattle.start.specs.Inner.Column.{Cells, Marked, partOf, sharedRow, columnTo, sharedOf, sharedTo}
@@ -58,11 +59,11 @@ module _ (ch : List ℕ) (c share odd : ℕ) (a : List ℕ) where
 
 -- ---- a column of marks: shares of 1
 
-row-mark : (ch : List ℕ) (c s : ℕ) → sharedRow ch c 1 0 s ≡ cond (hasOf (systemOf ch s) c) 1 0
+row-mark : (ch : List ℕ) (c s : ℕ) → sharedRow ch c 1 0 s ≡ oneIf (hasOf (systemOf ch s) c)
 unfolding sharedRow partOf
 row-mark ch c s = go (hasOf (systemOf ch s) c)
   where
-    go : (b : Bool) → cond (eqb (cond b 1 0) 0) 0 (1 + cond (ltb (sharersOf ch c s) 0) 1 0) ≡ cond b 1 0
+    go : (b : Bool) → cond (eqb (oneIf b) 0) 0 (1 + oneIf (ltb (sharersOf ch c s) 0)) ≡ oneIf b
     go true = rw (le-ltb (sharersOf ch c s) 0 (omega arith)) refl
     go false = refl
 
@@ -244,9 +245,9 @@ done-more mix ch k a b n h z e =
 -- a component of which the mixture has nothing is passed over: its cells hold 0
 row-none : (ch : List ℕ) (c s : ℕ) → sharedRow ch c 0 0 s ≡ 0
 unfolding sharedRow partOf
-row-none ch c s = go (eqb (cond (hasOf (systemOf ch s) c) 1 0) 0)
+row-none ch c s = go (eqb (oneIf (hasOf (systemOf ch s) c)) 0)
   where
-    go : (b : Bool) → cond b 0 (0 + cond (ltb (sharersOf ch c s) 0) 1 0) ≡ 0
+    go : (b : Bool) → cond b 0 (0 + oneIf (ltb (sharersOf ch c s) 0)) ≡ 0
     go true = refl
     go false = rw (le-ltb (sharersOf ch c s) 0 (omega arith))
 

@@ -1,7 +1,7 @@
 -- The system that a component takes is the one with the greatest key that contains it and is not chosen, equal keys to
 -- the lower number (document 01, "Choice of systems"; document 02, Five). Assumes nothing.
 use Prim.Native.Nat.{ℕ, _+_, _≤_, _<_}
-use mathlib.Core.Path.{_≡_, refl, sym, ap, _∙_}
+use mathlib.Core.Path.{_≡_, sym, ap, _∙_}
 use mathlib.Core.List.{List}
 use mathlib.Core.Bool.{Bool, true, false, not, _&&_}
 use native.Mathlib.Omega.{arith}

@@ -6,7 +6,8 @@ use mathlib.Core.Bool.{Bool, true, false, not, _&&_, cond}
 use lib.Dec.{ltb, eqb}
 use lib.IntN.{ℤ}
 use Rattle.systems.specs.Systems.{hasOf}
-use Rattle.split.specs.Split.{SYSTEMS, cellOf, systemOf, rowNumber}
+use Rattle.split.specs.Split.{cellOf, systemOf, rowNumber}
+use Rattle.systems.specs.Choice.{SYSTEMS}
 use Rattle.split.specs.Move.{componentOf, giverOf, affordsOf, canOf}
 use Rattle.split.specs.Inner.Steps.{numberWith}
 

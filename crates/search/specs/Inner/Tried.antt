@@ -9,7 +9,8 @@ use lib.ListN.{getD, length}
 use Rattle.integer.specs.Figures.{MILLION}
 use Rattle.formula.specs.WorkingRule.{LARGEST}
 use Rattle.systems.specs.Systems.{COMPONENTS}
-use Rattle.split.specs.Split.{SYSTEMS, CELLS}
+use Rattle.split.specs.Split.{CELLS}
+use Rattle.systems.specs.Choice.{SYSTEMS}
 use Rattle.split.specs.Inner.Steps.{numberWith}
 use Rattle.split_rows.specs.Rows.{listed}
 use Rattle.split_rows.specs.Inner.Carried.{Workable}

@@ -4,7 +4,8 @@ use Rattle.split_rows.specs.Laws.Rows.{Front, front-next, front-none, no
 use Rattle.split_rows.specs.Laws.Rows.{row-unfit, may-parts, more-numbers, more-parts, more-tested, rows-fit}
 use Rattle.split_rows.specs.Laws.Rows.{front-all}
 use Rattle.split_rows.specs.Rows.{rowFit}
-use Rattle.split.specs.Split.{SYSTEMS, partsOf, rowNumber}
+use Rattle.split.specs.Split.{partsOf, rowNumber}
+use Rattle.systems.specs.Choice.{SYSTEMS}
 use Rattle.split.specs.Fold.{allTo}
 use lib.IntN.{pos}
 use borrow.Author.Needs.{needs}

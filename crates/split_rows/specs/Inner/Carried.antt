@@ -6,7 +6,8 @@ use lib.IntN.{ℤ}
 use lib.ListN.{length}
 use Rattle.integer.specs.Figures.{MILLION}
 use Rattle.systems.specs.Systems.{memberOf, Candidate}
-use Rattle.split.specs.Split.{SYSTEMS, systemOf, rowNumber, Sound}
+use Rattle.split.specs.Split.{systemOf, rowNumber, Sound}
+use Rattle.systems.specs.Choice.{SYSTEMS}
 use Rattle.split.specs.Inner.Steps.{insteadOf}
 use Rattle.split_rows.specs.Rows.{listed}
 use Rattle.split_rows.specs.Inner.Small.{Small}

@@ -25,10 +25,11 @@ use Rattle.ternary.specs.Laws.Answer.{mixture-yes, mixture-of, formula-is, form
 use Rattle.ternary.specs.declared.Partial.{Partial}
 use Rattle.ternary.specs.declared.Partial.the-variants.{Number, Refused}
 use Rattle.systems.specs.Systems.{candidates, memberOf, Candidate}
+use Rattle.systems.specs.Choice.{oneIf, SYSTEMS}
 use Rattle.split.specs.Laws.Candidates.{known-system}
 use Rattle.split.specs.Fold.{allTo}
 use Rattle.split.specs.Laws.Folds.{all-each, all-of, greatest-same, least-same}
-use Rattle.split.specs.Split.{SYSTEMS, cellOf, systemOf, partsOf, rowNumber, Stock, Sound}
+use Rattle.split.specs.Split.{cellOf, systemOf, partsOf, rowNumber, Stock, Sound}
 use Rattle.split.specs.Laws.Members.{both-right}
 use Rattle.split.specs.Rating.{someEmpty, spreadOf}
 use Rattle.split.specs.Laws.Rows.{parts-few}
@@ -210,7 +211,7 @@ module _ (ch : List ℕ) (k : ℕ) (a : List ℕ) where
   each-fit f s l = all-each (rowFit ch a) k s (both-right (leb k SYSTEMS) _ f) l
 
   clash : false ≡ true → _≡_ {A = ℕ} 0 1
-  clash u = ap (λ b. cond b 1 0) u
+  clash u = ap oneIf u
 
   pub rows-unfit : (s : ℕ) → s < k → rowFit ch a s ≡ false → none ≡ rowsOf ch k a
   unfolding rowsOf

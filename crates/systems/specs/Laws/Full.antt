@@ -7,21 +7,20 @@ use mathlib.Core.Bool.{Bool, true, false, not, _&&_, cond}
 use native.Mathlib.Nat.{add-zero, pow-suc}
 use native.Mathlib.Omega.{arith}
 use lib.Ieee.Fits.{and-l, and-r}
-use lib.Count.{ones}
 use lib.Dec.{T, eqb, ltb, eqb→eq, ltb→lt}
 use lib.ListN.{getD, set, replicate}
 use borrow.Author.Tests.{ltb-true, ltb-false, lt-ltb, le-ltb}
 use Rattle.refusal.specs.Keys.{isIn}
-use Rattle.systems.specs.Systems.{COMPONENTS, HYDROGEN, memberOf, hasOf, candidates, hydrocarbonSystems}
+use Rattle.systems.specs.Systems.{COMPONENTS, HYDROGEN, hasOf}
 use Rattle.systems.specs.Laws.Table.{of-true, every, every-at, none-has, in-here, in-there}
 use Rattle.systems.specs.Laws.Scores.{score-open, score-closed, better-cases}
 use Rattle.systems.specs.Standing.{standing-fitter}
 use Rattle.systems.specs.Laws.Without.{present-before}
 use Rattle.systems.specs.Before.{HYDROCARBONS}
-use Rattle.systems.specs.Choice.{NUMBERS, hydrocarbonOrder, order, fold, maskFrom, maskOf, inMask, presentAt}
-use Rattle.systems.specs.Choice.{presentTo, presentOf, presentIn, keep, fitnessOf, standingOf, isChosen}
+use Rattle.systems.specs.Choice.{NUMBERS, fold, maskFrom, presentAt}
+use Rattle.systems.specs.Choice.{presentTo, presentOf, presentIn, fitnessOf, standingOf, isChosen}
 use Rattle.systems.specs.Choice.{containingOf, openOf, scoreOf, betterOf, fittestOf, takeOf, passOf, marksOf}
-use Rattle.systems.specs.Choice.{candidatesOf, chosenOf, chooseBy, chooseOf}
+use Rattle.systems.specs.Choice.{chosenOf, chooseBy}
 
 ltb-suc : (a b : ℕ) → ltb (a + 1) (b + 1) ≡ ltb a b
 ltb-suc a b = go (ltb a b) refl

@@ -5,7 +5,7 @@ use mathlib.Core.Bool.{Bool, true, false, not, _||_, Bool·beq}
 use mathlib.Core.List.{[]}
 use native.Mathlib.Omega.{arith}
 use lib.Dec.{T, eqb, ltb, ltb→lt}
-use lib.ListN.{getD, length, List·getD-eq-default}
+use lib.ListN.{length, List·getD-eq-default}
 use borrow.Author.Tests.{eqb-true, eq-eqb}
 use Rattle.refusal.specs.Keys.{isIn}
 use Rattle.systems.specs.Systems.{COMPONENTS, HYDROGEN, hydrocarbonSystems, members, memberOf, hasOf, Candidate}

@@ -9,7 +9,7 @@ use lib.Dec.{eqb, ltb}
 use lib.ListN.{getD}
 use borrow.Author.Tests.{eqb-true, le-ltb}
 use Rattle.systems.specs.Systems.{COMPONENTS, HYDROGEN, memberOf, hydrocarbonSystems}
-use Rattle.systems.specs.Choice.{weights, fitnessOf, weightedTo, maskFrom, inMask, presentAt, presentTo}
+use Rattle.systems.specs.Choice.{oneIf, weights, fitnessOf, weightedTo, maskFrom, inMask, presentAt, presentTo}
 use Rattle.systems.specs.Choice.{presentOf, presentIn, keep, hydrocarbonOrder, order, chooseBy}
 use Rattle.systems.specs.Before.{HYDROCARBONS, chooseBefore}
 use Rattle.systems.specs.Laws.Presence.{present-is}
@@ -21,7 +21,7 @@ mask-short : (f : ℕ → Bool) (n i : ℕ) → f (i + n) ≡ false → maskFrom
 unfolding maskFrom
 mask-short f zero i e = rw (ap f (sym (add-zero i)) ∙ e)
 mask-short f (suc n) i e =
-    ap (λ (x : ℕ). x * 2 + cond (f i) 1 0) (mask-short f n (i + 1) (ap f (omega arith) ∙ e))
+    ap (λ (x : ℕ). x * 2 + oneIf (f i)) (mask-short f n (i + 1) (ap f (omega arith) ∙ e))
 
 -- an order without hydrogen
 unfoldable others : List ℕ → List ℕ
