@@ -13,6 +13,7 @@ use Rattle.formula.specs.WorkingRule.{LARGEST}
 use Rattle.formula.specs.Laws.Partial.{partial-small}
 use Rattle.systems.specs.Systems.{COMPONENTS, memberOf, hasOf}
 use Rattle.systems.specs.Laws.Members.{has-cases}
+use Rattle.split.specs.Laws.Size.{number-small}
 use Rattle.split.specs.Laws.Folds.{sum-same}
 use Rattle.split.specs.Split.{CELLS, cellOf, systemOf, partsOf, rowNumber, Sound}
 use Rattle.systems.specs.Choice.{SYSTEMS}
@@ -70,10 +71,6 @@ module _ (v : ℕ → ℤ) (k sum squares : ℕ) (most : k ≤ 8) (small : (s : 
   exchanged-is w h f x y o = rw (o .0, o .1, e, f) (put-total v k sum squares most (λ s _. small s) t w j l h)
 
 -- the numbers are small
-pub number-small : (ch a : List ℕ) (s : ℕ) → natAbs (rowNumber ch a s) ≤ LARGEST
-unfolding rowNumber
-number-small ch a s = partial-small _ _ _ _
-
 with-small : (ch a : List ℕ) (s c n : ℕ) → natAbs (numberWith ch a s c n) ≤ LARGEST
 unfolding numberWith
 with-small ch a s c n = partial-small _ _ _ _

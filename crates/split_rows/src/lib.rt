@@ -42,8 +42,8 @@ fn is_candidate(system: u8) -> bool
     systems::member(system, 0) < COMPONENTS
 }
 
-// An amount of a lent array, which tells no range of its own.
-fn wide(x: u32) -> u64
+// An amount, with the range that an element of a lent array does not tell.
+fn ranged(x: u32) -> u64
     ensures { λ r. ⌜ (r ≡ x) × (r ≤ 4294967295) ⌝ }
 {
     x as u64
@@ -56,7 +56,7 @@ fn mixture_fit(mix: &[u32; COMPONENTS]) -> bool
     let mut sum: u64 = 0;
     let mut c = 0;
     while c < COMPONENTS {
-        sum += wide(mix[c]);
+        sum += ranged(mix[c]);
         c += 1;
     }
     sum <= MILLION

@@ -6,9 +6,9 @@ use native.Mathlib.Nat.{not-suc-le-zero}
 use native.Mathlib.Numerals.{add-one}
 use native.Mathlib.Omega.{arith}
 use lib.Dec.{eqb}
-use lib.IntN.{ℤ}
+use lib.IntN.{ℤ, _+ℤ_}
 use borrow.Author.Tests.{eqb-true, eqb-false, eq-eqb, ne-eqb}
-use Rattle.split.specs.Fold.{sumTo, greatestTo, leastTo, allTo, someTo, first}
+use Rattle.split.specs.Fold.{sumTo, sumToZ, greatestTo, leastTo, allTo, someTo, first}
 
 pub sum-none : (f : ℕ → ℕ) → 0 ≡ sumTo f 0
 unfolding sumTo
@@ -22,6 +22,11 @@ pub sum-same : (f g : ℕ → ℕ) (n : ℕ) → ((i : ℕ) → i < n → f i �
 unfolding sumTo
 sum-same f g zero h = refl
 sum-same f g (suc n) h = ap₂ _+_ (sum-same f g n (λ i l. h i (omega arith))) (h n (omega arith))
+
+pub sum-same-ℤ : (f g : ℕ → ℤ) (n : ℕ) → ((i : ℕ) → i < n → f i ≡ g i) → sumToZ f n ≡ sumToZ g n
+unfolding sumToZ
+sum-same-ℤ f g zero h = refl
+sum-same-ℤ f g (suc n) h = ap₂ _+ℤ_ (sum-same-ℤ f g n (λ i l. h i (omega arith))) (h n (omega arith))
 
 -- a function that differs at one place only
 pub sum-but : (f g : ℕ → ℕ) (n j : ℕ) → j < n → ((i : ℕ) → i < n → (i ≡ j → ⊥) → f i ≡ g i)

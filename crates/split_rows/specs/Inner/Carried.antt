@@ -12,7 +12,7 @@ use Rattle.split.specs.Inner.Steps.{insteadOf}
 use Rattle.split_rows.specs.Rows.{listed}
 use Rattle.split_rows.specs.Inner.Small.{Small}
 
--- v has the partial numbers of the rows
+-- numbers that are the partial numbers of the rows
 pub record Carried (systems : List ℕ) (count : ℕ) (cells : List ℕ) (numbers : List ℤ) : Type 0 where
   pub long : length numbers ≡ SYSTEMS
   pub are : (s : ℕ) → s < count → listed numbers s ≡ rowNumber systems cells s
