@@ -27,12 +27,12 @@ use Rattle.split.specs.Laws.Steps.{bt, rest-same, giver-changed, taker-changed}
 use Rattle.split_rows.specs.Rows.{listed}
 use Rattle.split_rows.specs.Inner.Carried.{Held, Workable, partsWith}
 use Rattle.integer.specs.Laws.Bits.{back}
-use Rattle.search.specs.Inner.Tried.{triedRow, columnIn, wantedOf, Tried, Triable}
+use Rattle.search.specs.Inner.Tried.{triedRow, triedComponent, wantedOf, Tried, Triable}
 use Rattle.search.specs.Inner.Balance.{markOf, Totalled}
-use Rattle.search.specs.Inner.Scan.{afterGiving, givesOf, takesOf, Past, Scanned}
+use Rattle.search.specs.Inner.Scan.{afterGiving, givesOf, Past, Scanned}
 use Rattle.search.proofs.Squares.{MayExchange, Exchanged, MayBalance, sum-few, squares-few, under}
 use Rattle.search.proofs.Squares.{imbalance-is, has-mark, put-total}
-use Rattle.search.proofs.Givers.{Gives, gives-true, take-same, take-is, scan-taker, scan-component}
+use Rattle.search.proofs.Givers.{takesOf, Gives, gives-true, take-same, take-is, scan-taker, scan-component}
 use Rattle.search.proofs.Givers.{past-giver, scan-total, scan-lacks, scan-fit, scan-can, scan-found}
 use Rattle.search.proofs.Trials.{with-is}
 use Rattle.search.proofs.Tries.{less-is, taker-triable, taker-wanted}
@@ -145,7 +145,7 @@ module _ (ch : List ℕ) (k : ℕ) (a : List ℕ) (s c d : ℕ) (so : Sound ch k
 row-at : (f c : ℕ) → f < SYSTEMS → c < COMPONENTS → triedRow (f * COMPONENTS + c) ≡ f
 row-at f c h l = omega arith
 
-column-at : (f c : ℕ) → c < COMPONENTS → columnIn (f * COMPONENTS + c) ≡ c
+column-at : (f c : ℕ) → c < COMPONENTS → triedComponent (f * COMPONENTS + c) ≡ c
 column-at f c l = omega arith
 
 module _ (ch : List ℕ) (k : ℕ) (a : List ℕ) (v : List ℤ) (held : Held ch k a v) where
@@ -182,7 +182,7 @@ module _ (ch : List ℕ) (k : ℕ) (a : List ℕ) (v : List ℤ) (held : Held ch
       at-row : triedRow (giverOf m * COMPONENTS + componentOf m) ≡ giverOf m
       at-row = row-at (giverOf m) (componentOf m) (omega arith) low
 
-      at-column : columnIn (giverOf m * COMPONENTS + componentOf m) ≡ componentOf m
+      at-column : triedComponent (giverOf m * COMPONENTS + componentOf m) ≡ componentOf m
       at-column = column-at (giverOf m) (componentOf m) low
 
       at-below : giverOf m * COMPONENTS + componentOf m < CELLS

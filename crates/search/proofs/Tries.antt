@@ -24,7 +24,7 @@ use Rattle.split.specs.Inner.Steps.{numberWith}
 use Rattle.split.specs.Laws.Steps.{Changed, number-with, bt, component-low, may-move, giver-changed, taker-changed}
 use Rattle.split_rows.specs.Rows.{listed}
 use Rattle.split_rows.specs.Inner.Carried.{Workable}
-use Rattle.search.specs.Inner.Tried.{TRIES, UNTRIED, triedRow, columnIn, triedOf, wantedOf, Tried, Triable}
+use Rattle.search.specs.Inner.Tried.{TRIES, UNTRIED, triedRow, triedComponent, triedOf, wantedOf, Tried, Triable}
 use Rattle.search.specs.Inner.Tried.{Forgot}
 use Rattle.integer.specs.Laws.Bits.{back}
 use Rattle.split_rows.specs.Laws.Machine.{pass}
@@ -79,7 +79,7 @@ module _ {ch : List ℕ} {k : ℕ} {a : List ℕ} {d s c : ℕ} {t : List ℤ} (
   less-row : triedRow (s * COMPONENTS + c) ≡ s
   less-row = omega (arith, pre .0, pre .1)
 
-  less-column : columnIn (s * COMPONENTS + c) ≡ c
+  less-column : triedComponent (s * COMPONENTS + c) ≡ c
   less-column = omega (arith, pre .1)
 
   less-low : s * COMPONENTS + c < CELLS
@@ -109,7 +109,7 @@ module _ {ch : List ℕ} {k : ℕ} {a : List ℕ} {d s c : ℕ} {t : List ℤ} (
   more-row : triedRow here ≡ s
   more-row = omega (arith, pre .0, pre .1)
 
-  more-column : columnIn here ≡ c
+  more-column : triedComponent here ≡ c
   more-column = omega (arith, pre .1)
 
   more-high : CELLS ≤ here
@@ -152,7 +152,7 @@ module _ (ch : List ℕ) (k : ℕ) (a : List ℕ) (d m : ℕ) (so : Sound ch k a
   taker-row : triedRow (CELLS + takerOf m * COMPONENTS + componentOf m) ≡ takerOf m
   taker-row = omega (arith, low)
 
-  taker-column : columnIn (CELLS + takerOf m * COMPONENTS + componentOf m) ≡ componentOf m
+  taker-column : triedComponent (CELLS + takerOf m * COMPONENTS + componentOf m) ≡ componentOf m
   taker-column = omega (arith, low)
 
   taker-cell : CELLS + takerOf m * COMPONENTS + componentOf m - CELLS ≡ takerOf m * COMPONENTS + componentOf m
@@ -199,8 +199,8 @@ module _ (ch : List ℕ) (k : ℕ) (a : List ℕ) (d m : ℕ) (so : Sound ch k a
 
   module _ (i : ℕ) (h : i < TRIES) (l : triedRow i < k) (p : triedRow i ≡ giverOf m → ⊥) (q : triedRow i ≡ takerOf m
       → ⊥) where
-    same-cell : cellOf (movedOf a m d) (triedRow i) (columnIn i) ≡ cellOf a (triedRow i) (columnIn i)
-    same-cell = other (triedRow i) l p q (columnIn i) (omega arith)
+    same-cell : cellOf (movedOf a m d) (triedRow i) (triedComponent i) ≡ cellOf a (triedRow i) (triedComponent i)
+    same-cell = other (triedRow i) l p q (triedComponent i) (omega arith)
 
     same-amount : triedOf (movedOf a m d) d i ≡ triedOf a d i
     unfolding triedOf
@@ -208,17 +208,17 @@ module _ (ch : List ℕ) (k : ℕ) (a : List ℕ) (d m : ℕ) (so : Sound ch k a
       where
         go : (b : Bool) → ltb i CELLS ≡ b → triedOf (movedOf a m d) d i ≡ triedOf a d i
         go true e =
-            let z : triedRow i * COMPONENTS + columnIn i ≡ i = omega (arith, ltb-true i CELLS e) in
+            let z : triedRow i * COMPONENTS + triedComponent i ≡ i = omega (arith, ltb-true i CELLS e) in
             rw e (ap (λ x. x - d) (rw z at same-cell))
         go false e =
-            let z : triedRow i * COMPONENTS + columnIn i ≡ i - CELLS = omega (arith, h, ltb-false i CELLS e) in
+            let z : triedRow i * COMPONENTS + triedComponent i ≡ i - CELLS = omega (arith, h, ltb-false i CELLS e) in
             rw e (ap (λ x. x + d) (rw z at same-cell))
 
     pub same-wanted : wantedOf ch (movedOf a m d) d i ≡ wantedOf ch a d i
     unfolding wantedOf
     same-wanted =
-        with-other (triedRow i) l p q (columnIn i) (triedOf (movedOf a m d) d i)
-        ∙ ap (numberWith ch a (triedRow i) (columnIn i)) same-amount
+        with-other (triedRow i) l p q (triedComponent i) (triedOf (movedOf a m d) d i)
+        ∙ ap (numberWith ch a (triedRow i) (triedComponent i)) same-amount
 
   -- the two tries that would take the move back lead to the numbers before it
   pub giver-back : (x : ℤ) → x ≡ rowNumber ch a (giverOf m)
@@ -232,7 +232,7 @@ module _ (ch : List ℕ) (k : ℕ) (a : List ℕ) (d m : ℕ) (so : Sound ch k a
       row : triedRow (CELLS + giverOf m * COMPONENTS + componentOf m) ≡ giverOf m
       row = omega (arith, low)
 
-      column : columnIn (CELLS + giverOf m * COMPONENTS + componentOf m) ≡ componentOf m
+      column : triedComponent (CELLS + giverOf m * COMPONENTS + componentOf m) ≡ componentOf m
       column = omega (arith, low)
 
       cell : CELLS + giverOf m * COMPONENTS + componentOf m - CELLS ≡ giverOf m * COMPONENTS + componentOf m
@@ -259,7 +259,7 @@ module _ (ch : List ℕ) (k : ℕ) (a : List ℕ) (d m : ℕ) (so : Sound ch k a
       row : triedRow (takerOf m * COMPONENTS + componentOf m) ≡ takerOf m
       row = omega (arith, low)
 
-      column : columnIn (takerOf m * COMPONENTS + componentOf m) ≡ componentOf m
+      column : triedComponent (takerOf m * COMPONENTS + componentOf m) ≡ componentOf m
       column = omega (arith, low)
 
       amount : triedOf (movedOf a m d) d (takerOf m * COMPONENTS + componentOf m) ≡ cellOf a (takerOf m) (componentOf m)
@@ -274,7 +274,7 @@ module _ (ch : List ℕ) (k : ℕ) (a : List ℕ) (d m : ℕ) (so : Sound ch k a
 abbrev pub Going : List ℤ → ℕ → List ℤ → ℕ → Type 0
 Going t s u c =
     (length u ≡ TRIES) × (c ≤ COMPONENTS)
-    × ((i : ℕ) → i < TRIES → triedRow i ≡ s → columnIn i < c → listed u i ≡ UNTRIED)
+    × ((i : ℕ) → i < TRIES → triedRow i ≡ s → triedComponent i < c → listed u i ≡ UNTRIED)
     × ((i : ℕ) → i < TRIES → (triedRow i ≡ s → ⊥) → listed u i ≡ listed t i)
 
 module _ (t : List ℤ) (s : ℕ) (low : s < SYSTEMS) where
@@ -318,7 +318,7 @@ module _ (t : List ℤ) (s : ℕ) (low : s < SYSTEMS) where
           (λ e. r (omega (arith, low, h, e))) ∙ g .3 i l r,
     )
       where
-        gone : (i : ℕ) → i < TRIES → triedRow i ≡ s → columnIn i < c + 1 → listed next i ≡ UNTRIED
+        gone : (i : ℕ) → i < TRIES → triedRow i ≡ s → triedComponent i < c + 1 → listed next i ≡ UNTRIED
         gone i l r x = go (eqb i second) (eqb i first) refl refl
           where
             go : (y z : Bool) → eqb i second ≡ y → eqb i first ≡ z → listed next i ≡ UNTRIED

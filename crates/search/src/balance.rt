@@ -66,7 +66,7 @@ pub(crate) fn exchanged(w: Totals, numbers: &[i64; SYSTEMS], s: usize, x: i64) -
 
 // The imbalance of so many numbers of these totals.
 pub(crate) fn imbalance(w: Totals, count: usize) -> u64
-    requires { ⌜ (count ≤ 8) × (w .sum ≤ 3200000000) × (w .squares ≤ 1280000000000000000)
+    requires { ⌜ (count ≤ SYSTEMS) × (w .sum ≤ 3200000000) × (w .squares ≤ 1280000000000000000)
         × (w .sum * w .sum ≤ count * w .squares) ⌝ }
     ensures { λ r. ⌜ r ≡ count * w .squares - w .sum * w .sum ⌝ }
 {

@@ -102,10 +102,18 @@ pub(crate) fn search(
             rounds,
         );
         match turn {
-            Turn::Move(m) => {
+            Turn::Move(moving) => {
                 let stride = stride(level);
-                renumber(systems, count, &cells, &mut numbers, &mut tried, stride, m);
-                moved(&mut cells, m, stride);
+                renumber(
+                    systems,
+                    count,
+                    &cells,
+                    &mut numbers,
+                    &mut tried,
+                    stride,
+                    moving,
+                );
+                moved(&mut cells, moving, stride);
                 rounds += 1;
             }
             Turn::Halve => {

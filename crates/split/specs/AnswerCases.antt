@@ -1,6 +1,6 @@
 -- What each case of `Answer` is (document 01, "What is turned away"): whether it is a rating; a refusal's number, 0
--- where there is none; what it carries, the record's place with 2 to 4 and the code at fault with 5; a rating's figures;
--- and what a lent buffer then holds. Assumes nothing.
+-- where there is none; what it carries, the record's place with 2 to 4 and the code at fault with 5; a rating's
+-- figures; and what a lent buffer then holds. Assumes nothing.
 use mathlib.Core.List.{List, [], _∷_}
 use Prim.Native.Nat.{ℕ}
 use lib.IntN.{ℤ, pos}
