@@ -1,4 +1,4 @@
--- The answer to proposed cells, case by case, from what its tests came to.
+-- The answer to proposed cells, case by case, from what its tests came to. Assumes nothing.
 use mathlib.Core.Path.{_≡_, refl, sym, ap, ap₂, _∙_}
 use mathlib.Core.Bool.{Bool, true, false, not, _&&_, cond}
 use mathlib.Core.List.{List}

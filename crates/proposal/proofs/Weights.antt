@@ -1,4 +1,5 @@
--- The weighted sum of the first rows, that there is room for the next, and the answer that it leads to.
+-- The weighted sum of the first rows, that there is room for the next, and the answer that it leads to. Assumes
+-- nothing.
 use mathlib.Core.Path.{_≡_, refl, sym, ap, ap₂, _∙_}
 use mathlib.Core.Bool.{Bool, true, false}
 use mathlib.Core.List.{List}

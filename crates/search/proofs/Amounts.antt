@@ -8,7 +8,7 @@ use mir.Syntax.{w32}
 use mir.Val.{Fits}
 use Rattle.integer.specs.Figures.{MILLION}
 use Rattle.systems.specs.Systems.{COMPONENTS, Candidate}
-use Rattle.split.specs.Split.{cellOf, systemOf, partsOf, Stock}
+use Rattle.split.specs.Split.{CELLS, cellOf, systemOf, partsOf, Stock}
 use Rattle.systems.specs.Choice.{SYSTEMS}
 use Rattle.split.specs.Move.{componentOf, giverOf, takerOf, shift, movedOf}
 use Rattle.split.specs.Laws.Rows.{parts-few}
@@ -26,6 +26,20 @@ module _ {ch : List ℕ} {k : ℕ} {a : List ℕ} {s g : ℕ} (st : Stock ch k a
   pub parts-is : {x : ℕ} → x ≡ partsBy (systemOf ch s) a s → x ≡ partsOf ch a s
   unfolding partsBy partsOf
   parts-is p = p
+
+-- the cell of a move's component in its giver's row, which is the place of the try with less there too, and in its
+-- taker's; and the places of the tries with more
+abbrev pub giverCell : ℕ → ℕ
+giverCell move = giverOf move * COMPONENTS + componentOf move
+
+abbrev pub takerCell : ℕ → ℕ
+takerCell move = takerOf move * COMPONENTS + componentOf move
+
+abbrev pub giverMore : ℕ → ℕ
+giverMore move = CELLS + giverOf move * COMPONENTS + componentOf move
+
+abbrev pub takerMore : ℕ → ℕ
+takerMore move = CELLS + takerOf move * COMPONENTS + componentOf move
 
 -- a move from row f to row t, of component c
 module _ (a : List ℕ) (d m : ℕ) where

@@ -1,4 +1,4 @@
--- The search from its input, by the cases of the tests.
+-- The search from its input, by the cases of the tests. Assumes nothing.
 use Prim.Native.Nat.{ℕ, _≤_, _<_}
 use mathlib.Core.Path.{_≡_, refl, sym, ap, _∙_}
 use mathlib.Core.Bool.{Bool, true, false, not, _||_, _&&_}

@@ -1,4 +1,4 @@
--- The totals of a split's numbers, where a move's giver has given, and where its taker has taken too.
+-- The totals of a split's numbers, where a move's giver has given, and where its taker has taken too. Assumes nothing.
 use Prim.Native.Nat.{ℕ, zero, suc, _+_, _*_, _-_, _%_, _≤_, _<_}
 use mathlib.Core.Path.{_≡_, refl, sym, ap, ap₂, _∙_}
 use mathlib.Core.Bool.{Bool, true, false, not}
@@ -36,6 +36,7 @@ use Rattle.search.proofs.Givers.{takesOf, Gives, gives-true, take-same,
 use Rattle.search.proofs.Givers.{past-giver, scan-total, scan-lacks, scan-fit, scan-can, scan-found}
 use Rattle.search.proofs.Trials.{with-is}
 use Rattle.search.proofs.Tries.{less-is, taker-triable, taker-wanted}
+use Rattle.search.proofs.Amounts.{giverCell}
 
 -- the number that try i leads to, worked out, and what is known of tries then
 abbrev pub Worked : List ℕ → ℕ → List ℕ → ℕ → ℕ → ℤ → List ℤ → Type 0
@@ -51,7 +52,7 @@ total-same v w k sum squares h t = record {
       (λ s l. ap (λ z. markOf z * markOf z) (h s l));
 }
 
-module _ (v : ℕ → ℤ) (k sum squares : ℕ) (most : k ≤ 8) (small : (s : ℕ) → natAbs (v s) ≤ LARGEST)
+module _ (v : ℕ → ℤ) (k sum squares : ℕ) (most : k ≤ SYSTEMS) (small : (s : ℕ) → natAbs (v s) ≤ LARGEST)
     (t : Totalled v k sum squares) (j : ℕ) (l : j < k) (p q : ℤ) (e : p ≡ v j) where
   pub may-exchange : natAbs q ≤ LARGEST → MayExchange j p q sum squares
   may-exchange h =
@@ -149,7 +150,7 @@ column-at : (f c : ℕ) → c < COMPONENTS → triedComponent (f * COMPONENTS + 
 column-at f c l = omega arith
 
 module _ (ch : List ℕ) (k : ℕ) (a : List ℕ) (v : List ℤ) (held : Held ch k a v) where
-  most : k ≤ 8
+  most : k ≤ SYSTEMS
   most = held .sound .stock .chosen .most
 
   pub first-total : (sum squares : ℕ) → Totalled (listed v) k sum squares → Totalled (rowNumber ch a) k sum squares
@@ -179,38 +180,38 @@ module _ (ch : List ℕ) (k : ℕ) (a : List ℕ) (v : List ℤ) (held : Held ch
       low : componentOf m < COMPONENTS
       low = omega (arith, h)
 
-      at-row : triedRow (giverOf m * COMPONENTS + componentOf m) ≡ giverOf m
+      at-row : triedRow (giverCell m) ≡ giverOf m
       at-row = row-at (giverOf m) (componentOf m) (omega arith) low
 
-      at-column : triedComponent (giverOf m * COMPONENTS + componentOf m) ≡ componentOf m
+      at-column : triedComponent (giverCell m) ≡ componentOf m
       at-column = column-at (giverOf m) (componentOf m) low
 
-      at-below : giverOf m * COMPONENTS + componentOf m < CELLS
+      at-below : giverCell m < CELLS
       at-below = omega (arith, low)
 
-      pub give-triable : Triable ch k a d (giverOf m * COMPONENTS + componentOf m)
+      pub give-triable : Triable ch k a d (giverCell m)
       give-triable = record {
         below = omega (arith, at-below);
         row = rw at-row (gv .from);
         had = λ l. af .had;
         room = λ l. absurd (omega (arith, at-below));
-        workable = rw (at-row, at-column, sym (less-is a d (giverOf m * COMPONENTS + componentOf m) at-below))
+        workable = rw (at-row, at-column, sym (less-is a d (giverCell m) at-below))
             (less-workable ch k a (giverOf m) (componentOf m) d (held .sound) (gv .from) (gv .gives) (af .had)
             (af .kept));
       }
 
-      give-wanted : wantedOf ch a d (giverOf m * COMPONENTS + componentOf m) ≡ numberWith ch a (giverOf m)
+      give-wanted : wantedOf ch a d (giverCell m) ≡ numberWith ch a (giverOf m)
           (componentOf m) (cellOf a (giverOf m) (componentOf m) - d)
       unfolding wantedOf
-      give-wanted = rw (at-row, at-column, sym (less-is a d (giverOf m * COMPONENTS + componentOf m) at-below))
+      give-wanted = rw (at-row, at-column, sym (less-is a d (giverCell m) at-below))
 
-      pub give-worked : (x : ℤ) → (x ≡ wantedOf ch a d (giverOf m * COMPONENTS + componentOf m)) × (natAbs x ≤ LARGEST)
+      pub give-worked : (x : ℤ) → (x ≡ wantedOf ch a d (giverCell m)) × (natAbs x ≤ LARGEST)
           → (x ≡ numberWith ch a (giverOf m) (componentOf m) (cellOf a (giverOf m) (componentOf m) - d))
           × (natAbs x ≤ LARGEST)
       give-worked x p = (p .0 ∙ give-wanted, p .1)
 
       module _ (sum squares : ℕ) (t : Totalled (rowNumber ch a) k sum squares) (z : ℤ)
-          (w : (z ≡ wantedOf ch a d (giverOf m * COMPONENTS + componentOf m)) × (natAbs z ≤ LARGEST)) where
+          (w : (z ≡ wantedOf ch a d (giverCell m)) × (natAbs z ≤ LARGEST)) where
         abbrev old : ℤ
         old = listed v (giverOf m)
 

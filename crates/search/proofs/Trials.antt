@@ -1,4 +1,4 @@
--- A move's two rows worked out, the others carried.
+-- A move's two rows worked out, the others carried. Assumes nothing.
 use Prim.Native.Nat.{ℕ, _+_, _-_, _≤_, _<_}
 use mathlib.Core.Path.{_≡_, refl, sym, _∙_}
 use mathlib.Core.Bool.{Bool, true, false}

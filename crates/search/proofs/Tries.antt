@@ -1,4 +1,4 @@
--- The numbers that tries lead to: worked out, kept, forgotten.
+-- The numbers that tries lead to: worked out, kept, forgotten. Assumes nothing.
 use Prim.Native.Nat.{ℕ, _+_, _*_, _-_, _≤_, _<_}
 use mathlib.Core.Path.{_≡_, refl, sym, ap, _∙_}
 use mathlib.Core.Bool.{Bool, true, false}
@@ -29,6 +29,7 @@ use Rattle.search.specs.Inner.Tried.{Forgot}
 use Rattle.integer.specs.Laws.Bits.{back}
 use Rattle.split_rows.specs.Laws.Machine.{pass}
 use Rattle.search.proofs.Trials.{taker-workable}
+use Rattle.search.proofs.Amounts.{giverMore, giverCell, takerCell, takerMore}
 
 -- the amount that a try leads to
 pub less-is : (a : List ℕ) (d i : ℕ) → i < CELLS → getD a i 0 - d ≡ triedOf a d i
@@ -149,21 +150,21 @@ module _ (ch : List ℕ) (k : ℕ) (a : List ℕ) (d m : ℕ) (so : Sound ch k a
   low : componentOf m < COMPONENTS
   low = component-low ch k a d m so fit
 
-  taker-row : triedRow (CELLS + takerOf m * COMPONENTS + componentOf m) ≡ takerOf m
+  taker-row : triedRow (takerMore m) ≡ takerOf m
   taker-row = omega (arith, low)
 
-  taker-column : triedComponent (CELLS + takerOf m * COMPONENTS + componentOf m) ≡ componentOf m
+  taker-column : triedComponent (takerMore m) ≡ componentOf m
   taker-column = omega (arith, low)
 
-  taker-cell : CELLS + takerOf m * COMPONENTS + componentOf m - CELLS ≡ takerOf m * COMPONENTS + componentOf m
+  taker-cell : takerMore m - CELLS ≡ takerCell m
   taker-cell = omega arith
 
-  taker-amount : triedOf a d (CELLS + takerOf m * COMPONENTS + componentOf m) ≡ cellOf a (takerOf m) (componentOf m) + d
+  taker-amount : triedOf a d (takerMore m) ≡ cellOf a (takerOf m) (componentOf m) + d
   taker-amount =
-      sym (more-is a d (CELLS + takerOf m * COMPONENTS + componentOf m) (omega arith))
+      sym (more-is a d (takerMore m) (omega arith))
       ∙ ap (λ i. getD a i 0 + d) taker-cell
 
-  pub taker-triable : Triable ch k a d (CELLS + takerOf m * COMPONENTS + componentOf m)
+  pub taker-triable : Triable ch k a d (takerMore m)
   taker-triable = record {
     below = omega (arith, low);
     row = rw taker-row (bt ch k a d m so fit .to);
@@ -172,7 +173,7 @@ module _ (ch : List ℕ) (k : ℕ) (a : List ℕ) (d m : ℕ) (so : Sound ch k a
     workable = rw (taker-row, taker-column, taker-amount) (taker-workable ch k a d m so fit);
   }
 
-  pub taker-wanted : (x : ℤ) → (x ≡ wantedOf ch a d (CELLS + takerOf m * COMPONENTS + componentOf m))
+  pub taker-wanted : (x : ℤ) → (x ≡ wantedOf ch a d (takerMore m))
       × (natAbs x ≤ LARGEST)
       → (x ≡ numberWith ch a (takerOf m) (componentOf m) (cellOf a (takerOf m) (componentOf m) + d))
       × (natAbs x ≤ LARGEST)
@@ -222,26 +223,26 @@ module _ (ch : List ℕ) (k : ℕ) (a : List ℕ) (d m : ℕ) (so : Sound ch k a
 
   -- the two tries that would take the move back lead to the numbers before it
   pub giver-back : (x : ℤ) → x ≡ rowNumber ch a (giverOf m)
-      → x ≡ wantedOf ch (movedOf a m d) d (CELLS + giverOf m * COMPONENTS + componentOf m)
+      → x ≡ wantedOf ch (movedOf a m d) d (giverMore m)
   unfolding wantedOf
   giver-back x e =
       e ∙ sym (rw (row, column, amount)
       (number-with (movedOf a m d) a (giverOf m) (componentOf m) (cellOf a (giverOf m) (componentOf m)) was ch
       (three (systemOf ch (giverOf m)) (so .stock .chosen .known (giverOf m) (bt ch k a d m so fit .from)))))
     where
-      row : triedRow (CELLS + giverOf m * COMPONENTS + componentOf m) ≡ giverOf m
+      row : triedRow (giverMore m) ≡ giverOf m
       row = omega (arith, low)
 
-      column : triedComponent (CELLS + giverOf m * COMPONENTS + componentOf m) ≡ componentOf m
+      column : triedComponent (giverMore m) ≡ componentOf m
       column = omega (arith, low)
 
-      cell : CELLS + giverOf m * COMPONENTS + componentOf m - CELLS ≡ giverOf m * COMPONENTS + componentOf m
+      cell : giverMore m - CELLS ≡ giverCell m
       cell = omega arith
 
-      amount : triedOf (movedOf a m d) d (CELLS + giverOf m * COMPONENTS + componentOf m) ≡ cellOf a (giverOf m)
+      amount : triedOf (movedOf a m d) d (giverMore m) ≡ cellOf a (giverOf m)
           (componentOf m)
       amount =
-          sym (more-is (movedOf a m d) d (CELLS + giverOf m * COMPONENTS + componentOf m) (omega arith))
+          sym (more-is (movedOf a m d) d (giverMore m) (omega arith))
           ∙ ap (λ i. getD (movedOf a m d) i 0 + d) cell
           ∙ omega (arith, giver-changed ch k a d m so fit .here, may-move ch k a d m so fit .1)
 
@@ -249,22 +250,22 @@ module _ (ch : List ℕ) (k : ℕ) (a : List ℕ) (d m : ℕ) (so : Sound ch k a
       was = record { here = refl; rest = λ e l n. sym (giver-changed ch k a d m so fit .rest e l n) }
 
   pub taker-back : (x : ℤ) → x ≡ rowNumber ch a (takerOf m)
-      → x ≡ wantedOf ch (movedOf a m d) d (takerOf m * COMPONENTS + componentOf m)
+      → x ≡ wantedOf ch (movedOf a m d) d (takerCell m)
   unfolding wantedOf
   taker-back x e =
       e ∙ sym (rw (row, column, amount)
       (number-with (movedOf a m d) a (takerOf m) (componentOf m) (cellOf a (takerOf m) (componentOf m)) was ch
       (three (systemOf ch (takerOf m)) (so .stock .chosen .known (takerOf m) (bt ch k a d m so fit .to)))))
     where
-      row : triedRow (takerOf m * COMPONENTS + componentOf m) ≡ takerOf m
+      row : triedRow (takerCell m) ≡ takerOf m
       row = omega (arith, low)
 
-      column : triedComponent (takerOf m * COMPONENTS + componentOf m) ≡ componentOf m
+      column : triedComponent (takerCell m) ≡ componentOf m
       column = omega (arith, low)
 
-      amount : triedOf (movedOf a m d) d (takerOf m * COMPONENTS + componentOf m) ≡ cellOf a (takerOf m) (componentOf m)
+      amount : triedOf (movedOf a m d) d (takerCell m) ≡ cellOf a (takerOf m) (componentOf m)
       amount =
-          sym (less-is (movedOf a m d) d (takerOf m * COMPONENTS + componentOf m) (omega (arith, low)))
+          sym (less-is (movedOf a m d) d (takerCell m) (omega (arith, low)))
           ∙ omega (arith, taker-changed ch k a d m so fit .here)
 
       was : Changed (movedOf a m d) a (takerOf m) (componentOf m) (cellOf a (takerOf m) (componentOf m))

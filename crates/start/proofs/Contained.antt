@@ -1,4 +1,4 @@
--- Whether a row's system contains a component, as one or none.
+-- Whether a row's system contains a component, as one or none. Assumes nothing.
 use Prim.Native.Nat.{ℕ, _+_, _*_, _/_, _%_, _≤_, _<_}
 use mathlib.Core.Path.{_≡_, sym, ap₂, _∙_}
 use mathlib.Core.Bool.{Bool, true, false}

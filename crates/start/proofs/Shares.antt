@@ -1,4 +1,4 @@
--- A component's parts, row by row.
+-- A component's parts, row by row. Assumes nothing.
 use Prim.Native.Nat.{ℕ, zero, suc, _+_, _*_, _-_, _/_, _%_, _≤_, _<_, max}
 use mathlib.Core.Path.{_≡_, refl, sym, ap, ap₂, _∙_, subst⁻¹}
 use mathlib.Core.Bool.{Bool, true, false}
@@ -11,7 +11,7 @@ use lib.ListN.{getD, set, length}
 use lib.Seq.{getD-set-other}
 use borrow.Author.Tests.{lt-ltb, le-ltb, eq-eqb, ne-eqb, eqb-true, eqb-false}
 use Rattle.systems.specs.Systems.{COMPONENTS, hasOf}
-use Rattle.systems.specs.Choice.{oneIf}
+use Rattle.systems.specs.Choice.{SYSTEMS, oneIf}
 use Rattle.split.specs.Laws.Folds.{sum-none, sum-more}
 use Rattle.split.specs.Split.{CELLS, systemOf}
 use Rattle.split.specs.Start.{sharersOf}
@@ -98,7 +98,7 @@ module _ (ch : List ℕ) (end c : ℕ) (z : Cells end c) where
         (omega (arith, e), omega (arith, e))
 
     -- the counts fit
-    pub counted-few : i < end → r ≤ 8
+    pub counted-few : i < end → r ≤ SYSTEMS
     counted-few h = omega (arith, w .at, w .few, z .room)
 
 -- the rows before cell i's have their parts

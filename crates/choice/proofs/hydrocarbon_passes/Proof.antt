@@ -11,8 +11,6 @@ use Rattle.choice.proofs.Listing.{Turns, turns-none, turns-next, turns-
 use borrow.Author.Needs.{needs}
 use Rattle.choice.proofs.hydrocarbon_passes.Statement.{statement}
 use Rattle.choice.proofs.hydrocarbon_passes.Tie as tie
-use Rattle.choice.proofs.ordered.Reads as ordered-reads
-use Rattle.choice.proofs.take.Reads as take-reads
 
 abbrev Inv-loop : tie.InvT-loop
 Inv-loop keys₀ p i₀ keys i = (i ≤ 2 * HYDROCARBONS) × Turns false wantedAt turnAt p keys₀ keys i

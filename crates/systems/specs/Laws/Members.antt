@@ -63,7 +63,7 @@ hydrocarbons-are system k =
 -- ---- of every number: a system contains its three members, and nothing else
 
 module _ (system c : ℕ) where
-  pub has-first : c ≡ memberOf system 0 → hasOf system c ≡ true
+  has-first : c ≡ memberOf system 0 → hasOf system c ≡ true
   unfolding hasOf
   has-first e = rw (eq-eqb c (memberOf system 0) e, hasOf)
 
@@ -81,7 +81,7 @@ module _ (system c : ℕ) where
   has-cases P h = by-tests P (eqb c (memberOf system 0)) (eqb c (memberOf system 1)) refl refl h
 
   -- and each of the three is contained
-  pub has-of-eq : (j : ℕ) → j < 3 → c ≡ memberOf system j → hasOf system c ≡ true
+  has-of-eq : (j : ℕ) → j < 3 → c ≡ memberOf system j → hasOf system c ≡ true
   unfolding hasOf
   has-of-eq zero h e = has-first e
   has-of-eq (suc zero) h e = go (eqb c (memberOf system 0)) refl

@@ -13,7 +13,7 @@ use lib.Pow.{shr-shr}
 use borrow.Author.Tests.{eqb-true, eqb-false, ltb-true, lt-ltb}
 use Rattle.refusal.specs.Keys.{isIn}
 use Rattle.systems.specs.Systems.{COMPONENTS, HYDROGEN, memberOf, hasOf, candidates}
-use Rattle.systems.specs.Laws.Table.{of-true, to-true, every-at}
+use Rattle.systems.specs.Laws.Table.{of-true, to-true, each-at}
 use Rattle.systems.specs.Choice.{oneIf, countTo, fitnessOf, weightedTo, maskFrom, inMask, presentAt, presentOf}
 use Rattle.systems.specs.Choice.{presentCount, maskOf, presentIn, standingOf, candidatesFor, candidatesOf}
 use Rattle.systems.specs.Choice.{order, keep, chooseBy, chooseOf}
@@ -47,7 +47,7 @@ mask-lt f zero i = omega arith
 mask-lt f (suc n) i = rw (pow-suc 2 n) (bit-lt (f i) (maskFrom f n (i + 1)) (2 ^ n) (mask-lt f n (i + 1)))
 
 -- its components are those that the test passes at
-pub in-mask : (f : ℕ → Bool) (n i c : ℕ) → c < n → inMask (maskFrom f n i) c ≡ f (i + c)
+in-mask : (f : ℕ → Bool) (n i c : ℕ) → c < n → inMask (maskFrom f n i) c ≡ f (i + c)
 unfolding maskFrom inMask
 in-mask f zero i c h = absurd (omega arith)
 in-mask f (suc n) i zero h =
@@ -207,8 +207,8 @@ unfolding candidatesOf listed isIn
 offered-candidate present s = go (inMask present HYDROGEN)
   where
     go : (hydrogen : Bool) → isIn s (candidatesFor hydrogen) ≡ true → isIn s candidates ≡ true
-    go true e = to-true (listed s) (every-at listed (candidatesFor true) tt s e)
-    go false e = to-true (listed s) (every-at listed (candidatesFor false) tt s e)
+    go true e = to-true (listed s) (each-at listed (candidatesFor true) tt s e)
+    go false e = to-true (listed s) (each-at listed (candidatesFor false) tt s e)
 
 -- no candidate's fitness is above that of everything
 pub fitness-le : (mix : List ℕ) (s : ℕ) → isIn s candidates ≡ true → fitnessOf mix s ≤ weightedTo mix COMPONENTS
