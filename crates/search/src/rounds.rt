@@ -102,18 +102,10 @@ pub(crate) fn search(
             rounds,
         );
         match turn {
-            Turn::Move(moving) => {
+            Turn::Move(m) => {
                 let stride = stride(level);
-                renumber(
-                    systems,
-                    count,
-                    &cells,
-                    &mut numbers,
-                    &mut tried,
-                    stride,
-                    moving,
-                );
-                moved(&mut cells, moving, stride);
+                renumber(systems, count, &cells, &mut numbers, &mut tried, stride, m);
+                moved(&mut cells, m, stride);
                 rounds += 1;
             }
             Turn::Halve => {
