@@ -3,7 +3,6 @@
 use mathlib.Core.Path.{_≡_, sym, ap, _∙_}
 use mathlib.Core.List.{List}
 use Prim.Native.Nat.{ℕ, _*_, _≤_, _<_}
-use native.Mathlib.Nat as N
 use Rattle.integer.specs.Figures.{MILLION}
 use Rattle.integer.specs.Fraction.{Within}
 use Rattle.systems.specs.Systems.{COMPONENTS}

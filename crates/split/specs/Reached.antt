@@ -12,23 +12,26 @@ use Rattle.split.specs.Move.{imbalanceOf}
 use Rattle.split.specs.Search.{turnOf, stepOf}
 use Rattle.split.specs.declared.Turn.the-variants.{Move, Halve}
 
--- cells, level and rounds that a search from some cells comes by: its beginning, and what a move or a halving leads to
-pub data Reached (systems : List ℕ) (count limit level allowance : ℕ) (from : List ℕ)
+-- cells, level and rounds that a search from some cells and a first level comes by: these themselves, and what a move
+-- or a halving leads to
+pub data Reached (systems : List ℕ) (count limit first allowance : ℕ) (from : List ℕ)
     : List ℕ → ℕ → ℕ → Type 0 where
-  start : Reached systems count limit level allowance from from level 0
-  moved : {b : List ℕ} {l r : ℕ} (m : ℕ) → Reached systems count limit level allowance from b l r
-      → turnOf systems count limit allowance b l r ≡ Move m
-      → Reached systems count limit level allowance from (stepOf b m l) l (r + 1)
-  halved : {b : List ℕ} {l r : ℕ} → Reached systems count limit level allowance from b l r
-      → turnOf systems count limit allowance b l r ≡ Halve
-      → Reached systems count limit level allowance from b (l - 1) r
+  start : Reached systems count limit first allowance from from first 0
+  moved : {cells : List ℕ} {level rounds : ℕ} (move : ℕ)
+      → Reached systems count limit first allowance from cells level rounds
+      → turnOf systems count limit allowance cells level rounds ≡ Move move
+      → Reached systems count limit first allowance from (stepOf cells move level) level (rounds + 1)
+  halved : {cells : List ℕ} {level rounds : ℕ}
+      → Reached systems count limit first allowance from cells level rounds
+      → turnOf systems count limit allowance cells level rounds ≡ Halve
+      → Reached systems count limit first allowance from cells (level - 1) rounds
 
 -- a split that re-sums, with no empty system and numbers within range, whose imbalance has fallen with every round
-pub record State (mix systems : List ℕ) (count allowance : ℕ) (cells : List ℕ) (made : ℕ) : Type 0 where
+pub record State (mix systems : List ℕ) (count allowance : ℕ) (cells : List ℕ) (rounds : ℕ) : Type 0 where
   pub sound : Sound systems count cells
   pub clean : Clean systems count cells
   pub sums : (c : ℕ) → c < COMPONENTS → Shared mix systems count c → columnOf count cells c ≡ getD mix c 0
   pub small : (s : ℕ) → natAbs (rowNumber systems cells s) ≤ LARGEST
-  pub falls : imbalanceOf (rowNumber systems cells) count + made
+  pub falls : imbalanceOf (rowNumber systems cells) count + rounds
       ≤ imbalanceOf (rowNumber systems (startOf mix systems count)) count
-  pub rounds : made ≤ allowance
+  pub allowed : rounds ≤ allowance

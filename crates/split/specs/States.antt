@@ -13,12 +13,12 @@ use Rattle.split.specs.Laws.Size.{number-small}
 use Rattle.split.specs.Laws.CleanCells.{start-clean, reached-clean}
 use Rattle.split.specs.Laws.Finds.{input-of}
 
-pub reached-state : {mix systems : List ℕ} {count limit level allowance : ℕ} {cells : List ℕ} {l r : ℕ}
-    → searchFit mix systems count level ≡ true
-    → Reached systems count limit level allowance (startOf mix systems count) cells l r
-    → State mix systems count allowance cells r
-reached-state {mix} {systems} {count} {limit} {level} {allowance} {cells} fits x =
-    let i = input-of mix systems count level fits in
+pub reached-state : {mix systems : List ℕ} {count limit first allowance : ℕ} {cells : List ℕ} {level rounds : ℕ}
+    → searchFit mix systems count first ≡ true
+    → Reached systems count limit first allowance (startOf mix systems count) cells level rounds
+    → State mix systems count allowance cells rounds
+reached-state {mix} {systems} {count} {limit} {first} {allowance} {cells} fits x =
+    let i = input-of mix systems count first fits in
     let z = reached-kept (i .sound) x in
     record {
       sound = z .sound;
@@ -26,5 +26,5 @@ reached-state {mix} {systems} {count} {limit} {level} {allowance} {cells} fits x
       sums = λ c l h. z .sums c l ∙ start-sums mix systems count (i .chosen .most) c l h;
       small = λ s. number-small systems cells s;
       falls = reached-falls x;
-      rounds = reached-rounds x;
+      allowed = reached-rounds x;
     }

@@ -1,4 +1,4 @@
--- Each candidate is a system, and a system with a first component is a candidate. Assumes nothing.
+-- Each candidate is a system, and a number with a first component is a candidate. Assumes nothing.
 use Prim.Native.Nat.{ℕ, _≤_}
 use mathlib.Core.Path.{_≡_, refl, ap, _∙_}
 use mathlib.Core.Bool.{Bool, true, false, Bool·beq}
@@ -17,8 +17,8 @@ pub known-system : (system : ℕ) → Candidate system → isSystem system ≡ t
 unfolding isSystem keepsRule sumAbs placeIn isIn
 known-system system h = to-true (isSystem system) (each-candidate isSystem tt system h)
 
-abbrev listed : ℕ → Bool
-listed system = Bool·beq (ltb (memberOf system 0) COMPONENTS) (isIn system candidates)
+abbrev hasFirst : ℕ → Bool
+hasFirst system = Bool·beq (ltb (memberOf system 0) COMPONENTS) (isIn system candidates)
 
 none-above : (system : ℕ) → NUMBERS ≤ system → (b : Bool) → isIn system candidates ≡ b → false ≡ b
 none-above system h true e = absurd (omega (arith, candidate-lt system (record { listed = e })))
@@ -31,7 +31,7 @@ candidate-is system r p = ap (λ x. ltb x COMPONENTS) p ∙ go (ltb system NUMBE
     go : (b : Bool) → ltb system NUMBERS ≡ b → ltb (memberOf system 0) COMPONENTS ≡ isIn system candidates
     go true e =
         beq-is (ltb (memberOf system 0) COMPONENTS) (isIn system candidates)
-        (eachTo listed NUMBERS tt system (ltb-true system NUMBERS e))
+        (eachTo hasFirst NUMBERS tt system (ltb-true system NUMBERS e))
     go false e =
         let h = ltb-false system NUMBERS e in
         ap (λ x. ltb x COMPONENTS) (member-none system 0 h) ∙ none-above system h (isIn system candidates) refl

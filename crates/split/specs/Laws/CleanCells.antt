@@ -77,7 +77,7 @@ step-clean ch k limit allowance a l r m so t =
 pub reached-clean : {ch : List ℕ} {k : ℕ} {limit level allowance : ℕ} {a b : List ℕ} {l r : ℕ} → Sound ch k a
     → Clean ch k a → Reached ch k limit level allowance a b l r → Clean ch k b
 reached-clean so cl Reached.start = cl
-reached-clean {ch} {k} {limit} {level} {allowance} so cl (Reached.moved {b = b} {l = l} {r = r} m x t) =
+reached-clean {ch} {k} {limit} {level} {allowance} so cl (Reached.moved {cells = b} {level = l} {rounds = r} m x t) =
     step-clean ch k limit allowance b l r m (reached-kept so x .sound) t (reached-clean so cl x)
 reached-clean so cl (Reached.halved x t) = reached-clean so cl x
 
