@@ -22,7 +22,7 @@ use Rattle.systems.specs.Choice.{oneIf, countContaining, containingOf, scoreOf,
 use Rattle.systems.specs.Choice.{marksOf}
 use Rattle.systems.specs.Laws.Table.{none-has, to-true, everyTo, eachTo}
 use Rattle.systems.specs.Laws.Presence.{Every, every-in, mask-lt}
-use Rattle.systems.specs.Without.{HYDROCARBONS}
+use Rattle.systems.specs.Before.{HYDROCARBONS}
 use Rattle.systems.specs.Laws.Scores.{better-next, better-before}
 use Rattle.choice.specs.Inner.Keys.{MOST_WEIGHTED, KEYS, keyWeights, keyOf, Keyed}
 use Rattle.choice.proofs.Loops.{next, done}
@@ -66,7 +66,7 @@ all-next mix c k x e w = rw (add-one c) (omega (arith, e, w))
 
 -- a component more in front of a mask
 pub mask-next : (f : ℕ → Bool) (c d p b : ℕ) → d + 1 ≡ c → c ≤ COMPONENTS → p ≡ maskFrom f (COMPONENTS - c) c
-    → b ≡ cond (f d) 1 0
+    → b ≡ oneIf (f d)
     → p * 2 + b ≡ maskFrom f (COMPONENTS - d) d
 unfolding maskFrom
 mask-next f c d p b e h q r =
@@ -77,10 +77,10 @@ pub mask-small : (f : ℕ → Bool) (c p : ℕ) → p ≡ maskFrom f (COMPONENTS
 mask-small f c p e =
     omega (arith, e, mask-lt f (COMPONENTS - c) c, pow-mono {i = COMPONENTS - c} {j = COMPONENTS} (omega arith))
 
-pub bit-one : (x : ℕ) → 0 < x → (_≡_ {A = ℕ} 1 (cond (ltb 0 x) 1 0)) × (1 ≤ 1)
+pub bit-one : (x : ℕ) → 0 < x → (_≡_ {A = ℕ} 1 (oneIf (ltb 0 x))) × (1 ≤ 1)
 bit-one x h = (rw (lt-ltb 0 x h), omega arith)
 
-pub bit-zero : (x : ℕ) → x ≤ 0 → (_≡_ {A = ℕ} 0 (cond (ltb 0 x) 1 0)) × (0 ≤ 1)
+pub bit-zero : (x : ℕ) → x ≤ 0 → (_≡_ {A = ℕ} 0 (oneIf (ltb 0 x))) × (0 ≤ 1)
 bit-zero x h = (rw (le-ltb 0 x h), omega arith)
 
 present-le : (p system : ℕ) → presentIn p system ≤ COMPONENTS

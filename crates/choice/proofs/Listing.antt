@@ -12,7 +12,8 @@ use Rattle.systems.specs.Choice.{NUMBERS, SYSTEMS, hydrocarbonOrder, order, tak
 use Rattle.systems.specs.Choice.{keep, inMask, presentOf, standingOf, candidatesFor, candidatesOf, listOf, chosenOf}
 use Rattle.systems.specs.Choice.{chooseBy, paddedOf, choiceFrom, choiceOf}
 use Rattle.systems.specs.Laws.Presence.{choose-is}
-use Rattle.systems.specs.Without.{HYDROCARBONS, keep-without}
+use Rattle.systems.specs.Laws.Without.{keep-without}
+use Rattle.systems.specs.Before.{HYDROCARBONS}
 use borrow.Author.Tests.{eq-eqb, ne-eqb}
 use Rattle.choice.specs.Inner.Keys.{Keyed}
 use Rattle.systems.specs.declared.Choice.{Choice}

@@ -9,7 +9,7 @@ ghost use lib.ListN.{getD, length, replicate};
 ghost use Rattle.systems.specs.Systems.{COMPONENTS, hasOf};
 ghost use Rattle.systems.specs.Choice.{NUMBERS, weights, order, weightedTo, presentOf, presentCount, presentIn};
 ghost use Rattle.systems.specs.Choice.{standingOf, candidatesFor, keep, takeOf, passOf, choiceFrom, chosenOf};
-ghost use Rattle.systems.specs.Choice.{chooseBy, hydrocarbonOrder, marksOf, choiceOf};
+ghost use Rattle.systems.specs.Choice.{oneIf, chooseBy, hydrocarbonOrder, marksOf, choiceOf};
 ghost use Rattle.choice.specs.Inner.Keys.{candidateAt, MOST_WEIGHTED, KEYS, Keyed, keyWeights};
 use systems::COMPONENTS;
 use systems::Choice;
@@ -128,7 +128,7 @@ fn above(mix: [u32; COMPONENTS]) -> u64
 
 // 1 where there are parts.
 fn one_if(x: u32) -> u32
-    ensures { λ r. ⌜ (r ≡ cond (ltb 0 x) 1 0) × (r ≤ 1) ⌝ }
+    ensures { λ r. ⌜ (r ≡ oneIf (ltb 0 x)) × (r ≤ 1) ⌝ }
 {
     if x > 0 {
         return 1;

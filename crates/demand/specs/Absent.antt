@@ -41,7 +41,8 @@ use Rattle.split.specs.Refused.{refused-8-exactly-when}
 use Rattle.split.specs.Laws.Clean.{row-held}
 use Rattle.split.specs.Laws.Places.{component-lt, component-has, rank-component}
 use Rattle.split.specs.Laws.Records.{cells-cell}
-use Rattle.split.specs.Rated.{IsRated, rated-fit}
+use Rattle.split.specs.Rated.{rated-fit}
+use Rattle.split.specs.AnswerCases.{IsRated}
 use Rattle.split.specs.declared.Answer.the-variants.{Rated, Refused}
 use Rattle.outcome.specs.Rate.{mixOf, systemsFor, countFor, ratingRefusal, splitAnswer, searchOutcome}
 use Rattle.outcome.specs.RatedOn.{InRange, RatedOn}

@@ -45,9 +45,9 @@ use Rattle.split.specs.Exact.{exactRating}
 use Rattle.split.specs.Laws.Places.{components-rise}
 use Rattle.split.specs.Laws.Spread.{near-spread}
 use Rattle.split.specs.Fits.{Fit}
-use Rattle.split.specs.Rated.{IsRated, fit-rated, rated-fit}
+use Rattle.split.specs.Rated.{fit-rated, rated-fit}
 use Rattle.split.specs.Accuracy.{rated-within}
-use Rattle.split.specs.AnswerCases.{numberOf}
+use Rattle.split.specs.AnswerCases.{numberOf, IsRated}
 use Rattle.split.specs.declared.Answer.{Answer}
 use Rattle.split.specs.declared.Answer.the-variants.{Rated, Refused}
 use Rattle.outcome.specs.Records.{systemAt, codeAt, systemsOf, codesOf, fitsOf}

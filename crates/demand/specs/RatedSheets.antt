@@ -13,7 +13,7 @@ use Rattle.sheet.specs.Read.{readOf}
 use Rattle.sheet.specs.declared.Split.{Split}
 use Rattle.sheet.specs.declared.Reading.{Reading}
 use Rattle.sheet.specs.declared.Reading.the-variants as reading
-use Rattle.split.specs.Rated.{IsRated}
+use Rattle.split.specs.AnswerCases.{IsRated}
 use Rattle.split.specs.declared.Answer.the-variants.{Rated, Refused}
 use Rattle.outcome.specs.Rate.{ROUNDS, splitAnswer, outcome, searchOutcome, sheetOutcomeBy, sheetOutcome}
 use Rattle.outcome.specs.Laws.Ends.{read-long}

@@ -13,7 +13,7 @@ use Rattle.analysis.specs.Required.{refusalIn}
 use Rattle.sheet.specs.Split.{noSplit}
 use Rattle.sheet.specs.declared.Split.{Split}
 use Rattle.systems.specs.Choice.{presentTo, choiceFrom}
-use Rattle.systems.specs.Without.{HYDROCARBONS, chooseBefore}
+use Rattle.systems.specs.Before.{HYDROCARBONS, chooseBefore}
 use Rattle.systems.specs.declared.Choice.{Choice}
 use Rattle.split.specs.Fold.{allTo, table}
 use Rattle.split.specs.Split.{RECORDS, systemOf}

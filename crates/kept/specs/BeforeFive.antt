@@ -37,10 +37,11 @@ use Rattle.mixture.specs.Laws.Bounds.{simplified-methane, simplified-least}
 use Rattle.systems.specs.Systems.{hydrocarbonSystems}
 use Rattle.systems.specs.Choice.{hydrocarbonOrder, fitnessOf, chooseBy, choiceFrom}
 use Rattle.systems.specs.Laws.Presence.{two-present}
-use Rattle.systems.specs.Without.{HYDROCARBONS, fitness-same}
-use Rattle.systems.specs.Laws.Full.{four-fittest}
+use Rattle.systems.specs.Laws.Without.{fitness-same}
+use Rattle.systems.specs.Before.{HYDROCARBONS}
+use Rattle.systems.specs.AllPresent.{four-fittest}
 use Rattle.systems.specs.declared.Choice.{Choice}
-use Rattle.split.specs.Rated.{IsRated}
+use Rattle.split.specs.AnswerCases.{IsRated}
 use Rattle.split.specs.declared.Answer.{Answer}
 use Rattle.split.specs.declared.Answer.the-variants.{Rated, Refused}
 use Rattle.outcome.specs.Rate.{ROUNDS, mixOf, checkedBy, splitAnswer, outcome, searchOutcome, sheetOutcome}

@@ -12,7 +12,7 @@ use Rattle.sheet.specs.Split.{splitCounts}
 use Rattle.sheet.specs.Sheet.{LISTED}
 use Rattle.systems.specs.Systems.{members, hydrocarbonSystems}
 use Rattle.systems.specs.Choice.{weights, hydrocarbonOrder}
-use Rattle.systems.specs.Without.{HYDROCARBONS}
+use Rattle.systems.specs.Before.{HYDROCARBONS}
 use Rattle.outcome.specs.Records.{codes}
 use Rattle.kept.specs.BeforeCheck.{registerBefore}
 

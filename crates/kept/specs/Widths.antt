@@ -10,10 +10,11 @@ use lib.IntN.{ℤ, pos, _+ℤ_, _*ℤ_}
 use lib.Signed.{quotZ}
 use Rattle.integer.specs.Figures.{neg, MILLION}
 use Rattle.formula.specs.Partial.{partialNumber}
-use Rattle.systems.specs.Without.{HYDROCARBONS}
+use Rattle.systems.specs.Before.{HYDROCARBONS}
 use Rattle.systems.specs.Systems.{COMPONENTS, memberOf, hasOf}
 use Rattle.split.specs.Fold.{sumTo, sumToZ, allTo, someTo, first, table}
-use Rattle.split.specs.Split.{SYSTEMS, RECORDS, systemOf, rankOf, recordedIn}
+use Rattle.split.specs.Split.{RECORDS, systemOf, rankOf, recordedIn}
+use Rattle.systems.specs.Choice.{SYSTEMS}
 use Rattle.split.specs.Rating.{spreadOf, inertNumber, verdict, PURE_METHANE}
 use Rattle.split.specs.Start.{startAmount}
 use Rattle.split.specs.Move.{imbalanceOf, componentOf, giverOf, takerOf, shift, betweenOf}

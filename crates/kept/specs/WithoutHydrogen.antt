@@ -29,8 +29,9 @@ use Rattle.mixture.specs.Inert.{inertFirst}
 use Rattle.systems.specs.Systems.{HYDROGEN, hasOf}
 use Rattle.systems.specs.Laws.Members.{hydrocarbons-are}
 use Rattle.systems.specs.Choice.{presentTo, presentCount, choiceFrom, choiceOf}
-use Rattle.systems.specs.Without.{HYDROCARBONS, present-before, candidates-before, choose-before, present-same}
-use Rattle.systems.specs.Without.{before-same}
+use Rattle.systems.specs.Without.{candidates-before, choose-before}
+use Rattle.systems.specs.Laws.Without.{present-before, present-same, before-same}
+use Rattle.systems.specs.Before.{HYDROCARBONS}
 use Rattle.split.specs.Split.{RECORDS, systemOf}
 use Rattle.split.specs.Search.{FIRST_LEVEL}
 use Rattle.split.specs.declared.Answer.{Answer}

@@ -1,18 +1,17 @@
--- The answer to proposed cells, case by case, from what its tests came to.
+-- The answer to proposed cells, case by case, from what its tests came to. Assumes nothing.
 use mathlib.Core.Path.{_≡_, refl, sym, ap, ap₂, _∙_}
 use mathlib.Core.Bool.{Bool, true, false, not, _&&_, cond}
 use mathlib.Core.List.{List}
-use Prim.Native.Nat.{ℕ, zero, suc, _+_, _*_, _≤_, _<_}
+use Prim.Native.Nat.{ℕ, _+_, _*_, _≤_, _<_}
 use native.Mathlib.Nat as N
-use native.Mathlib.Omega.{arith}
 use lib.Dec.{ltb}
 use lib.IntN.{ℤ, pos, natAbs, _+ℤ_, _-ℤ_, _*ℤ_}
 use lib.ListN.{length, getD}
 use lib.Signed.{quotZ}
 use borrow.Author.Tests.{not-true, not-false, lt-leb, le-leb}
 use Rattle.integer.specs.Figures.{neg, MILLION}
-use Rattle.split.specs.Fold.{sumTo, sumToZ}
-use Rattle.split.specs.Laws.Folds.{sum-same, greatest-same, least-same}
+use Rattle.split.specs.Fold.{sumTo}
+use Rattle.split.specs.Laws.Folds.{sum-same-ℤ, sum-same, greatest-same, least-same}
 use Rattle.split.specs.Split.{CELLS, partsOf, rowNumber, Stock}
 use Rattle.split.specs.Rating.{resums, someEmpty, spreadOf, weightedOf, meanOf, inertNumber, ratingOf, PURE_METHANE}
 use Rattle.split.specs.Find.{chosenFit, mixtureFit}
@@ -29,11 +28,6 @@ use Rattle.split_rows.specs.Inner.Carried.{Held}
 use Rattle.split_rows.specs.Laws.Rows.{unfit-empty, fit-held, parts-of}
 use Rattle.split_rows.specs.declared.Rows.{Rows}
 use Rattle.proposal.specs.Inner.Weighing.{Weighable, weighedTo, ratedBy, weighedOf}
-
-sumZ-same : (f g : ℕ → ℤ) (n : ℕ) → ((i : ℕ) → i < n → f i ≡ g i) → sumToZ f n ≡ sumToZ g n
-unfolding sumToZ
-sumZ-same f g zero h = refl
-sumZ-same f g (suc n) h = ap₂ _+ℤ_ (sumZ-same f g n (λ i l. h i (omega arith))) (h n (omega arith))
 
 -- ---- cells that re-sum, from their rows
 
@@ -60,7 +54,7 @@ module _ (limit : ℕ) (ch : List ℕ) (k : ℕ) (a : List ℕ) (n1 : ℕ) (st :
     weighed-same : weighedTo (r .numbers) (r .parts) k ≡ weightedOf ch k a
     unfolding weighedTo weightedOf
     weighed-same =
-        sumZ-same (λ s. listed (r .numbers) s *ℤ pos (getD (r .parts) s 0))
+        sum-same-ℤ (λ s. listed (r .numbers) s *ℤ pos (getD (r .parts) s 0))
         (λ s. rowNumber ch a s *ℤ pos (partsOf ch a s)) k
         (λ s l. ap₂ (λ x n. x *ℤ pos n) (held .carried .are s l) (parts-of ch k a r q st e s l))
 

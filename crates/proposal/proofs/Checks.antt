@@ -1,4 +1,4 @@
--- The tests of a proposed split, from what a loop has seen so far.
+-- The tests of a proposed split, from what a loop has seen so far. Assumes nothing.
 use mathlib.Core.Path.{_≡_, refl, sym, _∙_}
 use mathlib.Core.Bool.{Bool, true, false}
 use mathlib.Core.List.{List}

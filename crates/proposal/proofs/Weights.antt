@@ -1,4 +1,5 @@
--- The weighted sum of the first rows, that there is room for the next, and the answer that it leads to.
+-- The weighted sum of the first rows, that there is room for the next, and the answer that it leads to. Assumes
+-- nothing.
 use mathlib.Core.Path.{_≡_, refl, sym, ap, ap₂, _∙_}
 use mathlib.Core.Bool.{Bool, true, false}
 use mathlib.Core.List.{List}
@@ -12,8 +13,9 @@ use lib.ListN.{getD}
 use lib.Signed.{quotZ}
 use borrow.Author.Tests.{lt-ltb, le-ltb}
 use Rattle.integer.specs.Figures.{neg, MILLION}
-use Rattle.integer.specs.Laws.Ring.{natAbs-+, natAbs-*}
+use Rattle.integer.specs.Laws.Ring.{natAbs-+}
 use Rattle.formula.specs.WorkingRule.{LARGEST}
+use Rattle.split.specs.Laws.Size.{times-small}
 use Rattle.split.specs.Fold.{sumTo, sumToZ}
 use Rattle.split.specs.Rating.{spreadOf, inertNumber, PURE_METHANE}
 use Rattle.split.specs.declared.Answer.the-variants.{Rated, Refused}
@@ -33,9 +35,6 @@ prefix-le : (f : ℕ → ℕ) (n m : ℕ) → sumTo f n ≤ sumTo f (n + m)
 unfolding sumTo
 prefix-le f n zero = N.le-of-eq (ap (sumTo f) (sym (N.add-zero n)))
 prefix-le f n (suc m) = N.le-trans (prefix-le f n m) (rw (N.add-suc n m) (N.le-add-right (sumTo f (n + m)) (f (n + m))))
-
-times-small : (x : ℤ) (n : ℕ) → natAbs x ≤ LARGEST → natAbs (x *ℤ pos n) ≤ LARGEST * n
-times-small x n h = rw (natAbs-* x (pos n)) (N.mul-le-mul-right n h)
 
 pub weighed-none : (v : List ℤ) (p : List ℕ) (k : ℕ) → WeighedTo v p k 0 (pos 0)
 unfolding weighedTo sumToZ

@@ -1,5 +1,5 @@
 -- The signed arithmetic of a rating: each result fits 64 bits, and what is read back from the bits is the number
--- itself.
+-- itself. Assumes nothing.
 use mathlib.Core.Path.{_≡_, refl, ap, ap₂, _∙_, subst⁻¹}
 use Prim.Native.Nat.{ℕ, _+_, _*_, _-_, _^_, _≤_, _<_}
 use native.Mathlib.Nat as N

@@ -34,8 +34,8 @@ use Rattle.split.specs.Refused.{wider}
 use Rattle.split.specs.Split.{RECORDS, cellsOf, rowNumber}
 use Rattle.split.specs.Rating.{spreadOf, ratingOf, proposedOf, LIMIT}
 use Rattle.split.specs.Fits.{Fit}
-use Rattle.split.specs.AnswerCases.{numberOf, faultOf}
-use Rattle.split.specs.Rated.{IsRated, fit-rated}
+use Rattle.split.specs.AnswerCases.{numberOf, faultOf, IsRated}
+use Rattle.split.specs.Rated.{fit-rated}
 use Rattle.split.specs.Inner.Proposed.{Proposal}
 use Rattle.split.specs.Proposed.{proposedAnswer}
 use Rattle.split.specs.Laws.Proposed.{answer-proposed}
@@ -51,8 +51,8 @@ use Rattle.split.specs.declared.Found.{Found}
 use Rattle.outcome.specs.Records.{MOST_SYSTEMS, fitsOf, recordsOf}
 use Rattle.outcome.specs.Rate.{ROUNDS, FEWEST, mixOf, systemsFor, countFor, ratingRefusal, splitBy, splitAnswer}
 use Rattle.outcome.specs.Rate.{outcome, foundBy, foundOutcome, searched, searchOutcome}
-use Rattle.split.specs.Accuracy.{fit-few}
-use Rattle.split.specs.PutBack.{balance-fit}
+use Rattle.split.specs.Laws.Sums.{fit-few}
+use Rattle.split.specs.Laws.Fits.{balance-fit}
 use Rattle.split.specs.Laws.Size.{rating-small}
 use Rattle.rating.specs.Inner.Given.{FoundFit}
 use Rattle.outcome.specs.RatedOn.{InRange, RatedOn}

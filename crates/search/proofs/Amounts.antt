@@ -1,6 +1,6 @@
--- Amounts as the code has them: a row's parts, and the two that a move changes.
+-- Amounts as the code has them: a row's parts, and the two that a move changes. Assumes nothing.
 use Prim.Native.Nat.{ℕ, _+_, _*_, _-_, _≤_, _<_}
-use mathlib.Core.Path.{_≡_, ap₂}
+use mathlib.Core.Path.{_≡_}
 use mathlib.Core.List.{List}
 use lib.ListN.{set}
 use native.Mathlib.Omega.{arith}
@@ -8,29 +8,38 @@ use mir.Syntax.{w32}
 use mir.Val.{Fits}
 use Rattle.integer.specs.Figures.{MILLION}
 use Rattle.systems.specs.Systems.{COMPONENTS, Candidate}
-use Rattle.split.specs.Split.{SYSTEMS, cellOf, systemOf, amountOf, partsOf, Stock}
+use Rattle.split.specs.Split.{CELLS, cellOf, systemOf, partsOf, Stock}
+use Rattle.systems.specs.Choice.{SYSTEMS}
 use Rattle.split.specs.Move.{componentOf, giverOf, takerOf, shift, movedOf}
 use Rattle.split.specs.Laws.Rows.{parts-few}
+use Rattle.split_rows.specs.Inner.Row.{partsBy}
 
 -- row s, which is row g
 module _ {ch : List ℕ} {k : ℕ} {a : List ℕ} {s g : ℕ} (st : Stock ch k a) (h : g < k) (e : s ≡ g) where
   row : s < k
   row = rw e h
 
-  pub may-read : {j : ℕ} → j < 3 → Candidate (systemOf ch s) × (s < SYSTEMS) × (j < 3)
-  may-read l = (st .chosen .known s row, omega (arith, row, st .chosen .most), l)
+  pub may-add : Candidate (systemOf ch s) × (s < SYSTEMS) × (partsBy (systemOf ch s) a s ≤ MILLION)
+  unfolding partsBy partsOf
+  may-add = (st .chosen .known s row, omega (arith, row, st .chosen .most), parts-few ch k a s st row)
 
-  pub two-fit : {x y : ℕ} → x ≡ amountOf ch a s 0 → y ≡ amountOf ch a s 1 → x + y ≤ MILLION
-  unfolding partsOf
-  two-fit p q = omega (arith, parts-few ch k a s st row, p, q)
+  pub parts-is : {x : ℕ} → x ≡ partsBy (systemOf ch s) a s → x ≡ partsOf ch a s
+  unfolding partsBy partsOf
+  parts-is p = p
 
-  module _ {x y z : ℕ} (p : x ≡ amountOf ch a s 0) (q : y ≡ amountOf ch a s 1) (r : z ≡ amountOf ch a s 2) where
-    pub parts-is : x + y + z ≡ partsOf ch a s
-    unfolding partsOf
-    parts-is = ap₂ _+_ (ap₂ _+_ p q) r
+-- the cell of a move's component in its giver's row, which is the place of the try with less there too, and in its
+-- taker's; and the places of the tries with more
+abbrev pub giverCell : ℕ → ℕ
+giverCell move = giverOf move * COMPONENTS + componentOf move
 
-    pub all-fit : x + y + z ≤ MILLION
-    all-fit = omega (arith, parts-is, parts-few ch k a s st row)
+abbrev pub takerCell : ℕ → ℕ
+takerCell move = takerOf move * COMPONENTS + componentOf move
+
+abbrev pub giverMore : ℕ → ℕ
+giverMore move = CELLS + giverOf move * COMPONENTS + componentOf move
+
+abbrev pub takerMore : ℕ → ℕ
+takerMore move = CELLS + takerOf move * COMPONENTS + componentOf move
 
 -- a move from row f to row t, of component c
 module _ (a : List ℕ) (d m : ℕ) where

@@ -1,14 +1,13 @@
--- The search from its input, by the cases of the tests.
+-- The search from its input, by the cases of the tests. Assumes nothing.
 use Prim.Native.Nat.{ℕ, _≤_, _<_}
 use mathlib.Core.Path.{_≡_, refl, sym, ap, _∙_}
-use mathlib.Core.Bool.{Bool, true, false, not, _||_, _&&_, cond}
+use mathlib.Core.Bool.{Bool, true, false, not, _||_, _&&_}
 use mathlib.Core.List.{List}
 use lib.ListN.{replicate}
 use lib.Dec.{ltb}
 use borrow.Author.Tests.{not-true, not-false, le-leb, lt-leb, ltb-true, ltb-false}
-use native.Mathlib.Omega.{arith}
 use Rattle.split.specs.Split.{CELLS, Stock}
-use Rattle.split.specs.Laws.Members.{both-left, both-right}
+use Rattle.split.specs.Laws.Members.{both-left, both-right, differ}
 use Rattle.split.specs.Rating.{someEmpty}
 use Rattle.split.specs.Start.{startOf}
 use Rattle.split.specs.Search.{FIRST_LEVEL, foundOf, searchOf}
@@ -22,9 +21,6 @@ use Rattle.split_rows.specs.Rows.{rowsOf}
 use Rattle.split_rows.specs.Inner.Carried.{Held}
 use Rattle.split_rows.specs.Laws.Rows.{unfit-empty, fit-held}
 use Rattle.split_rows.specs.declared.Rows.{Rows}
-
-clash : true ≡ false → _≡_ {A = ℕ} 1 0
-clash u = ap (λ x. cond x 1 0) u
 
 -- what is turned away before the start
 module _ (mix ch : List ℕ) (k limit level allowance : ℕ) where
@@ -45,7 +41,7 @@ module _ (mix ch : List ℕ) (k limit level allowance : ℕ) where
             → foundOf (replicate CELLS 0) Unfit ≡ findOf mix ch k limit level allowance
         go false y f g = find-none mix ch k level limit allowance (rw (le-leb level FIRST_LEVEL h, f, searchFit))
         go true false f g = find-none mix ch k level limit allowance (rw (le-leb level FIRST_LEVEL h, f, g, searchFit))
-        go true true f g = absurd (let w : 1 ≡ 0 = clash (rw (f, g) at no) in omega arith)
+        go true true f g = absurd (differ true refl (rw (f, g) at no))
 
     pub find-turned : (ltb FIRST_LEVEL level || not b) ≡ true
         → foundOf (replicate CELLS 0) Unfit ≡ findOf mix ch k limit level allowance
@@ -61,7 +57,7 @@ not-turned : (level : ℕ) (b : Bool) → (ltb FIRST_LEVEL level || not b) ≡ f
 not-turned level b e = go (ltb FIRST_LEVEL level) refl e
   where
     go : (x : Bool) → ltb FIRST_LEVEL level ≡ x → (x || not b) ≡ false → (level ≤ FIRST_LEVEL) × (not b ≡ false)
-    go true f g = absurd (let w : 1 ≡ 0 = clash g in omega arith)
+    go true f g = absurd (differ true refl g)
     go false f g = (ltb-false FIRST_LEVEL level f, g)
 
 -- what is not: a is its start, r the rows of it

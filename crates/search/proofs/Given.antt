@@ -1,4 +1,4 @@
--- The totals of a split's numbers, where a move's giver has given, and where its taker has taken too.
+-- The totals of a split's numbers, where a move's giver has given, and where its taker has taken too. Assumes nothing.
 use Prim.Native.Nat.{ℕ, zero, suc, _+_, _*_, _-_, _%_, _≤_, _<_}
 use mathlib.Core.Path.{_≡_, refl, sym, ap, ap₂, _∙_}
 use mathlib.Core.Bool.{Bool, true, false, not}
@@ -13,8 +13,10 @@ use Rattle.formula.specs.WorkingRule.{LARGEST}
 use Rattle.formula.specs.Laws.Partial.{partial-small}
 use Rattle.systems.specs.Systems.{COMPONENTS, memberOf, hasOf}
 use Rattle.systems.specs.Laws.Members.{has-cases}
+use Rattle.split.specs.Laws.Size.{number-small}
 use Rattle.split.specs.Laws.Folds.{sum-same}
-use Rattle.split.specs.Split.{SYSTEMS, CELLS, cellOf, systemOf, partsOf, rowNumber, Sound}
+use Rattle.split.specs.Split.{CELLS, cellOf, systemOf, partsOf, rowNumber, Sound}
+use Rattle.systems.specs.Choice.{SYSTEMS}
 use Rattle.split.specs.Move.{MOVES, imbalanceOf, componentOf, giverOf, takerOf, movedOf, lowersOf, canOf}
 use Rattle.split.specs.Laws.Members.{Three, three}
 use Rattle.split.specs.Laws.Rows.{parts-few}
@@ -25,15 +27,16 @@ use Rattle.split.specs.Laws.Steps.{bt, rest-same, giver-changed, taker-changed}
 use Rattle.split_rows.specs.Rows.{listed}
 use Rattle.split_rows.specs.Inner.Carried.{Held, Workable, partsWith}
 use Rattle.integer.specs.Laws.Bits.{back}
-use Rattle.search.specs.Inner.Tried.{triedRow, columnIn, wantedOf, Tried, Triable}
+use Rattle.search.specs.Inner.Tried.{triedRow, triedComponent, wantedOf, Tried, Triable}
 use Rattle.search.specs.Inner.Balance.{markOf, Totalled}
-use Rattle.search.specs.Inner.Scan.{afterGiving, givesOf, takesOf, Past, Scanned}
+use Rattle.search.specs.Inner.Scan.{afterGiving, givesOf, Past, Scanned}
 use Rattle.search.proofs.Squares.{MayExchange, Exchanged, MayBalance, sum-few, squares-few, under}
 use Rattle.search.proofs.Squares.{imbalance-is, has-mark, put-total}
-use Rattle.search.proofs.Givers.{Gives, gives-true, take-same, take-is, scan-taker, scan-component}
+use Rattle.search.proofs.Givers.{takesOf, Gives, gives-true, take-same, take-is, scan-taker, scan-component}
 use Rattle.search.proofs.Givers.{past-giver, scan-total, scan-lacks, scan-fit, scan-can, scan-found}
 use Rattle.search.proofs.Trials.{with-is}
 use Rattle.search.proofs.Tries.{less-is, taker-triable, taker-wanted}
+use Rattle.search.proofs.Amounts.{giverCell}
 
 -- the number that try i leads to, worked out, and what is known of tries then
 abbrev pub Worked : List ℕ → ℕ → List ℕ → ℕ → ℕ → ℤ → List ℤ → Type 0
@@ -49,7 +52,7 @@ total-same v w k sum squares h t = record {
       (λ s l. ap (λ z. markOf z * markOf z) (h s l));
 }
 
-module _ (v : ℕ → ℤ) (k sum squares : ℕ) (most : k ≤ 8) (small : (s : ℕ) → natAbs (v s) ≤ LARGEST)
+module _ (v : ℕ → ℤ) (k sum squares : ℕ) (most : k ≤ SYSTEMS) (small : (s : ℕ) → natAbs (v s) ≤ LARGEST)
     (t : Totalled v k sum squares) (j : ℕ) (l : j < k) (p q : ℤ) (e : p ≡ v j) where
   pub may-exchange : natAbs q ≤ LARGEST → MayExchange j p q sum squares
   may-exchange h =
@@ -69,10 +72,6 @@ module _ (v : ℕ → ℤ) (k sum squares : ℕ) (most : k ≤ 8) (small : (s : 
   exchanged-is w h f x y o = rw (o .0, o .1, e, f) (put-total v k sum squares most (λ s _. small s) t w j l h)
 
 -- the numbers are small
-pub number-small : (ch a : List ℕ) (s : ℕ) → natAbs (rowNumber ch a s) ≤ LARGEST
-unfolding rowNumber
-number-small ch a s = partial-small _ _ _ _
-
 with-small : (ch a : List ℕ) (s c n : ℕ) → natAbs (numberWith ch a s c n) ≤ LARGEST
 unfolding numberWith
 with-small ch a s c n = partial-small _ _ _ _
@@ -147,11 +146,11 @@ module _ (ch : List ℕ) (k : ℕ) (a : List ℕ) (s c d : ℕ) (so : Sound ch k
 row-at : (f c : ℕ) → f < SYSTEMS → c < COMPONENTS → triedRow (f * COMPONENTS + c) ≡ f
 row-at f c h l = omega arith
 
-column-at : (f c : ℕ) → c < COMPONENTS → columnIn (f * COMPONENTS + c) ≡ c
+column-at : (f c : ℕ) → c < COMPONENTS → triedComponent (f * COMPONENTS + c) ≡ c
 column-at f c l = omega arith
 
 module _ (ch : List ℕ) (k : ℕ) (a : List ℕ) (v : List ℤ) (held : Held ch k a v) where
-  most : k ≤ 8
+  most : k ≤ SYSTEMS
   most = held .sound .stock .chosen .most
 
   pub first-total : (sum squares : ℕ) → Totalled (listed v) k sum squares → Totalled (rowNumber ch a) k sum squares
@@ -181,38 +180,38 @@ module _ (ch : List ℕ) (k : ℕ) (a : List ℕ) (v : List ℤ) (held : Held ch
       low : componentOf m < COMPONENTS
       low = omega (arith, h)
 
-      at-row : triedRow (giverOf m * COMPONENTS + componentOf m) ≡ giverOf m
+      at-row : triedRow (giverCell m) ≡ giverOf m
       at-row = row-at (giverOf m) (componentOf m) (omega arith) low
 
-      at-column : columnIn (giverOf m * COMPONENTS + componentOf m) ≡ componentOf m
+      at-column : triedComponent (giverCell m) ≡ componentOf m
       at-column = column-at (giverOf m) (componentOf m) low
 
-      at-below : giverOf m * COMPONENTS + componentOf m < CELLS
+      at-below : giverCell m < CELLS
       at-below = omega (arith, low)
 
-      pub give-triable : Triable ch k a d (giverOf m * COMPONENTS + componentOf m)
+      pub give-triable : Triable ch k a d (giverCell m)
       give-triable = record {
         below = omega (arith, at-below);
         row = rw at-row (gv .from);
         had = λ l. af .had;
         room = λ l. absurd (omega (arith, at-below));
-        workable = rw (at-row, at-column, sym (less-is a d (giverOf m * COMPONENTS + componentOf m) at-below))
+        workable = rw (at-row, at-column, sym (less-is a d (giverCell m) at-below))
             (less-workable ch k a (giverOf m) (componentOf m) d (held .sound) (gv .from) (gv .gives) (af .had)
             (af .kept));
       }
 
-      give-wanted : wantedOf ch a d (giverOf m * COMPONENTS + componentOf m) ≡ numberWith ch a (giverOf m)
+      give-wanted : wantedOf ch a d (giverCell m) ≡ numberWith ch a (giverOf m)
           (componentOf m) (cellOf a (giverOf m) (componentOf m) - d)
       unfolding wantedOf
-      give-wanted = rw (at-row, at-column, sym (less-is a d (giverOf m * COMPONENTS + componentOf m) at-below))
+      give-wanted = rw (at-row, at-column, sym (less-is a d (giverCell m) at-below))
 
-      pub give-worked : (x : ℤ) → (x ≡ wantedOf ch a d (giverOf m * COMPONENTS + componentOf m)) × (natAbs x ≤ LARGEST)
+      pub give-worked : (x : ℤ) → (x ≡ wantedOf ch a d (giverCell m)) × (natAbs x ≤ LARGEST)
           → (x ≡ numberWith ch a (giverOf m) (componentOf m) (cellOf a (giverOf m) (componentOf m) - d))
           × (natAbs x ≤ LARGEST)
       give-worked x p = (p .0 ∙ give-wanted, p .1)
 
       module _ (sum squares : ℕ) (t : Totalled (rowNumber ch a) k sum squares) (z : ℤ)
-          (w : (z ≡ wantedOf ch a d (giverOf m * COMPONENTS + componentOf m)) × (natAbs z ≤ LARGEST)) where
+          (w : (z ≡ wantedOf ch a d (giverCell m)) × (natAbs z ≤ LARGEST)) where
         abbrev old : ℤ
         old = listed v (giverOf m)
 

@@ -1,22 +1,23 @@
--- Moves by their giver and their taker, and the scan over them.
+-- Moves by their giver and their taker, and the scan over them. Assumes nothing.
 use Prim.Native.Nat.{ℕ, _+_, _*_, _-_, _%_, _≤_, _<_}
-use mathlib.Core.Path.{_≡_, refl, sym, ap, _∙_}
-use mathlib.Core.Bool.{Bool, true, false, not, cond}
+use mathlib.Core.Path.{_≡_, refl, sym, _∙_}
+use mathlib.Core.Bool.{Bool, true, false, not, _&&_}
 use mathlib.Core.List.{List}
 use native.Mathlib.Omega.{arith}
 use lib.Dec.{eqb, ltb}
 use lib.IntN.{ℤ}
 use borrow.Author.Tests.{lt-ltb, eq-eqb, ne-eqb, ltb-true, ltb-false, not-true, not-false}
 use Rattle.systems.specs.Systems.{hasOf}
-use Rattle.split.specs.Split.{SYSTEMS, cellOf, systemOf, partsOf, Sound}
-use Rattle.split.specs.Laws.Members.{both-left, both-right}
+use Rattle.split.specs.Split.{cellOf, systemOf, partsOf, Sound}
+use Rattle.systems.specs.Choice.{SYSTEMS}
+use Rattle.split.specs.Laws.Members.{both-left, both-right, differ}
 use Rattle.split.specs.Move.{MOVES, componentOf, giverOf, takerOf, betweenOf, affordsOf, lowersOf, canOf, firstOf}
 use Rattle.split.specs.Laws.Folds.{first-here, first-none}
 use Rattle.split.specs.Laws.Scan.{first-skip}
 use Rattle.split.specs.Inner.Moves.{MayMove}
 use Rattle.split.specs.Laws.Tests.{Can, can-true, can-is, between-true, not-had, affords-is}
 use Rattle.search.specs.Inner.Balance.{Totalled}
-use Rattle.search.specs.Inner.Scan.{afterGiving, givesOf, takesOf, Past, Scanned}
+use Rattle.search.specs.Inner.Scan.{afterGiving, givesOf, Past, Scanned}
 use Rattle.search.specs.Inner.Tried.{Tried}
 
 -- the pairs of a giver and a taker
@@ -24,11 +25,15 @@ abbrev PAIRS : ℕ
 PAIRS = SYSTEMS * SYSTEMS
 
 clash : {A : Type 0} (b : Bool) → b ≡ true → b ≡ false → A
-clash b p q = absurd (let z : _≡_ {A = ℕ} 0 1 = ap (λ x. cond x 0 1) (sym p ∙ q) in omega arith)
+clash b p q = absurd (differ b p q)
 
 by-test : (P : Bool → Type 0) (b : Bool) → (b ≡ true → P true) → (b ≡ false → P false) → P b
 by-test P true p q = p refl
 by-test P false p q = q refl
+
+-- row t is not row f, and has component c
+unfoldable pub takesOf : List ℕ → ℕ → ℕ → ℕ → Bool
+takesOf systems c f t = not (eqb f t) && hasOf (systemOf systems t) c
 
 -- what the giver's tests come to: it is row f, and the component c
 module _ {ch : List ℕ} {k : ℕ} {a : List ℕ} (d m : ℕ) {f c : ℕ} {b : Bool}

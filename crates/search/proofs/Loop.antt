@@ -1,4 +1,4 @@
--- A turn, and a search's loop, from what the code has in hand.
+-- A turn, and a search's loop, from what the code has in hand. Assumes nothing.
 use Prim.Native.Nat.{ℕ, suc, _+_, _*_, _-_, _%_, _^_, _≤_, _<_}
 use mathlib.Core.Path.{_≡_, refl, sym, ap, _∙_}
 use mathlib.Core.Bool.{Bool}

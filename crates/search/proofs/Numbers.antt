@@ -1,4 +1,4 @@
--- The partial number of a candidate at a mixture is answered, and is small.
+-- The partial number of a candidate at a mixture is answered, and is small. Assumes nothing.
 use Prim.Native.Nat.{ℕ, _+_, _≤_}
 use mathlib.Core.Path.{_≡_, refl, ap, _∙_}
 use native.Mathlib.Omega.{arith}

@@ -1,4 +1,4 @@
--- The partial numbers and the tries after a move, from what the code has in hand.
+-- The partial numbers and the tries after a move, from what the code has in hand. Assumes nothing.
 use Prim.Native.Nat.{ℕ, _+_, _*_, _≤_, _<_}
 use mathlib.Core.Path.{_≡_, refl, sym, ap, _∙_}
 use mathlib.Core.Bool.{Bool, true, false}
@@ -14,7 +14,8 @@ use mir.Val.{toZ, ofZ}
 use borrow.Author.Tests.{eqb-true, eqb-false}
 use Rattle.formula.specs.WorkingRule.{LARGEST}
 use Rattle.systems.specs.Systems.{COMPONENTS}
-use Rattle.split.specs.Split.{SYSTEMS, CELLS, Sound}
+use Rattle.split.specs.Split.{CELLS, Sound}
+use Rattle.systems.specs.Choice.{SYSTEMS}
 use Rattle.split.specs.Move.{componentOf, giverOf, takerOf, movedOf}
 use Rattle.split.specs.Inner.Moves.{MayMove}
 use Rattle.split.specs.Laws.Tests.{BetweenRows}
@@ -29,6 +30,7 @@ use Rattle.search.proofs.Trials.{renumber-ok}
 use Rattle.search.proofs.Tries.{taker-triable, taker-wanted, same-wanted, giver-back, taker-back}
 use Rattle.search.proofs.Givers.{fit-gives}
 use Rattle.search.proofs.Given.{Worked, give-worked, give-triable}
+use Rattle.search.proofs.Amounts.{giverMore, giverCell, takerCell, takerMore}
 
 passed : (x : ℤ) → natAbs x ≤ LARGEST → toZ w64 (ofZ w64 x) ≡ x
 passed x h = back x (N.le-trans h (lit≤ tt))
@@ -68,7 +70,7 @@ module _ (ch : List ℕ) (k : ℕ) (a : List ℕ) (d m : ℕ) (n : List ℤ) (he
 
   -- the giver's number may be put, then the taker's
   giver-may : (t : List ℤ) (x : ℤ) → length t ≡ TRIES → natAbs x ≤ LARGEST
-      → MayPut n t (giverOf m) (CELLS + giverOf m * COMPONENTS + componentOf m) (toZ w64 (ofZ w64 x))
+      → MayPut n t (giverOf m) (giverMore m) (toZ w64 (ofZ w64 x))
   giver-may t x l h =
       (omega (arith, low), omega (arith, low), l, small x h, held .small .each (giverOf m) (between .from))
 
@@ -77,7 +79,7 @@ module _ (ch : List ℕ) (k : ℕ) (a : List ℕ) (d m : ℕ) (n : List ℤ) (he
     taker-still = rw e (getD-set-other n (giverOf m) (takerOf m) x (pos 0) (λ z. between .apart (sym z)))
 
     taker-may : (t : List ℤ) (y : ℤ) → length t ≡ TRIES → natAbs y ≤ LARGEST
-        → MayPut v t (takerOf m) (takerOf m * COMPONENTS + componentOf m) (toZ w64 (ofZ w64 y))
+        → MayPut v t (takerOf m) (takerCell m) (toZ w64 (ofZ w64 y))
     taker-may t y l h = (
       omega (arith, low),
       omega (arith, low),
@@ -88,37 +90,37 @@ module _ (ch : List ℕ) (k : ℕ) (a : List ℕ) (d m : ℕ) (n : List ℤ) (he
 
   -- the tries after the move: those of the other rows, and the two that would take it back
   module _ (t u w : List ℤ) (x y : ℤ) (kt : Tried ch k a d t)
-      (bu : Back t (giverOf m) (CELLS + giverOf m * COMPONENTS + componentOf m) x u)
-      (bw : Back u (takerOf m) (takerOf m * COMPONENTS + componentOf m) y w) (ex : x ≡ listed n (giverOf m))
+      (bu : Back t (giverOf m) (giverMore m) x u)
+      (bw : Back u (takerOf m) (takerCell m) y w) (ex : x ≡ listed n (giverOf m))
       (ey : y ≡ listed n (takerOf m)) where
     abbrev Right : ℕ → Type 0
     Right i = (listed w i ≡ wantedOf ch (movedOf a m d) d i) × (natAbs (listed w i) ≤ LARGEST)
 
-    taker-right : Right (takerOf m * COMPONENTS + componentOf m)
+    taker-right : Right (takerCell m)
     taker-right =
         let o = bw .here ∙ ey in (
-          taker-back ch k a d m so fit (listed w (takerOf m * COMPONENTS + componentOf m))
+          taker-back ch k a d m so fit (listed w (takerCell m))
               (o ∙ held .carried .are (takerOf m) (between .to)),
           rw o (held .small .each (takerOf m) (between .to)),
         )
 
-    giver-row : giverOf m ≡ triedRow (CELLS + giverOf m * COMPONENTS + componentOf m)
+    giver-row : giverOf m ≡ triedRow (giverMore m)
     giver-row = omega (arith, low)
 
-    other-row : triedRow (CELLS + giverOf m * COMPONENTS + componentOf m) ≡ takerOf m → ⊥
+    other-row : triedRow (giverMore m) ≡ takerOf m → ⊥
     other-row e = between .apart (giver-row ∙ e)
 
-    giver-right : Right (CELLS + giverOf m * COMPONENTS + componentOf m)
+    giver-right : Right (giverMore m)
     giver-right =
-        let o = bw .kept (CELLS + giverOf m * COMPONENTS + componentOf m) (omega (arith, low)) other-row ∙ bu .here
+        let o = bw .kept (giverMore m) (omega (arith, low)) other-row ∙ bu .here
         ∙ ex in (
-          giver-back ch k a d m so fit (listed w (CELLS + giverOf m * COMPONENTS + componentOf m))
+          giver-back ch k a d m so fit (listed w (giverMore m))
               (o ∙ held .carried .are (giverOf m) (between .from)),
           rw o (held .small .each (giverOf m) (between .from)),
         )
 
     module _ (i : ℕ) (h : i < TRIES) (l : triedRow i < k) (z : listed w i ≡ UNTRIED → ⊥) where
-      right-giver : (i ≡ CELLS + giverOf m * COMPONENTS + componentOf m → ⊥) → (triedRow i ≡ takerOf m → ⊥) → Right i
+      right-giver : (i ≡ giverMore m → ⊥) → (triedRow i ≡ takerOf m → ⊥) → Right i
       right-giver p q = go (eqb (triedRow i) (giverOf m)) refl
         where
           go : (b : Bool) → eqb (triedRow i) (giverOf m) ≡ b → Right i
@@ -128,8 +130,8 @@ module _ (ch : List ℕ) (k : ℕ) (a : List ℕ) (d m : ℕ) (n : List ℤ) (he
               let r = kt .known i h l (λ g. z (o ∙ g)) in
               (o ∙ r .0 ∙ sym (same-wanted ch k a d m so fit i h l (eqb-false _ _ e) q), rw o (r .1))
 
-      right-taker : (i ≡ takerOf m * COMPONENTS + componentOf m → ⊥)
-          → (i ≡ CELLS + giverOf m * COMPONENTS + componentOf m → ⊥) → Right i
+      right-taker : (i ≡ takerCell m → ⊥)
+          → (i ≡ giverMore m → ⊥) → Right i
       right-taker p q = go (eqb (triedRow i) (takerOf m)) refl
         where
           go : (b : Bool) → eqb (triedRow i) (takerOf m) ≡ b → Right i
@@ -138,13 +140,13 @@ module _ (ch : List ℕ) (k : ℕ) (a : List ℕ) (d m : ℕ) (n : List ℤ) (he
 
       right : Right i
       right =
-          go (eqb i (takerOf m * COMPONENTS + componentOf m)) (eqb i (CELLS + giverOf m * COMPONENTS + componentOf m))
+          go (eqb i (takerCell m)) (eqb i (giverMore m))
           refl refl
         where
-          go : (b c : Bool) → eqb i (takerOf m * COMPONENTS + componentOf m) ≡ b
-              → eqb i (CELLS + giverOf m * COMPONENTS + componentOf m) ≡ c → Right i
-          go true c e f = rw (eqb-true i (takerOf m * COMPONENTS + componentOf m) e) taker-right
-          go false true e f = rw (eqb-true i (CELLS + giverOf m * COMPONENTS + componentOf m) f) giver-right
+          go : (b c : Bool) → eqb i (takerCell m) ≡ b
+              → eqb i (giverMore m) ≡ c → Right i
+          go true c e f = rw (eqb-true i (takerCell m) e) taker-right
+          go false true e f = rw (eqb-true i (giverMore m) f) giver-right
           go false false e f = right-taker (eqb-false _ _ e) (eqb-false _ _ f)
 
     tried-moved : Tried ch k (movedOf a m d) d w
@@ -158,12 +160,12 @@ module _ (ch : List ℕ) (k : ℕ) (a : List ℕ) (d m : ℕ) (n : List ℤ) (he
       → Held ch k (movedOf a m d) v
   numbers-moved x y v e r = rw e (record { sound = sound-moved ch k a d m so fit; carried = r .0; small = r .1 })
 
-  renumbered : (x y : ℤ) (v v' t u w : List ℤ) → (x ≡ wantedOf ch a d (giverOf m * COMPONENTS + componentOf m))
+  renumbered : (x y : ℤ) (v v' t u w : List ℤ) → (x ≡ wantedOf ch a d (giverCell m))
       × (natAbs x ≤ LARGEST)
-      → (y ≡ wantedOf ch a d (CELLS + takerOf m * COMPONENTS + componentOf m)) × (natAbs y ≤ LARGEST)
+      → (y ≡ wantedOf ch a d (takerMore m)) × (natAbs y ≤ LARGEST)
       → v ≡ set n (giverOf m) (toZ w64 (ofZ w64 x)) → v' ≡ set v (takerOf m) (toZ w64 (ofZ w64 y)) → Tried ch k a d t
-      → Back t (giverOf m) (CELLS + giverOf m * COMPONENTS + componentOf m) (listed n (giverOf m)) u
-      → Back u (takerOf m) (takerOf m * COMPONENTS + componentOf m) (listed v (takerOf m)) w
+      → Back t (giverOf m) (giverMore m) (listed n (giverOf m)) u
+      → Back u (takerOf m) (takerCell m) (listed v (takerOf m)) w
       → Held ch k (movedOf a m d) v' × Tried ch k (movedOf a m d) d w
   renumbered x y v v' t u w p q e f kt bu bw = (
     numbers-moved x y v' (f ∙ ap (λ z. set z (takerOf m) (toZ w64 (ofZ w64 y))) e)

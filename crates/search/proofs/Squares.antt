@@ -1,4 +1,4 @@
--- The imbalance from the sums of marks and of their squares.
+-- The imbalance from the sums of marks and of their squares. Assumes nothing.
 use Prim.Native.Nat.{ℕ, zero, suc, _+_, _*_, _-_, _≤_, _<_}
 use mathlib.Core.Path.{_≡_, refl, ap, _∙_}
 use mathlib.Core.List.{[], _∷_}
@@ -15,7 +15,7 @@ use Rattle.integer.specs.Laws.Order.{sub-ge}
 use Rattle.integer.specs.Laws.Normal.{X, K, _⊕_, _⊗_, ⊖, solve, env}
 use Rattle.formula.specs.WorkingRule.{LARGEST}
 use Rattle.split.specs.Fold.{sumTo}
-use Rattle.split.specs.Split.{SYSTEMS}
+use Rattle.systems.specs.Choice.{SYSTEMS}
 use Rattle.split.specs.Laws.Folds.{sum-but, sum-has}
 use Rattle.split.specs.Move.{squareOf, imbalanceOf}
 use Rattle.search.specs.Inner.Balance.{markOf, Totalled}
@@ -87,7 +87,7 @@ Exchanged old new sum squares x y =
 
 abbrev pub MayBalance : ℕ → ℕ → ℕ → Type 0
 MayBalance k sum squares =
-    (k ≤ 8) × (sum ≤ 3200000000) × (squares ≤ 1280000000000000000) × (sum * sum ≤ k * squares)
+    (k ≤ SYSTEMS) × (sum ≤ 3200000000) × (squares ≤ 1280000000000000000) × (sum * sum ≤ k * squares)
 
 -- a mark from the number's bits
 mark-back : (o : ℤ) (p : ℕ) → natAbs o ≤ LARGEST → p ≡ markOf (toZ w64 (ofZ w64 o)) → p ≡ markOf o
@@ -169,7 +169,7 @@ sum-most f b zero h = omega arith
 sum-most f b (suc n) h = omega (arith, sum-most f b n (λ i l. h i (omega arith)), h n (omega arith), N.mul-suc b n)
 
 -- the totals of k numbers
-module _ (v : ℕ → ℤ) (k sum squares : ℕ) (most : k ≤ 8) (small : (i : ℕ) → i < k → natAbs (v i) ≤ LARGEST)
+module _ (v : ℕ → ℤ) (k sum squares : ℕ) (most : k ≤ SYSTEMS) (small : (i : ℕ) → i < k → natAbs (v i) ≤ LARGEST)
     (t : Totalled v k sum squares) where
   abbrev u : ℕ → ℕ
   u s = markOf (v s)

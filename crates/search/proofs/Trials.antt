@@ -1,4 +1,4 @@
--- A move's two rows worked out, the others carried.
+-- A move's two rows worked out, the others carried. Assumes nothing.
 use Prim.Native.Nat.{ℕ, _+_, _-_, _≤_, _<_}
 use mathlib.Core.Path.{_≡_, refl, sym, _∙_}
 use mathlib.Core.Bool.{Bool, true, false}
@@ -18,7 +18,8 @@ use Rattle.formula.specs.Partial.{partialNumber}
 use Rattle.ternary.specs.Answer.{formulaOf}
 use Rattle.ternary.specs.declared.Partial.{Partial}
 use Rattle.ternary.specs.declared.Partial.the-variants.{Number, Refused}
-use Rattle.split.specs.Split.{SYSTEMS, cellOf, systemOf, partsOf, rowNumber, Sound}
+use Rattle.split.specs.Split.{cellOf, systemOf, partsOf, rowNumber, Sound}
+use Rattle.systems.specs.Choice.{SYSTEMS}
 use Rattle.split.specs.Rating.{spreadOf}
 use Rattle.split.specs.Move.{componentOf, giverOf, takerOf, movedOf}
 use Rattle.split.specs.Laws.Folds.{greatest-same, least-same}

@@ -1,4 +1,4 @@
--- The numbers that tries lead to: worked out, kept, forgotten.
+-- The numbers that tries lead to: worked out, kept, forgotten. Assumes nothing.
 use Prim.Native.Nat.{ℕ, _+_, _*_, _-_, _≤_, _<_}
 use mathlib.Core.Path.{_≡_, refl, sym, ap, _∙_}
 use mathlib.Core.Bool.{Bool, true, false}
@@ -14,7 +14,8 @@ use mir.Val.{Fits, toZ, ofZ}
 use borrow.Author.Tests.{eqb-true, eqb-false, lt-ltb, le-ltb, ltb-true, ltb-false}
 use Rattle.formula.specs.WorkingRule.{LARGEST}
 use Rattle.systems.specs.Systems.{COMPONENTS, memberOf}
-use Rattle.split.specs.Split.{SYSTEMS, CELLS, cellOf, systemOf, rowNumber, Sound}
+use Rattle.split.specs.Split.{CELLS, cellOf, systemOf, rowNumber, Sound}
+use Rattle.systems.specs.Choice.{SYSTEMS}
 use Rattle.split.specs.Move.{componentOf, giverOf, takerOf, movedOf}
 use Rattle.split.specs.Laws.Members.{three}
 use Rattle.split.specs.Laws.Moves.{cell-row}
@@ -23,11 +24,12 @@ use Rattle.split.specs.Inner.Steps.{numberWith}
 use Rattle.split.specs.Laws.Steps.{Changed, number-with, bt, component-low, may-move, giver-changed, taker-changed}
 use Rattle.split_rows.specs.Rows.{listed}
 use Rattle.split_rows.specs.Inner.Carried.{Workable}
-use Rattle.search.specs.Inner.Tried.{TRIES, UNTRIED, triedRow, columnIn, triedOf, wantedOf, Tried, Triable}
+use Rattle.search.specs.Inner.Tried.{TRIES, UNTRIED, triedRow, triedComponent, triedOf, wantedOf, Tried, Triable}
 use Rattle.search.specs.Inner.Tried.{Forgot}
 use Rattle.integer.specs.Laws.Bits.{back}
 use Rattle.split_rows.specs.Laws.Machine.{pass}
 use Rattle.search.proofs.Trials.{taker-workable}
+use Rattle.search.proofs.Amounts.{giverMore, giverCell, takerCell, takerMore}
 
 -- the amount that a try leads to
 pub less-is : (a : List ℕ) (d i : ℕ) → i < CELLS → getD a i 0 - d ≡ triedOf a d i
@@ -78,7 +80,7 @@ module _ {ch : List ℕ} {k : ℕ} {a : List ℕ} {d s c : ℕ} {t : List ℤ} (
   less-row : triedRow (s * COMPONENTS + c) ≡ s
   less-row = omega (arith, pre .0, pre .1)
 
-  less-column : columnIn (s * COMPONENTS + c) ≡ c
+  less-column : triedComponent (s * COMPONENTS + c) ≡ c
   less-column = omega (arith, pre .1)
 
   less-low : s * COMPONENTS + c < CELLS
@@ -108,7 +110,7 @@ module _ {ch : List ℕ} {k : ℕ} {a : List ℕ} {d s c : ℕ} {t : List ℤ} (
   more-row : triedRow here ≡ s
   more-row = omega (arith, pre .0, pre .1)
 
-  more-column : columnIn here ≡ c
+  more-column : triedComponent here ≡ c
   more-column = omega (arith, pre .1)
 
   more-high : CELLS ≤ here
@@ -148,21 +150,21 @@ module _ (ch : List ℕ) (k : ℕ) (a : List ℕ) (d m : ℕ) (so : Sound ch k a
   low : componentOf m < COMPONENTS
   low = component-low ch k a d m so fit
 
-  taker-row : triedRow (CELLS + takerOf m * COMPONENTS + componentOf m) ≡ takerOf m
+  taker-row : triedRow (takerMore m) ≡ takerOf m
   taker-row = omega (arith, low)
 
-  taker-column : columnIn (CELLS + takerOf m * COMPONENTS + componentOf m) ≡ componentOf m
+  taker-column : triedComponent (takerMore m) ≡ componentOf m
   taker-column = omega (arith, low)
 
-  taker-cell : CELLS + takerOf m * COMPONENTS + componentOf m - CELLS ≡ takerOf m * COMPONENTS + componentOf m
+  taker-cell : takerMore m - CELLS ≡ takerCell m
   taker-cell = omega arith
 
-  taker-amount : triedOf a d (CELLS + takerOf m * COMPONENTS + componentOf m) ≡ cellOf a (takerOf m) (componentOf m) + d
+  taker-amount : triedOf a d (takerMore m) ≡ cellOf a (takerOf m) (componentOf m) + d
   taker-amount =
-      sym (more-is a d (CELLS + takerOf m * COMPONENTS + componentOf m) (omega arith))
+      sym (more-is a d (takerMore m) (omega arith))
       ∙ ap (λ i. getD a i 0 + d) taker-cell
 
-  pub taker-triable : Triable ch k a d (CELLS + takerOf m * COMPONENTS + componentOf m)
+  pub taker-triable : Triable ch k a d (takerMore m)
   taker-triable = record {
     below = omega (arith, low);
     row = rw taker-row (bt ch k a d m so fit .to);
@@ -171,7 +173,7 @@ module _ (ch : List ℕ) (k : ℕ) (a : List ℕ) (d m : ℕ) (so : Sound ch k a
     workable = rw (taker-row, taker-column, taker-amount) (taker-workable ch k a d m so fit);
   }
 
-  pub taker-wanted : (x : ℤ) → (x ≡ wantedOf ch a d (CELLS + takerOf m * COMPONENTS + componentOf m))
+  pub taker-wanted : (x : ℤ) → (x ≡ wantedOf ch a d (takerMore m))
       × (natAbs x ≤ LARGEST)
       → (x ≡ numberWith ch a (takerOf m) (componentOf m) (cellOf a (takerOf m) (componentOf m) + d))
       × (natAbs x ≤ LARGEST)
@@ -198,8 +200,8 @@ module _ (ch : List ℕ) (k : ℕ) (a : List ℕ) (d m : ℕ) (so : Sound ch k a
 
   module _ (i : ℕ) (h : i < TRIES) (l : triedRow i < k) (p : triedRow i ≡ giverOf m → ⊥) (q : triedRow i ≡ takerOf m
       → ⊥) where
-    same-cell : cellOf (movedOf a m d) (triedRow i) (columnIn i) ≡ cellOf a (triedRow i) (columnIn i)
-    same-cell = other (triedRow i) l p q (columnIn i) (omega arith)
+    same-cell : cellOf (movedOf a m d) (triedRow i) (triedComponent i) ≡ cellOf a (triedRow i) (triedComponent i)
+    same-cell = other (triedRow i) l p q (triedComponent i) (omega arith)
 
     same-amount : triedOf (movedOf a m d) d i ≡ triedOf a d i
     unfolding triedOf
@@ -207,40 +209,40 @@ module _ (ch : List ℕ) (k : ℕ) (a : List ℕ) (d m : ℕ) (so : Sound ch k a
       where
         go : (b : Bool) → ltb i CELLS ≡ b → triedOf (movedOf a m d) d i ≡ triedOf a d i
         go true e =
-            let z : triedRow i * COMPONENTS + columnIn i ≡ i = omega (arith, ltb-true i CELLS e) in
+            let z : triedRow i * COMPONENTS + triedComponent i ≡ i = omega (arith, ltb-true i CELLS e) in
             rw e (ap (λ x. x - d) (rw z at same-cell))
         go false e =
-            let z : triedRow i * COMPONENTS + columnIn i ≡ i - CELLS = omega (arith, h, ltb-false i CELLS e) in
+            let z : triedRow i * COMPONENTS + triedComponent i ≡ i - CELLS = omega (arith, h, ltb-false i CELLS e) in
             rw e (ap (λ x. x + d) (rw z at same-cell))
 
     pub same-wanted : wantedOf ch (movedOf a m d) d i ≡ wantedOf ch a d i
     unfolding wantedOf
     same-wanted =
-        with-other (triedRow i) l p q (columnIn i) (triedOf (movedOf a m d) d i)
-        ∙ ap (numberWith ch a (triedRow i) (columnIn i)) same-amount
+        with-other (triedRow i) l p q (triedComponent i) (triedOf (movedOf a m d) d i)
+        ∙ ap (numberWith ch a (triedRow i) (triedComponent i)) same-amount
 
   -- the two tries that would take the move back lead to the numbers before it
   pub giver-back : (x : ℤ) → x ≡ rowNumber ch a (giverOf m)
-      → x ≡ wantedOf ch (movedOf a m d) d (CELLS + giverOf m * COMPONENTS + componentOf m)
+      → x ≡ wantedOf ch (movedOf a m d) d (giverMore m)
   unfolding wantedOf
   giver-back x e =
       e ∙ sym (rw (row, column, amount)
       (number-with (movedOf a m d) a (giverOf m) (componentOf m) (cellOf a (giverOf m) (componentOf m)) was ch
       (three (systemOf ch (giverOf m)) (so .stock .chosen .known (giverOf m) (bt ch k a d m so fit .from)))))
     where
-      row : triedRow (CELLS + giverOf m * COMPONENTS + componentOf m) ≡ giverOf m
+      row : triedRow (giverMore m) ≡ giverOf m
       row = omega (arith, low)
 
-      column : columnIn (CELLS + giverOf m * COMPONENTS + componentOf m) ≡ componentOf m
+      column : triedComponent (giverMore m) ≡ componentOf m
       column = omega (arith, low)
 
-      cell : CELLS + giverOf m * COMPONENTS + componentOf m - CELLS ≡ giverOf m * COMPONENTS + componentOf m
+      cell : giverMore m - CELLS ≡ giverCell m
       cell = omega arith
 
-      amount : triedOf (movedOf a m d) d (CELLS + giverOf m * COMPONENTS + componentOf m) ≡ cellOf a (giverOf m)
+      amount : triedOf (movedOf a m d) d (giverMore m) ≡ cellOf a (giverOf m)
           (componentOf m)
       amount =
-          sym (more-is (movedOf a m d) d (CELLS + giverOf m * COMPONENTS + componentOf m) (omega arith))
+          sym (more-is (movedOf a m d) d (giverMore m) (omega arith))
           ∙ ap (λ i. getD (movedOf a m d) i 0 + d) cell
           ∙ omega (arith, giver-changed ch k a d m so fit .here, may-move ch k a d m so fit .1)
 
@@ -248,22 +250,22 @@ module _ (ch : List ℕ) (k : ℕ) (a : List ℕ) (d m : ℕ) (so : Sound ch k a
       was = record { here = refl; rest = λ e l n. sym (giver-changed ch k a d m so fit .rest e l n) }
 
   pub taker-back : (x : ℤ) → x ≡ rowNumber ch a (takerOf m)
-      → x ≡ wantedOf ch (movedOf a m d) d (takerOf m * COMPONENTS + componentOf m)
+      → x ≡ wantedOf ch (movedOf a m d) d (takerCell m)
   unfolding wantedOf
   taker-back x e =
       e ∙ sym (rw (row, column, amount)
       (number-with (movedOf a m d) a (takerOf m) (componentOf m) (cellOf a (takerOf m) (componentOf m)) was ch
       (three (systemOf ch (takerOf m)) (so .stock .chosen .known (takerOf m) (bt ch k a d m so fit .to)))))
     where
-      row : triedRow (takerOf m * COMPONENTS + componentOf m) ≡ takerOf m
+      row : triedRow (takerCell m) ≡ takerOf m
       row = omega (arith, low)
 
-      column : columnIn (takerOf m * COMPONENTS + componentOf m) ≡ componentOf m
+      column : triedComponent (takerCell m) ≡ componentOf m
       column = omega (arith, low)
 
-      amount : triedOf (movedOf a m d) d (takerOf m * COMPONENTS + componentOf m) ≡ cellOf a (takerOf m) (componentOf m)
+      amount : triedOf (movedOf a m d) d (takerCell m) ≡ cellOf a (takerOf m) (componentOf m)
       amount =
-          sym (less-is (movedOf a m d) d (takerOf m * COMPONENTS + componentOf m) (omega (arith, low)))
+          sym (less-is (movedOf a m d) d (takerCell m) (omega (arith, low)))
           ∙ omega (arith, taker-changed ch k a d m so fit .here)
 
       was : Changed (movedOf a m d) a (takerOf m) (componentOf m) (cellOf a (takerOf m) (componentOf m))
@@ -273,7 +275,7 @@ module _ (ch : List ℕ) (k : ℕ) (a : List ℕ) (d m : ℕ) (so : Sound ch k a
 abbrev pub Going : List ℤ → ℕ → List ℤ → ℕ → Type 0
 Going t s u c =
     (length u ≡ TRIES) × (c ≤ COMPONENTS)
-    × ((i : ℕ) → i < TRIES → triedRow i ≡ s → columnIn i < c → listed u i ≡ UNTRIED)
+    × ((i : ℕ) → i < TRIES → triedRow i ≡ s → triedComponent i < c → listed u i ≡ UNTRIED)
     × ((i : ℕ) → i < TRIES → (triedRow i ≡ s → ⊥) → listed u i ≡ listed t i)
 
 module _ (t : List ℤ) (s : ℕ) (low : s < SYSTEMS) where
@@ -317,7 +319,7 @@ module _ (t : List ℤ) (s : ℕ) (low : s < SYSTEMS) where
           (λ e. r (omega (arith, low, h, e))) ∙ g .3 i l r,
     )
       where
-        gone : (i : ℕ) → i < TRIES → triedRow i ≡ s → columnIn i < c + 1 → listed next i ≡ UNTRIED
+        gone : (i : ℕ) → i < TRIES → triedRow i ≡ s → triedComponent i < c + 1 → listed next i ≡ UNTRIED
         gone i l r x = go (eqb i second) (eqb i first) refl refl
           where
             go : (y z : Bool) → eqb i second ≡ y → eqb i first ≡ z → listed next i ≡ UNTRIED

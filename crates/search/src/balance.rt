@@ -5,7 +5,7 @@ ghost use mathlib.Core.Path.{_≡_};
 ghost use Prim.Native.Nat.{_+_, _*_, _-_, _<_, _≤_};
 ghost use lib.IntN.{natAbs};
 ghost use Rattle.formula.specs.WorkingRule.{LARGEST};
-ghost use Rattle.split.specs.Split.{SYSTEMS};
+ghost use Rattle.systems.specs.Choice.{SYSTEMS};
 ghost use Rattle.split_rows.specs.Rows.{listed};
 ghost use Rattle.split_rows.specs.Inner.Small.{Small};
 ghost use Rattle.search.specs.Inner.Balance.{markOf, Totalled};
@@ -66,7 +66,7 @@ pub(crate) fn exchanged(w: Totals, numbers: &[i64; SYSTEMS], s: usize, x: i64) -
 
 // The imbalance of so many numbers of these totals.
 pub(crate) fn imbalance(w: Totals, count: usize) -> u64
-    requires { ⌜ (count ≤ 8) × (w .sum ≤ 3200000000) × (w .squares ≤ 1280000000000000000)
+    requires { ⌜ (count ≤ SYSTEMS) × (w .sum ≤ 3200000000) × (w .squares ≤ 1280000000000000000)
         × (w .sum * w .sum ≤ count * w .squares) ⌝ }
     ensures { λ r. ⌜ r ≡ count * w .squares - w .sum * w .sum ⌝ }
 {

@@ -7,7 +7,8 @@ ghost use lib.IntN.{natAbs};
 ghost use lib.ListN.{length, set};
 ghost use Rattle.integer.specs.Figures.{MILLION};
 ghost use Rattle.formula.specs.WorkingRule.{LARGEST};
-ghost use Rattle.split.specs.Split.{SYSTEMS, cellOf, rowNumber, Sound};
+ghost use Rattle.split.specs.Split.{cellOf, rowNumber, Sound};
+ghost use Rattle.systems.specs.Choice.{SYSTEMS};
 ghost use Rattle.split.specs.Move.{MOVES, componentOf, giverOf, takerOf, movedOf, imbalanceOf, firstOf};
 ghost use Rattle.split.specs.Inner.Moves.{MayMove};
 ghost use Rattle.split_rows.specs.Rows.{listed};
@@ -20,7 +21,7 @@ use super::balance::Totals;
 use super::balance::exchanged;
 use super::balance::imbalance;
 use super::balance::total;
-use super::state::amount;
+use super::state::parts;
 use super::tried::TRIES;
 use super::tried::forget;
 use super::tried::number_less;
@@ -75,10 +76,7 @@ fn gives(
     if cells[i] < stride {
         return false;
     }
-    let parts = amount(cells, system, giver, 0)
-        + amount(cells, system, giver, 1)
-        + amount(cells, system, giver, 2);
-    stride < parts
+    stride < parts(system, cells, giver)
 }
 
 // A move of the stride, made.
@@ -140,7 +138,7 @@ pub(crate) fn renumber(
     put(numbers, tried, taker, taker * COMPONENTS + component, taken);
 }
 
-// Of the moves from n on with n's component and giver, the first that can be made and lowers the imbalance, or the
+// Of the moves from `from` on with its component and giver, the first that can be made and lowers the imbalance, or the
 // number after them. w are the totals where the giver has given; the imbalance was `was`.
 fn first_taker(
     systems: &[u8; SYSTEMS],
@@ -149,20 +147,21 @@ fn first_taker(
     numbers: &[i64; SYSTEMS],
     tried: &mut [i64; TRIES],
     stride: u32,
-    n: usize,
+    from: usize,
     component: usize,
     giver: usize,
     w: Totals,
     was: u64,
 ) -> usize
     requires { let systems = now systems in let cells = now cells in
-        ⌜ Held systems count cells (now numbers) × (n < MOVES) × (n % SYSTEMS ≡ 0)
-        × (givesOf systems count cells stride n ≡ true) × Past systems count cells stride n
+        ⌜ Held systems count cells (now numbers) × (from < MOVES) × (from % SYSTEMS ≡ 0)
+        × (givesOf systems count cells stride from ≡ true) × Past systems count cells stride from
         × Tried systems count cells stride (now tried)
-        × Totalled (afterGiving systems cells stride (giverOf n) (componentOf n)) count (w .sum) (w .squares)
-        × (was ≡ imbalanceOf (rowNumber systems cells) count) × (component ≡ componentOf n) × (giver ≡ giverOf n) ⌝ }
+        × Totalled (afterGiving systems cells stride (giverOf from) (componentOf from)) count (w .sum) (w .squares)
+        × (was ≡ imbalanceOf (rowNumber systems cells) count) × (component ≡ componentOf from)
+        × (giver ≡ giverOf from) ⌝ }
     ensures { λ r. let systems = now (systems .entry) in let cells = now (cells .entry) in
-        ⌜ Scanned systems count cells stride n r × Tried systems count cells stride (now (tried .exit)) ⌝ }
+        ⌜ Scanned systems count cells stride from r × Tried systems count cells stride (now (tried .exit)) ⌝ }
 {
     let mut t = 0;
     while t < count {
@@ -170,16 +169,16 @@ fn first_taker(
             if systems::has(systems[t], component) {
                 let more = number_more(systems, count, cells, tried, stride, t, component);
                 if imbalance(exchanged(w, numbers, t, more), count) < was {
-                    return n + t;
+                    return from + t;
                 }
             }
         }
         t += 1;
     }
-    n + SYSTEMS
+    from + SYSTEMS
 }
 
-// The same of the moves from n on, whether n's giver gives or not.
+// The same of the moves from `from` on, whether its giver gives or not.
 fn first_from(
     systems: &[u8; SYSTEMS],
     count: usize,
@@ -187,25 +186,24 @@ fn first_from(
     numbers: &[i64; SYSTEMS],
     tried: &mut [i64; TRIES],
     stride: u32,
-    n: usize,
+    from: usize,
     all: Totals,
     was: u64,
 ) -> usize
     requires { let systems = now systems in let cells = now cells in
-        ⌜ Held systems count cells (now numbers) × (n < MOVES) × (n % SYSTEMS ≡ 0) × (giverOf n < count)
-        × Past systems count cells stride n × Tried systems count cells stride (now tried)
+        ⌜ Held systems count cells (now numbers) × (from < MOVES) × (from % SYSTEMS ≡ 0) × (giverOf from < count)
+        × Past systems count cells stride from × Tried systems count cells stride (now tried)
         × Totalled (rowNumber systems cells) count (all .sum) (all .squares)
         × (was ≡ imbalanceOf (rowNumber systems cells) count) ⌝ }
     ensures { λ r. let systems = now (systems .entry) in let cells = now (cells .entry) in
-        ⌜ Scanned systems count cells stride n r × Tried systems count cells stride (now (tried .exit)) ⌝ }
+        ⌜ Scanned systems count cells stride from r × Tried systems count cells stride (now (tried .exit)) ⌝ }
 {
-    if !gives(systems, count, cells, stride, n) {
-        return n + SYSTEMS;
+    if !gives(systems, count, cells, stride, from) {
+        return from + SYSTEMS;
     }
-    let component = component(n);
-    let giver = giver(n);
+    let component = component(from);
+    let giver = giver(from);
     let less = number_less(systems, count, cells, tried, stride, giver, component);
-    let w = exchanged(all, numbers, giver, less);
     first_taker(
         systems,
         count,
@@ -213,10 +211,10 @@ fn first_from(
         numbers,
         tried,
         stride,
-        n,
+        from,
         component,
         giver,
-        w,
+        exchanged(all, numbers, giver, less),
         was,
     )
 }
@@ -237,15 +235,25 @@ pub(crate) fn first_move(
 {
     let all = total(numbers, count);
     let was = imbalance(all, count);
-    let mut n = 0;
-    while n < MOVES {
-        let first = first_from(systems, count, cells, numbers, tried, stride, n, all, was);
-        n += SYSTEMS;
-        if first < n {
+    let mut from = 0;
+    while from < MOVES {
+        let first = first_from(
+            systems,
+            count,
+            cells,
+            numbers,
+            tried,
+            stride,
+            from,
+            all,
+            was,
+        );
+        from += SYSTEMS;
+        if first < from {
             return first;
         }
-        if count <= giver(n) {
-            n += PAIRS - n % PAIRS;
+        if count <= giver(from) {
+            from += PAIRS - from % PAIRS;
         }
     }
     MOVES

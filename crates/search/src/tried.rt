@@ -7,7 +7,8 @@ ghost use lib.IntN.{natAbs};
 ghost use lib.ListN.{length, replicate};
 ghost use Rattle.formula.specs.WorkingRule.{LARGEST};
 ghost use Rattle.systems.specs.Systems.{COMPONENTS, memberOf, Candidate};
-ghost use Rattle.split.specs.Split.{SYSTEMS, CELLS};
+ghost use Rattle.split.specs.Split.{CELLS};
+ghost use Rattle.systems.specs.Choice.{SYSTEMS};
 ghost use Rattle.split.specs.Inner.Steps.{insteadOf, numberWith};
 ghost use Rattle.split_rows.specs.Inner.Carried.{Workable};
 ghost use Rattle.search.specs.Inner.Tried.{TRIES, UNTRIED, wantedOf, Triable, Tried, Forgot};
@@ -23,14 +24,14 @@ pub(crate) const TRIES: usize = 2 * CELLS;
 const UNTRIED: i64 = 4000000000000;
 
 // The amount in row s of the system's component j, where that of component c were n.
-fn instead(cells: &[u32; CELLS], system: u8, s: usize, c: usize, n: u32, j: usize) -> u32
+fn instead(system: u8, cells: &[u32; CELLS], s: usize, c: usize, n: u32, j: usize) -> u32
     requires { ⌜ Candidate system × (s < SYSTEMS) × (j < 3) ⌝ }
     ensures { λ r. ⌜ r ≡ insteadOf (now (cells .entry)) s c n (memberOf system j) ⌝ }
 {
     if systems::member(system, j) == c {
         return n;
     }
-    amount(cells, system, s, j)
+    amount(system, cells, s, j)
 }
 
 // Row s's partial number where its amount of component c were n.
@@ -41,9 +42,9 @@ fn number_with(systems: &[u8; SYSTEMS], cells: &[u32; CELLS], s: usize, c: usize
     let system = systems[s];
     let p = ternary::formula_number(
         system as u32,
-        instead(cells, system, s, c, n, 0),
-        instead(cells, system, s, c, n, 1),
-        instead(cells, system, s, c, n, 2),
+        instead(system, cells, s, c, n, 0),
+        instead(system, cells, s, c, n, 1),
+        instead(system, cells, s, c, n, 2),
     );
     match p {
         ternary::Partial::Number(x) => x,

@@ -1,12 +1,17 @@
--- What each case of `Answer` is (document 01, "What is turned away"): a refusal's number, 0 where there is none; what
--- it carries, the record's place with 2 to 4 and the code at fault with 5; a rating's figures; and what a lent buffer
--- then holds. Assumes nothing.
+-- What each case of `Answer` is (document 01, "What is turned away"): whether it is a rating; a refusal's number, 0
+-- where there is none; what it carries, the record's place with 2 to 4 and the code at fault with 5; a rating's
+-- figures; and what a lent buffer then holds. Assumes nothing.
 use mathlib.Core.List.{List, [], _∷_}
 use Prim.Native.Nat.{ℕ}
 use lib.IntN.{ℤ, pos}
 use Rattle.refusal.specs.Register.{carried}
 use Rattle.split.specs.declared.Answer.{Answer}
 use Rattle.split.specs.declared.Answer.the-variants.{Rated, Refused}
+
+-- the answer is a rating, and no refusal
+abbrev pub IsRated : Answer → Type 0
+IsRated (Rated w s n) = Unit {0}
+IsRated (Refused n p) = ⊥
 
 abbrev pub numberOf : Answer → ℕ
 numberOf (Rated rating spread rounds) = 0

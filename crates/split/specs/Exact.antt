@@ -1,7 +1,7 @@
 -- The exact rating of a split, the same formulas with no fraction dropped, as a numerator over a denominator
 -- (document 01, "The split and the rating"). Assumes nothing.
 use mathlib.Core.List.{List}
-use Prim.Native.Nat.{ℕ, zero, suc, _*_, _-_, _^_, _<_}
+use Prim.Native.Nat.{ℕ, zero, suc, _-_, _<_}
 use lib.IntN.{pos}
 use Rattle.integer.specs.Figures.{neg, MILLION}
 use Rattle.split.specs.Rating.{PURE_METHANE}
@@ -34,9 +34,3 @@ exactRating systems count cells n1 =
 -- no row is empty
 abbrev pub NoRowEmpty : List ℕ → ℕ → List ℕ → Type 0
 NoRowEmpty systems count cells = (s : ℕ) → s < count → 0 < partsOf systems cells s
-
--- ---- the denominator: the seventh power of each row's parts, times a power of 1000000
-
-unfoldable pub powersOf : List ℕ → ℕ → List ℕ → ℕ
-powersOf systems zero cells = 1
-powersOf systems (suc count) cells = powersOf systems count cells * partsOf systems cells count ^ 7

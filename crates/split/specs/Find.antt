@@ -8,7 +8,8 @@ use Rattle.integer.specs.Figures.{MILLION}
 use Rattle.refusal.specs.Keys.{isIn}
 use Rattle.systems.specs.Systems.{COMPONENTS, candidates}
 use Rattle.split.specs.Fold.{allTo}
-use Rattle.split.specs.Split.{SYSTEMS, CELLS, systemOf, columnOf, rowNumber, Chosen, Sound, Clean, mixtureParts}
+use Rattle.split.specs.Split.{CELLS, systemOf, columnOf, rowNumber, Chosen, Sound, Clean, mixtureParts}
+use Rattle.systems.specs.Choice.{SYSTEMS}
 use Rattle.split.specs.Rating.{someEmpty, spreadOf}
 use Rattle.split.specs.Start.{startOf, Shared}
 use Rattle.split.specs.Search.{FIRST_LEVEL, foundOf, searchOf}
@@ -37,12 +38,13 @@ findOf mix systems count limit level allowance =
     (searchOf systems count limit level allowance (startOf mix systems count))
     (foundOf (replicate CELLS 0) Unfit)
 
--- what a search has found: a sound split, re-summed, whose spread is within the limit, after r rounds
-pub record Balance (mix systems : List ℕ) (count limit allowance : ℕ) (cells : List ℕ) (s r : ℕ) : Type 0 where
+-- what a search has found: a sound split, re-summed, with a spread within the limit, after so many rounds
+pub record Balance (mix systems : List ℕ) (count limit allowance : ℕ) (cells : List ℕ) (spread rounds : ℕ)
+    : Type 0 where
   pub chosen : Chosen systems count
   pub sound : Sound systems count cells
   pub clean : Clean systems count cells
   pub sums : (c : ℕ) → c < COMPONENTS → Shared mix systems count c → columnOf count cells c ≡ getD mix c 0
-  pub spread : s ≡ spreadOf (rowNumber systems cells) count
-  pub within : s ≤ limit
-  pub rounds : r ≤ allowance
+  pub measured : spread ≡ spreadOf (rowNumber systems cells) count
+  pub within : spread ≤ limit
+  pub allowed : rounds ≤ allowance

@@ -1,6 +1,6 @@
 -- Folds over the numbers below n. Assumes nothing.
-use Prim.Native.Nat.{ℕ, zero, suc, _+_, max}
-use mathlib.Core.Bool.{Bool, true, false, cond}
+use Prim.Native.Nat.{ℕ, zero, suc, _+_}
+use mathlib.Core.Bool.{Bool, true, false, _&&_, _||_, cond}
 use mathlib.Core.List.{List, [], _∷_}
 use lib.IntN.{ℤ, pos, _+ℤ_}
 use lib.Signed.{ltZ}
@@ -15,11 +15,6 @@ unfoldable pub sumToZ : (ℕ → ℤ) → ℕ → ℤ
 sumToZ f zero = pos 0
 sumToZ f (suc n) = sumToZ f n +ℤ f n
 
--- the largest of f 0, .., f (n - 1), or 0
-unfoldable pub maxTo : (ℕ → ℕ) → ℕ → ℕ
-maxTo f zero = 0
-maxTo f (suc n) = max (maxTo f n) (f n)
-
 -- the greatest, and the least, of f 0, .., f (n - 1), for n above 0
 unfoldable pub greatestTo : (ℕ → ℤ) → ℕ → ℤ
 greatestTo f zero = f 0
@@ -32,11 +27,11 @@ leastTo f (suc n) = cond (ltZ (f n) (leastTo f n)) (f n) (leastTo f n)
 -- p holds of each number below n; of some number below n
 unfoldable pub allTo : (ℕ → Bool) → ℕ → Bool
 allTo p zero = true
-allTo p (suc n) = cond (p n) (allTo p n) false
+allTo p (suc n) = p n && allTo p n
 
 unfoldable pub someTo : (ℕ → Bool) → ℕ → Bool
 someTo p zero = false
-someTo p (suc n) = cond (p n) true (someTo p n)
+someTo p (suc n) = p n || someTo p n
 
 -- the first of the n numbers from i on that p holds of, or i + n
 unfoldable pub first : (ℕ → Bool) → ℕ → ℕ → ℕ

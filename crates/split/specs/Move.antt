@@ -9,11 +9,20 @@ use lib.Dec.{ltb, leb, eqb}
 use lib.ListN.{getD, set}
 use Rattle.systems.specs.Systems.{COMPONENTS, hasOf}
 use Rattle.split.specs.Fold.{sumTo, first}
-use Rattle.split.specs.Split.{SYSTEMS, cellOf, systemOf, partsOf, rowNumber}
+use Rattle.split.specs.Split.{cellOf, systemOf, partsOf, rowNumber}
+use Rattle.systems.specs.Choice.{SYSTEMS}
 
--- the square of the difference of two numbers, each first cut to thousandths of a methane number towards zero
+-- a thousandth of a methane number, in units
+abbrev pub THOUSANDTH : ℕ
+THOUSANDTH = 10000
+
+-- a number cut to thousandths of a methane number, towards zero
+abbrev pub cutOf : ℤ → ℤ
+cutOf x = quotZ x (pos THOUSANDTH)
+
+-- the square of the difference of two numbers, each first cut
 unfoldable pub squareOf : ℤ → ℤ → ℕ
-squareOf x y = natAbs (quotZ x (pos 10000) -ℤ quotZ y (pos 10000)) * natAbs (quotZ x (pos 10000) -ℤ quotZ y (pos 10000))
+squareOf x y = natAbs (cutOf x -ℤ cutOf y) * natAbs (cutOf x -ℤ cutOf y)
 
 -- the imbalance of the numbers: these squares, added over every pair
 unfoldable pub imbalanceOf : (ℕ → ℤ) → ℕ → ℕ

@@ -3,44 +3,35 @@
 use mathlib.Core.Path.{_≡_, sym, ap, _∙_}
 use mathlib.Core.List.{List}
 use Prim.Native.Nat.{ℕ, _*_, _≤_, _<_}
-use native.Mathlib.Nat as N
 use Rattle.integer.specs.Figures.{MILLION}
 use Rattle.integer.specs.Fraction.{Within}
 use Rattle.systems.specs.Systems.{COMPONENTS}
-use Rattle.split.specs.Split.{RECORDS, cellsOf, amountsOf, rowNumber, mixtureParts}
+use Rattle.split.specs.Split.{RECORDS, cellsOf, amountsOf, mixtureParts}
 use Rattle.split.specs.Rating.{ratingOf, proposedOf}
 use Rattle.split.specs.Start.{Shared}
 use Rattle.split.specs.Find.{Balance}
-use Rattle.split.specs.Laws.Spread.{spread-near}
+use Rattle.split.specs.Laws.Fits.{balance-fit}
 use Rattle.split.specs.Exact.{exactRating}
-use Rattle.split.specs.Fits.{Fit}
 use Rattle.split.specs.Rated.{fit-rated}
 use Rattle.split.specs.Accuracy.{rated-within}
-use Rattle.split.specs.Laws.Records.{cells-back}
+use Rattle.split.specs.Records.{cells-back}
 use Rattle.split.specs.declared.Answer.the-variants.{Rated}
 
-module _ (mix systems : List ℕ) (count limit allowance : ℕ) (cells : List ℕ) (s r : ℕ)
-    (balance : Balance mix systems count limit allowance cells s r) (shared : (c : ℕ) → c < COMPONENTS
+module _ (mix systems : List ℕ) (count limit allowance : ℕ) (cells : List ℕ) (spread rounds : ℕ)
+    (balance : Balance mix systems count limit allowance cells spread rounds) (shared : (c : ℕ) → c < COMPONENTS
     → Shared mix systems count c) where
-  pub balance-fit : Fit limit systems count mix cells
-  balance-fit = record {
-    sums = λ c l. balance .sums c l (shared c l);
-    some = balance .sound .some;
-    near =
-        spread-near limit (rowNumber systems cells) count
-        (N.le-trans (N.le-of-eq (sym (balance .spread))) (balance .within));
-  }
-
   -- the same rating and the same spread
-  pub put-back : (n1 : ℕ) → proposedOf limit systems count mix cells n1 ≡ Rated (ratingOf systems count cells n1) s 0
+  pub put-back : (n1 : ℕ)
+      → proposedOf limit systems count mix cells n1 ≡ Rated (ratingOf systems count cells n1) spread 0
   put-back n1 =
-      fit-rated limit systems count mix cells n1 balance-fit
-      ∙ ap (λ (x : ℕ). Rated (ratingOf systems count cells n1) x 0) (sym (balance .spread))
+      fit-rated limit systems count mix cells n1
+      (balance-fit mix systems count limit allowance cells spread rounds balance shared)
+      ∙ ap (λ (x : ℕ). Rated (ratingOf systems count cells n1) x 0) (sym (balance .measured))
 
   -- also where it is put back as records
   pub put-back-records : (n1 : ℕ) → 3 * count ≤ RECORDS
       → proposedOf limit systems count mix (cellsOf systems count (amountsOf systems count cells)) n1 ≡ Rated
-      (ratingOf systems count cells n1) s 0
+      (ratingOf systems count cells n1) spread 0
   put-back-records n1 room =
       ap (λ (b : List ℕ). proposedOf limit systems count mix b n1)
       (cells-back systems count (balance .chosen) room cells (balance .sound .stock .long) (balance .clean))
@@ -49,5 +40,5 @@ module _ (mix systems : List ℕ) (count limit allowance : ℕ) (cells : List �
   pub found-within : (n1 : ℕ) → mixtureParts mix ≤ MILLION → n1 ≤ MILLION
       → Within (ratingOf systems count cells n1) (exactRating systems count cells n1) 40
   found-within n1 few l =
-      rated-within systems count mix cells (balance .chosen) limit n1 (ratingOf systems count cells n1) s 0
+      rated-within systems count mix cells (balance .chosen) limit n1 (ratingOf systems count cells n1) spread 0
       (put-back n1) few l

@@ -1,7 +1,7 @@
 -- A proposed split is rated exactly when it re-sums, no chosen system is empty and every two partial numbers lie at
 -- most the limit apart, and then with its rating and its spread (document 01, "The split and the rating"). Assumes
 -- nothing.
-use mathlib.Core.Path.{_≡_, refl, sym, ap, ap₂, _∙_, subst}
+use mathlib.Core.Path.{_≡_, refl, sym, _∙_, subst}
 use mathlib.Core.Bool.{Bool, true, false}
 use mathlib.Core.Logic.{_↔_}
 use mathlib.Core.List.{List}
@@ -15,23 +15,9 @@ use Rattle.split.specs.Laws.Spread.{spread-near, near-spread}
 use Rattle.split.specs.Fits.{Fit}
 use Rattle.split.specs.Laws.Fits.{resums-yes, yes-resums, empty-no, no-empty}
 use Rattle.split.specs.declared.Answer.{Answer}
-use Rattle.split.specs.declared.Answer.the-variants.{Rated, Refused}
-
--- the answer is a rating, and no refusal
-abbrev pub IsRated : Answer → Type 0
-IsRated (Rated w s n) = Unit {0}
-IsRated (Refused n p) = ⊥
-
--- ---- the answer by cases
-
-verdict-8 : (b e w : Bool) (r : Answer) → b ≡ false → verdict b e w r ≡ Refused 8 0
-verdict-8 b e w r h = ap (λ (x : Bool). verdict x e w r) h
-
-verdict-9 : (b e w : Bool) (r : Answer) → b ≡ true → e ≡ true → verdict b e w r ≡ Refused 9 0
-verdict-9 b e w r h i = ap₂ (λ (x y : Bool). verdict x y w r) h i
-
-verdict-last : (b e w v : Bool) (r : Answer) → b ≡ true → e ≡ false → w ≡ v → verdict b e w r ≡ verdict true false v r
-verdict-last b e w v r h i j = ap₂ (λ (x y : Bool). verdict x y w r) h i ∙ ap (λ (z : Bool). verdict true false z r) j
+use Rattle.split.specs.declared.Answer.the-variants.{Rated}
+use Rattle.split.specs.AnswerCases.{IsRated}
+use Rattle.split.specs.Laws.Verdict.{proposed-rated}
 
 module _ (limit : ℕ) (systems : List ℕ) (count : ℕ) (mix cells : List ℕ) (n1 : ℕ) where
   abbrev spread : ℕ
@@ -40,36 +26,13 @@ module _ (limit : ℕ) (systems : List ℕ) (count : ℕ) (mix cells : List ℕ)
   abbrev rated : Answer
   rated = Rated (ratingOf systems count cells n1) spread 0
 
-  pub proposed-unsummed : resums mix count cells ≡ false → proposedOf limit systems count mix cells n1 ≡ Refused 8 0
-  unfolding proposedOf
-  proposed-unsummed h = verdict-8 (resums mix count cells) (someEmpty systems count cells) _ rated h
-
-  pub proposed-empty : resums mix count cells ≡ true → someEmpty systems count cells ≡ true
-      → proposedOf limit systems count mix cells n1 ≡ Refused 9 0
-  unfolding proposedOf
-  proposed-empty h e = verdict-9 (resums mix count cells) (someEmpty systems count cells) _ rated h e
-
-  pub proposed-wide : resums mix count cells ≡ true → someEmpty systems count cells ≡ false → ltb limit spread ≡ true
-      → proposedOf limit systems count mix cells n1 ≡ Refused 10 0
-  unfolding proposedOf
-  proposed-wide h e w =
-      verdict-last (resums mix count cells) (someEmpty systems count cells) (ltb limit spread) true rated h e w
-
-  pub proposed-rated : resums mix count cells ≡ true → someEmpty systems count cells ≡ false → ltb limit spread ≡ false
-      → proposedOf limit systems count mix cells n1 ≡ Rated (ratingOf systems count cells n1)
-      (spreadOf (rowNumber systems cells) count) 0
-  unfolding proposedOf
-  proposed-rated h e w =
-      verdict-last (resums mix count cells) (someEmpty systems count cells) (ltb limit spread) false rated h e w
-
-  -- ---- rated exactly when
-
   -- rated, with the rating and the spread, when the split is fit
   pub fit-rated : Fit limit systems count mix cells
       → proposedOf limit systems count mix cells n1 ≡ Rated (ratingOf systems count cells n1)
       (spreadOf (rowNumber systems cells) count) 0
   fit-rated f =
-      proposed-rated (yes-resums mix count cells (f .sums)) (no-empty systems count cells (f .some))
+      proposed-rated limit systems count mix cells n1 (yes-resums mix count cells (f .sums))
+      (no-empty systems count cells (f .some))
       (le-ltb limit spread (near-spread limit (rowNumber systems cells) count (f .near)))
 
   passed : (b e w : Bool) (r : Answer) → IsRated (verdict b e w r) → (b ≡ true) × (e ≡ false) × (w ≡ false)

@@ -1,5 +1,6 @@
 -- A proposed split is refused 8, 9 or 10 exactly when it does not re-sum, else a chosen system is empty, else two
--- partial numbers lie further apart than the limit; a wider limit keeps every rating. Assumes nothing.
+-- partial numbers lie further apart than the limit; a wider limit keeps every rating (document 01, "What is turned
+-- away", "The split and the rating"). Assumes nothing.
 use mathlib.Core.Path.{_≡_, refl, sym, ap, _∙_, subst}
 use mathlib.Core.Bool.{Bool, true, false}
 use mathlib.Core.Logic.{_↔_}
@@ -12,13 +13,13 @@ use lib.IntN.{ℤ}
 use borrow.Author.Tests.{ltb-false, le-ltb}
 use Rattle.split.specs.Split.{rowNumber}
 use Rattle.split.specs.Rating.{spreadOf, ratingOf, resums, someEmpty, verdict, proposedOf}
-use Rattle.split.specs.Spread.{EveryTwo}
 use Rattle.split.specs.Laws.Spread.{spread-near, near-spread}
 use Rattle.split.specs.Exact.{NoRowEmpty}
-use Rattle.split.specs.Fits.{Resums}
+use Rattle.split.specs.Fits.{Resums, EveryTwo}
 use Rattle.split.specs.Laws.Fits.{resums-yes, yes-resums, empty-no, no-empty}
-use Rattle.split.specs.AnswerCases.{numberOf}
-use Rattle.split.specs.Rated.{IsRated, proposed-unsummed, proposed-empty, proposed-wide, fit-rated, rated-fit}
+use Rattle.split.specs.AnswerCases.{numberOf, IsRated}
+use Rattle.split.specs.Rated.{fit-rated, rated-fit}
+use Rattle.split.specs.Laws.Verdict.{proposed-unsummed, proposed-empty, proposed-wide}
 use Rattle.split.specs.declared.Answer.the-variants.{Rated, Refused}
 use Rattle.split.specs.Laws.Members.{differ}
 

@@ -14,12 +14,10 @@ use lib.IntN.{ℤ}
 use Rattle.integer.specs.Figures.{MILLION}
 use Rattle.formula.specs.Partial.{partialNumber}
 use Rattle.systems.specs.Systems.{COMPONENTS, memberOf, hasOf, Candidate}
+use Rattle.systems.specs.Choice.{SYSTEMS, oneIf}
 use Rattle.split.specs.Fold.{sumTo, first, table}
 
--- room for chosen systems, for their cells and for their records
-abbrev pub SYSTEMS : ℕ
-SYSTEMS = 8
-
+-- room for the chosen systems' cells and for their records
 abbrev pub CELLS : ℕ
 CELLS = SYSTEMS * COMPONENTS
 
@@ -64,7 +62,7 @@ heldOf systems count s c = ltb s count && hasOf (systemOf systems s) c
 
 -- how many components below c the system contains: the place of c's record among the system's three
 unfoldable pub rankOf : ℕ → ℕ → ℕ
-rankOf system c = sumTo (λ b. cond (hasOf system b) 1 0) c
+rankOf system c = sumTo (λ b. oneIf (hasOf system b)) c
 
 -- the component of the system's jth record
 unfoldable pub componentAt : ℕ → ℕ → ℕ

@@ -1,12 +1,12 @@
--- The widest distance of two numbers, and every two at most a limit apart. Assumes nothing.
-use Prim.Native.Nat.{ℕ, _-_, _≤_, _<_}
-use lib.IntN.{ℤ, natAbs, _-ℤ_}
-use Rattle.split.specs.Fold.{maxTo}
+-- The spread is within a limit exactly when every two numbers are at most the limit apart (document 01, "The split and
+-- the rating"). Assumes nothing.
+use mathlib.Core.Logic.{_↔_}
+use Prim.Native.Nat.{ℕ, _≤_}
+use lib.IntN.{ℤ}
+use Rattle.split.specs.Rating.{spreadOf}
+use Rattle.split.specs.Fits.{EveryTwo}
+use Rattle.split.specs.Laws.Spread.{spread-near, near-spread}
 
--- the widest distance of two of the numbers
-abbrev pub widest : (ℕ → ℤ) → ℕ → ℕ
-widest numbers count = maxTo (λ i. maxTo (λ j. natAbs (numbers i -ℤ numbers j)) i) count
-
--- every two of the numbers are at most the limit apart
-abbrev pub EveryTwo : ℕ → (ℕ → ℤ) → ℕ → Type 0
-EveryTwo limit numbers count = (i j : ℕ) → i < count → j < count → natAbs (numbers i -ℤ numbers j) ≤ limit
+pub spread-exactly-when : (limit : ℕ) (numbers : ℕ → ℤ) (count : ℕ)
+    → (spreadOf numbers count ≤ limit) ↔ EveryTwo limit numbers count
+spread-exactly-when limit numbers count = (spread-near limit numbers count, near-spread limit numbers count)

@@ -5,6 +5,7 @@ use mathlib.Core.Bool.{cond}
 use lib.Dec.{ltb}
 use lib.ListN.{getD}
 use Rattle.systems.specs.Systems.{COMPONENTS, hasOf}
+use Rattle.systems.specs.Choice.{oneIf}
 use Rattle.split.specs.Fold.{sumTo, table}
 use Rattle.split.specs.Split.{CELLS, systemOf, heldOf}
 use mathlib.Core.Path.{_≡_}
@@ -12,11 +13,11 @@ use mathlib.Core.Logic.{_⊎_}
 
 -- how many of the first n chosen systems contain component c
 unfoldable pub sharersOf : List ℕ → ℕ → ℕ → ℕ
-sharersOf systems c n = sumTo (λ s. cond (hasOf (systemOf systems s) c) 1 0) n
+sharersOf systems c n = sumTo (λ s. oneIf (hasOf (systemOf systems s) c)) n
 
 -- t shared equally among n: what the one of rank r gets, odd parts to the lower ranks
 unfoldable pub shareOf : ℕ → ℕ → ℕ → ℕ
-shareOf t n r = t / n + cond (ltb r (t % n)) 1 0
+shareOf t n r = t / n + oneIf (ltb r (t % n))
 
 -- row s's amount of component c
 unfoldable pub startAmount : List ℕ → List ℕ → ℕ → ℕ → ℕ → ℕ

@@ -462,7 +462,7 @@ module _ (ch : List ℕ) (k : ℕ) (xs : List ℕ) where
 
 -- the last three of n and three
 three-last : (p : ℕ → Bool) (n : ℕ) (x y z : Bool) → p n ≡ x → p (suc n) ≡ y → p (suc (suc n)) ≡ z
-    → allTo p (suc (suc (suc n))) ≡ cond ((x && y) && z) (allTo p n) false
+    → allTo p (suc (suc (suc n))) ≡ (((x && y) && z) && allTo p n)
 unfolding allTo
 three-last p n true true true a b c = rw (c, b, a)
 three-last p n true true false a b c = rw c
@@ -470,7 +470,7 @@ three-last p n true false true a b c = rw (c, b)
 three-last p n true false false a b c = rw c
 three-last p n false y true a b c = rw c (go (p (suc n)))
   where
-    go : (t : Bool) → cond t (cond (p n) (allTo p n) false) false ≡ false
+    go : (t : Bool) → (t && (p n && allTo p n)) ≡ false
     go true = rw a
     go false = refl
 three-last p n false y false a b c = rw c
@@ -543,8 +543,8 @@ module _ (ch : List ℕ) (k count : ℕ) (systems codes : List ℕ) where
       in-range : s < k
       in-range = omega (arith, f .most)
 
-      three : allTo (matchesAt ch k systems codes) (3 * n) ≡ cond ((x && y) && z)
-          (allTo (matchesAt ch k systems codes) (3 * s)) false
+      three : allTo (matchesAt ch k systems codes) (3 * n) ≡ (((x && y) && z)
+          && allTo (matchesAt ch k systems codes) (3 * s))
       three =
           let q : 3 * n ≡ suc (suc (suc (3 * s))) = omega arith in
           let p₀ : 3 * s ≡ 3 * s + 0 = omega arith in
@@ -560,7 +560,7 @@ module _ (ch : List ℕ) (k count : ℕ) (systems codes : List ℕ) where
 
       pub row-fails : not ((x && y) && z) ≡ true → false ≡ fitsOf ch k count systems codes
       row-fails t =
-          sym (f .rest ∙ three ∙ ap (λ (b : Bool). cond b (allTo (matchesAt ch k systems codes) (3 * s)) false)
+          sym (f .rest ∙ three ∙ ap (λ (b : Bool). b && allTo (matchesAt ch k systems codes) (3 * s))
           (not-true ((x && y) && z) t))
 
       pub row-fits : not ((x && y) && z) ≡ false → Fitting (3 * s)
@@ -568,7 +568,7 @@ module _ (ch : List ℕ) (k count : ℕ) (systems codes : List ℕ) where
           record {
             most = omega (arith, f .most);
             rest =
-                f .rest ∙ three ∙ ap (λ (b : Bool). cond b (allTo (matchesAt ch k systems codes) (3 * s)) false)
+                f .rest ∙ three ∙ ap (λ (b : Bool). b && allTo (matchesAt ch k systems codes) (3 * s))
                 (not-false ((x && y) && z) t);
           }
 

@@ -1,4 +1,4 @@
--- The tests of the input, by their cases.
+-- The tests of the input, by their cases. Assumes nothing.
 use Prim.Native.Nat.{ℕ, _+_, _*_, _-_, _≤_, _<_}
 use mathlib.Core.Path.{_≡_, refl, sym, ap, _∙_}
 use mathlib.Core.Bool.{Bool, true, false, _&&_}
@@ -12,7 +12,8 @@ use Rattle.refusal.specs.Keys.{isIn}
 use Rattle.systems.specs.Systems.{COMPONENTS, candidates}
 use Rattle.split.specs.Fold.{sumTo, allTo}
 use Rattle.split.specs.Laws.Folds.{sum-none, sum-more}
-use Rattle.split.specs.Split.{SYSTEMS, systemOf}
+use Rattle.split.specs.Split.{systemOf}
+use Rattle.systems.specs.Choice.{SYSTEMS}
 use Rattle.split.specs.Find.{chosenFit, mixtureFit}
 use Rattle.split.specs.Laws.Downs.{all-next, all-false, all-end}
 

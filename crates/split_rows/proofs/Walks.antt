@@ -1,4 +1,5 @@
--- The least and the greatest of some numbers, found by a walk, and how far one number is above another.
+-- The least and the greatest of some numbers, found by a walk, and how far one number is above another. Assumes
+-- nothing.
 use Prim.Native.Nat.{ℕ, zero, suc, _+_, _-_, _≤_, _<_}
 use mathlib.Core.Path.{_≡_, refl, sym, ap, ap₂, _∙_}
 use mathlib.Core.Bool.{true, false, cond}

@@ -9,7 +9,8 @@ use Rattle.refusal.specs.Keys.{isIn}
 use Rattle.ternary.specs.Answer.{isMixture}
 use Rattle.systems.specs.Systems.{candidates}
 use Rattle.split.specs.Fold.{allTo}
-use Rattle.split.specs.Split.{SYSTEMS, systemOf, partsOf, rowNumber}
+use Rattle.split.specs.Split.{systemOf, partsOf, rowNumber}
+use Rattle.systems.specs.Choice.{SYSTEMS}
 use Rattle.split_rows.specs.declared.Rows.{Rows}
 
 -- a list of numbers as a function
@@ -24,10 +25,10 @@ rowFit systems cells s = isIn (systemOf systems s) candidates && isMixture (part
 unfoldable pub rowsFit : List ℕ → ℕ → List ℕ → Bool
 rowsFit systems count cells = leb count SYSTEMS && allTo (rowFit systems cells) count
 
--- the values of f at i, i + 1, .., of which there are n: those below k, then the value d
+-- the values of f at i, i + 1, .., of which there are n: those below the count, then always the same
 unfoldable pub upTo : {A : Type 0} → A → ℕ → (ℕ → A) → ℕ → ℕ → List A
-upTo d k f zero i = []
-upTo d k f (suc n) i = cond (ltb i k) (f i) d ∷ upTo d k f n (i + 1)
+upTo beyond count f zero i = []
+upTo beyond count f (suc n) i = cond (ltb i count) (f i) beyond ∷ upTo beyond count f n (i + 1)
 
 abbrev pub none : Rows
 none = record { fit = false; numbers = replicate SYSTEMS (pos 0); parts = replicate SYSTEMS 0 }

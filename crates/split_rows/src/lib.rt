@@ -9,7 +9,8 @@ ghost use lib.Signed.{ltZ, _≤ℤ_};
 ghost use Rattle.integer.specs.Figures.{MILLION};
 ghost use Rattle.refusal.specs.Keys.{isIn};
 ghost use Rattle.systems.specs.Systems.{memberOf, candidates, Candidate};
-ghost use Rattle.split.specs.Split.{SYSTEMS, cellOf};
+ghost use Rattle.split.specs.Split.{cellOf};
+ghost use Rattle.systems.specs.Choice.{SYSTEMS};
 ghost use Rattle.split.specs.Find.{chosenFit, mixtureFit};
 ghost use Rattle.split.specs.Rating.{spreadOf};
 ghost use Rattle.split_rows.specs.Rows.{listed, none, rowsOf};
@@ -41,8 +42,8 @@ fn is_candidate(system: u8) -> bool
     systems::member(system, 0) < COMPONENTS
 }
 
-// An amount of a lent array, which tells no range of its own.
-fn wide(x: u32) -> u64
+// An amount, with the range that an element of a lent array does not tell.
+fn ranged(x: u32) -> u64
     ensures { λ r. ⌜ (r ≡ x) × (r ≤ 4294967295) ⌝ }
 {
     x as u64
@@ -55,7 +56,7 @@ fn mixture_fit(mix: &[u32; COMPONENTS]) -> bool
     let mut sum: u64 = 0;
     let mut c = 0;
     while c < COMPONENTS {
-        sum += wide(mix[c]);
+        sum += ranged(mix[c]);
         c += 1;
     }
     sum <= MILLION

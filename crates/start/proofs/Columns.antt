@@ -1,4 +1,4 @@
--- The components' columns, one after the other, are the start.
+-- The components' columns, one after the other, are the start. Assumes nothing.
 use Prim.Native.Nat.{ℕ, zero, suc, _+_, _*_, _-_, _/_, _%_, _≤_, _<_, max, min}
 use mathlib.Core.Path.{_≡_, refl, sym, ap, ap₂, _∙_}
 use mathlib.Core.Bool.{Bool, true, false, cond}
@@ -12,9 +12,10 @@ use lib.Seq.{getD-set-same, getD-set-other, set-getD, ext-getD}
 use borrow.Author.Tests.{ltb-true, ltb-false, le-ltb, eqb-true, eqb-false}
 use Rattle.systems.specs.Systems.{COMPONENTS, hasOf}
 use Rattle.systems.specs.Laws.Table.{none-has}
+use Rattle.systems.specs.Choice.{oneIf, SYSTEMS}
 use Rattle.split.specs.Fold.{sumTo, table}
 use Rattle.split.specs.Laws.Tables.{length-table, getD-table}
-use Rattle.split.specs.Split.{SYSTEMS, CELLS, systemOf}
+use Rattle.split.specs.Split.{CELLS, systemOf}
 use Rattle.split.specs.Start.{sharersOf, shareOf, startAmount, startCell, startOf}
 use Rattle.split.specs.Laws.Starts.{cell-past, cell-off, cell-on, some-sharer}
 use Rattle.start.specs.Inner.Column.{Cells, Marked, partOf, sharedRow, columnTo, sharedOf, sharedTo}
@@ -58,40 +59,44 @@ module _ (ch : List ℕ) (c share odd : ℕ) (a : List ℕ) where
 
 -- ---- a column of marks: shares of 1
 
-row-mark : (ch : List ℕ) (c s : ℕ) → sharedRow ch c 1 0 s ≡ cond (hasOf (systemOf ch s) c) 1 0
+row-mark : (ch : List ℕ) (c s : ℕ) → sharedRow ch c 1 0 s ≡ oneIf (hasOf (systemOf ch s) c)
 unfolding sharedRow partOf
 row-mark ch c s = go (hasOf (systemOf ch s) c)
   where
-    go : (b : Bool) → cond (eqb (cond b 1 0) 0) 0 (1 + cond (ltb (sharersOf ch c s) 0) 1 0) ≡ cond b 1 0
+    go : (b : Bool) → cond (eqb (oneIf b) 0) 0 (1 + oneIf (ltb (sharersOf ch c s) 0)) ≡ oneIf b
     go true = rw (le-ltb (sharersOf ch c s) 0 (omega arith)) refl
     go false = refl
 
 module _ (ch : List ℕ) (c : ℕ) (a : List ℕ) (low : c < COMPONENTS) (n : ℕ) (room : n * COMPONENTS ≤ length a) where
-  mark-length : length (columnTo ch c 1 0 a n) ≡ length a
+  -- the cells with the marks
+  abbrev marked : List ℕ
+  marked = columnTo ch c 1 0 a n
+
+  mark-length : length marked ≡ length a
   mark-length = column-length ch c 1 0 a n
 
   -- parts written over the marks
-  pub over-marks : (share odd : ℕ) → columnTo ch c share odd (columnTo ch c 1 0 a n) n ≡ columnTo ch c share odd a n
+  pub over-marks : (share odd : ℕ) → columnTo ch c share odd marked n ≡ columnTo ch c share odd a n
   over-marks share odd =
-      ext-getD 0 (columnTo ch c share odd (columnTo ch c 1 0 a n) n) (columnTo ch c share odd a n)
-      (column-length ch c share odd (columnTo ch c 1 0 a n) n ∙ mark-length ∙ sym (column-length ch c share odd a n))
+      ext-getD 0 (columnTo ch c share odd marked n) (columnTo ch c share odd a n)
+      (column-length ch c share odd marked n ∙ mark-length ∙ sym (column-length ch c share odd a n))
       (λ j l. at j (eqb (j % COMPONENTS) c) refl (ltb (j / COMPONENTS) n) refl)
     where
       other : (j : ℕ) → ((i : ℕ) → i < n → j ≡ i * COMPONENTS + c → ⊥)
-          → getD (columnTo ch c share odd (columnTo ch c 1 0 a n) n) j 0 ≡ getD (columnTo ch c share odd a n) j 0
+          → getD (columnTo ch c share odd marked n) j 0 ≡ getD (columnTo ch c share odd a n) j 0
       other j h =
-          column-other ch c share odd (columnTo ch c 1 0 a n) n j h ∙ column-other ch c 1 0 a n j h
+          column-other ch c share odd marked n j h ∙ column-other ch c 1 0 a n j h
           ∙ sym (column-other ch c share odd a n j h)
 
       at : (j : ℕ) (b : Bool) → eqb (j % COMPONENTS) c ≡ b → (d : Bool) → ltb (j / COMPONENTS) n ≡ d
-          → getD (columnTo ch c share odd (columnTo ch c 1 0 a n) n) j 0 ≡ getD (columnTo ch c share odd a n) j 0
+          → getD (columnTo ch c share odd marked n) j 0 ≡ getD (columnTo ch c share odd a n) j 0
       at j false e d f = let q = eqb-false (j % COMPONENTS) c e in other j (λ i h p. q (omega (arith, low)))
       at j true e false f = let q = ltb-false (j / COMPONENTS) n f in other j (λ i h p. omega (arith, low))
       at j true e true f =
           let q = ltb-true (j / COMPONENTS) n f in
           let p : j ≡ j / COMPONENTS * COMPONENTS + c = omega (arith, eqb-true (j % COMPONENTS) c e) in
-          ap (λ x. getD (columnTo ch c share odd (columnTo ch c 1 0 a n) n) x 0) p
-          ∙ column-row ch c share odd (columnTo ch c 1 0 a n) n (j / COMPONENTS) q low (omega (arith, mark-length))
+          ap (λ x. getD (columnTo ch c share odd marked n) x 0) p
+          ∙ column-row ch c share odd marked n (j / COMPONENTS) q low (omega (arith, mark-length))
           ∙ sym (column-row ch c share odd a n (j / COMPONENTS) q low room)
           ∙ sym (ap (λ x. getD (columnTo ch c share odd a n) x 0) p)
 
@@ -244,9 +249,9 @@ done-more mix ch k a b n h z e =
 -- a component of which the mixture has nothing is passed over: its cells hold 0
 row-none : (ch : List ℕ) (c s : ℕ) → sharedRow ch c 0 0 s ≡ 0
 unfolding sharedRow partOf
-row-none ch c s = go (eqb (cond (hasOf (systemOf ch s) c) 1 0) 0)
+row-none ch c s = go (eqb (oneIf (hasOf (systemOf ch s) c)) 0)
   where
-    go : (b : Bool) → cond b 0 (0 + cond (ltb (sharersOf ch c s) 0) 1 0) ≡ 0
+    go : (b : Bool) → cond b 0 (0 + oneIf (ltb (sharersOf ch c s) 0)) ≡ 0
     go true = refl
     go false = rw (le-ltb (sharersOf ch c s) 0 (omega arith))
 

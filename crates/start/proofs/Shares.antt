@@ -1,7 +1,7 @@
--- A component's parts, row by row.
+-- A component's parts, row by row. Assumes nothing.
 use Prim.Native.Nat.{ℕ, zero, suc, _+_, _*_, _-_, _/_, _%_, _≤_, _<_, max}
 use mathlib.Core.Path.{_≡_, refl, sym, ap, ap₂, _∙_, subst⁻¹}
-use mathlib.Core.Bool.{Bool, true, false, cond}
+use mathlib.Core.Bool.{Bool, true, false}
 use mathlib.Core.List.{List}
 use native.Mathlib.Nat as N
 use native.Mathlib.Numerals.{add-one}
@@ -11,6 +11,7 @@ use lib.ListN.{getD, set, length}
 use lib.Seq.{getD-set-other}
 use borrow.Author.Tests.{lt-ltb, le-ltb, eq-eqb, ne-eqb, eqb-true, eqb-false}
 use Rattle.systems.specs.Systems.{COMPONENTS, hasOf}
+use Rattle.systems.specs.Choice.{SYSTEMS, oneIf}
 use Rattle.split.specs.Laws.Folds.{sum-none, sum-more}
 use Rattle.split.specs.Split.{CELLS, systemOf}
 use Rattle.split.specs.Start.{sharersOf}
@@ -58,16 +59,16 @@ module _ (ch : List ℕ) (end c : ℕ) (z : Cells end c) where
         at = omega arith;
         past = omega arith;
         count = sum-none
-            (λ s. cond (hasOf (systemOf ch s) c) 1 0);
+            (λ s. oneIf (hasOf (systemOf ch s) c));
         few = omega arith;
       }
 
   -- a cell's system and component
-  here-is : (i row y : ℕ) → i ≡ row * COMPONENTS + c → y ≡ containedAt ch i → y ≡ cond (hasOf (systemOf ch row) c) 1 0
+  here-is : (i row y : ℕ) → i ≡ row * COMPONENTS + c → y ≡ containedAt ch i → y ≡ oneIf (hasOf (systemOf ch row) c)
   here-is i row y at e =
       let s : i / COMPONENTS ≡ row = omega (arith, z .low) in
       let d : i % COMPONENTS ≡ c = omega (arith, z .low) in
-      e ∙ ap₂ (λ x u. cond (hasOf (systemOf ch x) u) 1 0) s d
+      e ∙ ap₂ (λ x u. oneIf (hasOf (systemOf ch x) u)) s d
 
   module _ (r i : ℕ) (w : Counted ch end c r i) where
     pub counted-more : (y : ℕ) → i < end → (y ≡ containedAt ch i) × (y ≤ 1) → Counted ch end c (r + y) (i + COMPONENTS)
@@ -77,7 +78,7 @@ module _ (ch : List ℕ) (end c : ℕ) (z : Cells end c) where
       at = omega (arith, w .at);
       past = omega (arith, w .at, z .whole, z .low);
       count =
-          sum-more (λ s. cond (hasOf (systemOf ch s) c) 1 0) (w .row) r y (w .count)
+          sum-more (λ s. oneIf (hasOf (systemOf ch s) c)) (w .row) r y (w .count)
           (here-is i (w .row) y (w .at) (e .0));
       few = omega (arith, w .few, e .1);
     }
@@ -97,7 +98,7 @@ module _ (ch : List ℕ) (end c : ℕ) (z : Cells end c) where
         (omega (arith, e), omega (arith, e))
 
     -- the counts fit
-    pub counted-few : i < end → r ≤ 8
+    pub counted-few : i < end → r ≤ SYSTEMS
     counted-few h = omega (arith, w .at, w .few, z .room)
 
 -- the rows before cell i's have their parts
@@ -130,9 +131,9 @@ module _ (ch : List ℕ) (end c share odd : ℕ) (a : List ℕ) (z : Cells end c
 pub record Rewritten (ch : List ℕ) (end c share odd : ℕ) (a b : List ℕ) (rank i : ℕ) : Type 0 where
   pub written : Written ch end c share odd a b rank i
   pub rest : (s : ℕ) → written .counted .row ≤ s → s < end / COMPONENTS
-      → getD b (s * COMPONENTS + c) 0 ≡ cond (hasOf (systemOf ch s) c) 1 0
+      → getD b (s * COMPONENTS + c) 0 ≡ oneIf (hasOf (systemOf ch s) c)
 
-one-most : (b : Bool) → cond b 1 0 ≤ 1
+one-most : (b : Bool) → oneIf b ≤ 1
 one-most true = omega arith
 one-most false = omega arith
 
@@ -148,8 +149,8 @@ module _ (ch : List ℕ) (end c share odd : ℕ) (a : List ℕ) (z : Cells end c
         let row : i / COMPONENTS ≡ n .row = omega (arith, n .at, z .low) in
         let d : i % COMPONENTS ≡ c = omega (arith, n .at, z .low) in
         let m = w .rest (n .row) (omega arith) (omega (arith, n .at, z .whole, z .low)) in
-        let is : here ≡ cond (hasOf (systemOf ch (n .row)) c) 1 0 = e ∙ ap (λ x. getD b x 0) (n .at) ∙ m in (
-          is ∙ sym (ap₂ (λ x u. cond (hasOf (systemOf ch x) u) 1 0) row d),
+        let is : here ≡ oneIf (hasOf (systemOf ch (n .row)) c) = e ∙ ap (λ x. getD b x 0) (n .at) ∙ m in (
+          is ∙ sym (ap₂ (λ x u. oneIf (hasOf (systemOf ch x) u)) row d),
           subst⁻¹ (λ (x : ℕ). x ≤ 1) is (one-most (hasOf (systemOf ch (n .row)) c)),
         )
 

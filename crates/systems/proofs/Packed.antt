@@ -2,11 +2,13 @@
 use Prim.Native.Nat.{ℕ, _+_, _*_, _/_, _%_, _^_, _≤_, _<_}
 use mathlib.Core.Path.{_≡_, refl, ap, _∙_}
 use mathlib.Core.Bool.{Bool, true, false, Bool·beq}
+use mathlib.Core.List.{[]}
 use native.Mathlib.Omega.{arith}
 use lib.Dec.{T, eqb, leb, leb→le}
+use lib.ListN.{getD, length, List·getD-eq-default}
 use borrow.Author.Tests.{ne-eqb}
 use Rattle.refusal.specs.Laws.Alike.{beq-is}
-use Rattle.systems.specs.Systems.{COMPONENTS, memberOf, hasOf}
+use Rattle.systems.specs.Systems.{COMPONENTS, members, memberOf, hasOf}
 use Rattle.systems.specs.Choice.{NUMBERS, maskFrom, maskOf}
 use Rattle.systems.specs.Laws.Members.{member-none}
 use Rattle.systems.specs.Laws.Table.{everyTo, eachTo, agree, agree-at}
@@ -19,6 +21,17 @@ digitAt table place = table / 2 ^ (place * 3) % 8
 pub member-is : (table j : ℕ) → T (agree (digitAt table) (λ s. memberOf s j) NUMBERS) → (system r : ℕ)
     → system < NUMBERS → r ≡ digitAt table system → r ≡ memberOf system j
 member-is table j t system r h e = e ∙ agree-at (digitAt table) (λ s. memberOf s j) NUMBERS t system h
+
+fewIn : ℕ → Bool
+fewIn system = leb (length (getD members system [])) 3
+
+-- no system has a fourth member
+pub member-few : (system j : ℕ) → system < length members → 3 ≤ j → memberOf system j ≡ COMPONENTS
+unfolding memberOf fewIn
+member-few system j h l =
+    let t : length (getD members system []) ≤ 3 =
+    leb→le (length (getD members system [])) 3 (eachTo fewIn (length members) tt system h) in
+    List·getD-eq-default (getD members system []) COMPONENTS {n = j} (omega arith)
 
 -- ---- what a system contains: a bit for each system number and component, and for COMPONENTS
 

@@ -33,10 +33,14 @@ weightedTo mix (suc n) = weightedTo mix n + weightedParts mix n
 
 -- ---- the components present
 
+-- 1 where a test passes
+abbrev pub oneIf : Bool → ℕ
+oneIf passes = cond passes 1 0
+
 -- a set of components is a mask: the bit of component i is set where the test passes at i; so many components from i on
 unfoldable pub maskFrom : (ℕ → Bool) → ℕ → ℕ → ℕ
 maskFrom f zero i = 0
-maskFrom f (suc n) i = maskFrom f n (i + 1) * 2 + cond (f i) 1 0
+maskFrom f (suc n) i = maskFrom f n (i + 1) * 2 + oneIf (f i)
 
 -- whether component c is in the set
 unfoldable pub inMask : ℕ → ℕ → Bool
@@ -105,10 +109,6 @@ NUMBERS = 9
 
 abbrev pub isChosen : List Bool → ℕ → Bool
 isChosen marks system = getD marks system false
-
-abbrev pub oneIf : Bool → ℕ
-oneIf true = 1
-oneIf false = 0
 
 -- how many of the chosen systems contain component c
 abbrev pub countContaining : List Bool → ℕ → ℕ → ℕ → ℕ
@@ -185,4 +185,4 @@ choiceOf mix = choiceFrom (chooseOf mix)
 -- the number of the numbers below n that the test passes at
 unfoldable pub countTo : (ℕ → Bool) → ℕ → ℕ
 countTo f zero = 0
-countTo f (suc n) = countTo f n + cond (f n) 1 0
+countTo f (suc n) = countTo f n + oneIf (f n)

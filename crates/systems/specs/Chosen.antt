@@ -16,16 +16,16 @@ use lib.Count.{ones}
 use lib.Dec.{T, eqb, ltb, leb, ltb→lt, leb→le, le→leb}
 use lib.ListN.{getD, length, replicate}
 use borrow.Author.Tests.{eqb-true, eq-eqb, ne-eqb, lt-ltb}
-use Rattle.refusal.specs.Keys.{isIn}
+use Rattle.refusal.specs.Keys.{isIn, rising}
 use Rattle.systems.specs.Systems.{COMPONENTS, METHANE, HYDROGEN, memberOf, hasOf, Candidate}
 use Rattle.systems.specs.Laws.Table.{of-true, to-true, everyTo, eachTo}
 use Rattle.systems.specs.Choice.{countTo, NUMBERS, order, fold, maskFrom, maskOf, inMask, presentOf}
 use Rattle.systems.specs.Choice.{presentCount, presentIn, keep, containingOf}
 use Rattle.systems.specs.Choice.{passOf, marksOf, listOf, chosenOf, chooseBy, chooseOf, paddedOf, choiceOf}
 use Rattle.systems.specs.Choice.{standingOf, candidatesFor, candidatesOf}
-use Rattle.systems.specs.Laws.Presence.{present-is, present-lt, standing-more, offered-candidate}
+use Rattle.systems.specs.Laws.Presence.{present-is, present-lt, offered-candidate}
+use Rattle.systems.specs.Standing.{standing-more}
 use Rattle.systems.specs.Laws.Passes.{passed, always, pass-good}
-use Rattle.systems.specs.Fittest.{rises}
 
 -- ---- the theorems
 
@@ -36,62 +36,64 @@ MOST = 5
 -- how many are where so many components are present, methane among them: two for two, three for three and for four,
 -- four or five for five
 abbrev pub chosenFor : ℕ → ℕ → Bool
-chosenFor n k =
-    cond (eqb n 2) (eqb k 2) (cond (eqb n 5) (leb 4 k && leb k MOST) (eqb k 3))
+chosenFor n count =
+    cond (eqb n 2) (eqb count 2) (cond (eqb n 5) (leb 4 count && leb count MOST) (eqb count 3))
 
-pub two-chosen : (n k : ℕ) → n ≡ 2 → chosenFor n k ≡ true → k ≡ 2
-two-chosen n k e h = eqb-true k 2 (rw (chosenFor, eq-eqb n 2 e) at h)
+pub two-chosen : (n count : ℕ) → n ≡ 2 → chosenFor n count ≡ true → count ≡ 2
+two-chosen n count e h = eqb-true count 2 (rw (chosenFor, eq-eqb n 2 e) at h)
 
-pub three-chosen : (n k : ℕ) → 3 ≤ n → n ≤ 4 → chosenFor n k ≡ true → k ≡ 3
-three-chosen n k l m h =
+pub three-chosen : (n count : ℕ) → 3 ≤ n → n ≤ 4 → chosenFor n count ≡ true → count ≡ 3
+three-chosen n count l m h =
     let other = rw (chosenFor, ne-eqb n 2 (λ e. absurd (omega arith))) at h in
-    eqb-true k 3 (rw (ne-eqb n 5 (λ e. absurd (omega arith))) at other)
+    eqb-true count 3 (rw (ne-eqb n 5 (λ e. absurd (omega arith))) at other)
 
-pub five-chosen : (n k : ℕ) → n ≡ 5 → chosenFor n k ≡ true → (4 ≤ k) × (k ≤ MOST)
-five-chosen n k e h =
+pub five-chosen : (n count : ℕ) → n ≡ 5 → chosenFor n count ≡ true → (4 ≤ count) × (count ≤ MOST)
+five-chosen n count e h =
     let other = rw (chosenFor, ne-eqb n 2 (λ f. absurd (omega arith))) at h in
-    let t = of-true (leb 4 k && leb k MOST) (rw (eq-eqb n 5 e) at other) in
-    (leb→le 4 k (and-l (leb 4 k) (leb k MOST) t), leb→le k MOST (and-r (leb 4 k) (leb k MOST) t))
+    let t = of-true (leb 4 count && leb count MOST) (rw (eq-eqb n 5 e) at other) in (
+      leb→le 4 count (and-l (leb 4 count) (leb count MOST) t),
+      leb→le count MOST (and-r (leb 4 count) (leb count MOST) t),
+    )
 
--- what holds of k chosen systems `ch`, where the components of a mask are present
-pub record Choosable (present : ℕ) (ch : List ℕ) (k : ℕ) : Type 0 where
-  pub some : 2 ≤ k
-  pub few : k ≤ MOST
-  pub offered : (i : ℕ) → i < k → isIn (getD ch i 0) (candidatesOf present) ≡ true
-  pub known : (i : ℕ) → i < k → Candidate (getD ch i 0)
-  pub rising : (i j : ℕ) → i < j → j < k → getD ch i 0 < getD ch j 0
+-- what holds of so many chosen systems, where the components of a mask are present
+pub record Choosable (present : ℕ) (systems : List ℕ) (count : ℕ) : Type 0 where
+  pub some : 2 ≤ count
+  pub few : count ≤ MOST
+  pub offered : (i : ℕ) → i < count → isIn (getD systems i 0) (candidatesOf present) ≡ true
+  pub known : (i : ℕ) → i < count → Candidate (getD systems i 0)
+  pub rising : (i j : ℕ) → i < j → j < count → getD systems i 0 < getD systems j 0
   pub twice : (c : ℕ) → c < COMPONENTS → inMask present c ≡ true
-      → 2 ≤ countTo (λ i. hasOf (getD ch i 0) c) k
-  pub supplied : (i : ℕ) → i < k → 1 ≤ presentIn present (getD ch i 0)
+      → 2 ≤ countTo (λ i. hasOf (getD systems i 0) c) count
+  pub supplied : (i : ℕ) → i < count → 1 ≤ presentIn present (getD systems i 0)
 
 -- and besides where methane is one of them
-pub record Filled (present : ℕ) (ch : List ℕ) (k : ℕ) : Type 0 where
-  pub number : chosenFor (ones present) k ≡ true
-  pub filled : (i : ℕ) → i < k → 2 ≤ presentIn present (getD ch i 0)
+pub record Filled (present : ℕ) (systems : List ℕ) (count : ℕ) : Type 0 where
+  pub number : chosenFor (ones present) count ≡ true
+  pub filled : (i : ℕ) → i < count → 2 ≤ presentIn present (getD systems i 0)
 
 -- the same as tests
 offeredAt : ℕ → List ℕ → ℕ → Bool
-offeredAt present ch i = isIn (getD ch i 0) (candidatesOf present)
+offeredAt present systems i = isIn (getD systems i 0) (candidatesOf present)
 
 risesAt : List ℕ → ℕ → ℕ → Bool
-risesAt ch i j = not (ltb i j) || ltb (getD ch i 0) (getD ch j 0)
+risesAt systems i j = not (ltb i j) || ltb (getD systems i 0) (getD systems j 0)
 
 twiceAt : ℕ → List ℕ → ℕ → ℕ → Bool
-twiceAt present ch k c = not (inMask present c) || leb 2 (countTo (λ i. hasOf (getD ch i 0) c) k)
+twiceAt present systems count c = not (inMask present c) || leb 2 (countTo (λ i. hasOf (getD systems i 0) c) count)
 
 filledAt : ℕ → ℕ → List ℕ → ℕ → Bool
-filledAt n present ch i = leb n (presentIn present (getD ch i 0))
+filledAt n present systems i = leb n (presentIn present (getD systems i 0))
 
 choosable : ℕ → List ℕ → ℕ → Bool
-choosable present ch k =
-    (leb 2 k && leb k MOST)
-    && (everyTo (offeredAt present ch) k
-    && (everyTo (λ i. everyTo (risesAt ch i) k) k
-    && (everyTo (twiceAt present ch k) COMPONENTS
-    && everyTo (filledAt 1 present ch) k)))
+choosable present systems count =
+    (leb 2 count && leb count MOST)
+    && (everyTo (offeredAt present systems) count
+    && (everyTo (λ i. everyTo (risesAt systems i) count) count
+    && (everyTo (twiceAt present systems count) COMPONENTS
+    && everyTo (filledAt 1 present systems) count)))
 
 full : ℕ → List ℕ → ℕ → Bool
-full present ch k = chosenFor (ones present) k && everyTo (filledAt 2 present ch) k
+full present systems count = chosenFor (ones present) count && everyTo (filledAt 2 present systems) count
 
 five : (a b c d e : Bool) → T (a && (b && (c && (d && e)))) → T a × T b × T c × T d × T e
 five a b c d e t =
@@ -100,43 +102,50 @@ five a b c d e t =
     let w = and-r c (d && e) v in
     (and-l a (b && (c && (d && e))) t, and-l b (c && (d && e)) u, and-l c (d && e) v, and-l d e w, and-r d e w)
 
-of-choosable : (present : ℕ) (ch : List ℕ) (k : ℕ) → T (choosable present ch k) → Choosable present ch k
+of-choosable : (present : ℕ) (systems : List ℕ) (count : ℕ)
+    → T (choosable present systems count) → Choosable present systems count
 unfolding choosable offeredAt risesAt twiceAt filledAt
-of-choosable present ch k t =
+of-choosable present systems count t =
     let (number, offered, rises, twice, supplied) =
-    five (leb 2 k && leb k MOST) (everyTo (offeredAt present ch) k) (everyTo (λ i. everyTo (risesAt ch i) k) k)
-    (everyTo (twiceAt present ch k) COMPONENTS) (everyTo (filledAt 1 present ch) k) t in
-    let among : ((i : ℕ) → i < k → isIn (getD ch i 0) (candidatesOf present) ≡ true) =
-    λ i h. to-true (offeredAt present ch i) (eachTo (offeredAt present ch) k offered i h) in
+    five (leb 2 count && leb count MOST) (everyTo (offeredAt present systems) count)
+    (everyTo (λ i. everyTo (risesAt systems i) count) count)
+    (everyTo (twiceAt present systems count) COMPONENTS) (everyTo (filledAt 1 present systems) count) t in
+    let among : ((i : ℕ) → i < count → isIn (getD systems i 0) (candidatesOf present) ≡ true) =
+    λ i h. to-true (offeredAt present systems i) (eachTo (offeredAt present systems) count offered i h) in
     record {
-      some = leb→le 2 k (and-l (leb 2 k) (leb k MOST) number);
-      few = leb→le k MOST (and-r (leb 2 k) (leb k MOST) number);
+      some = leb→le 2 count (and-l (leb 2 count) (leb count MOST) number);
+      few = leb→le count MOST (and-r (leb 2 count) (leb count MOST) number);
       offered = among;
-      known = λ i h. record { listed = offered-candidate present (getD ch i 0) (among i h) };
+      known = λ i h. record { listed = offered-candidate present (getD systems i 0) (among i h) };
       rising = λ i j h l.
-          let row = eachTo (λ i. everyTo (risesAt ch i) k) k rises i (omega arith) in
-          ltb→lt (getD ch i 0) (getD ch j 0)
-          (passed (ltb i j) (ltb (getD ch i 0) (getD ch j 0)) (eachTo (risesAt ch i) k row j l) (lt-ltb i j h));
+          let row = eachTo (λ i. everyTo (risesAt systems i) count) count rises i (omega arith) in
+          ltb→lt (getD systems i 0) (getD systems j 0)
+          (passed (ltb i j) (ltb (getD systems i 0) (getD systems j 0)) (eachTo (risesAt systems i) count row j l)
+          (lt-ltb i j h));
       twice = λ c h e.
-          let count = countTo (λ i. hasOf (getD ch i 0) c) k in
-          leb→le 2 count
-          (passed (inMask present c) (leb 2 count) (eachTo (twiceAt present ch k) COMPONENTS twice c h) e);
-      supplied = λ i h. leb→le 1 (presentIn present (getD ch i 0)) (eachTo (filledAt 1 present ch) k supplied i h);
+          let containing = countTo (λ i. hasOf (getD systems i 0) c) count in
+          leb→le 2 containing
+          (passed (inMask present c) (leb 2 containing)
+          (eachTo (twiceAt present systems count) COMPONENTS twice c h) e);
+      supplied = λ i h.
+          leb→le 1 (presentIn present (getD systems i 0)) (eachTo (filledAt 1 present systems) count supplied i h);
     }
 
-of-full : (present : ℕ) (ch : List ℕ) (k : ℕ) → T (full present ch k) → Filled present ch k
+of-full : (present : ℕ) (systems : List ℕ) (count : ℕ) → T (full present systems count) → Filled present systems count
 unfolding full filledAt
-of-full present ch k t =
-    let number = and-l (chosenFor (ones present) k) (everyTo (filledAt 2 present ch) k) t in
-    let filled = and-r (chosenFor (ones present) k) (everyTo (filledAt 2 present ch) k) t in
+of-full present systems count t =
+    let number = and-l (chosenFor (ones present) count) (everyTo (filledAt 2 present systems) count) t in
+    let filled = and-r (chosenFor (ones present) count) (everyTo (filledAt 2 present systems) count) t in
     record {
-      number = to-true (chosenFor (ones present) k) number;
-      filled = λ i h. leb→le 2 (presentIn present (getD ch i 0)) (eachTo (filledAt 2 present ch) k filled i h);
+      number = to-true (chosenFor (ones present) count) number;
+      filled = λ i h.
+          leb→le 2 (presentIn present (getD systems i 0)) (eachTo (filledAt 2 present systems) count filled i h);
     }
 
 -- the chosen systems, and the list that is answered, pass
 good : ℕ → List ℕ → ℕ → Bool
-good present ch k = choosable present ch k && (not (inMask present METHANE) || full present ch k)
+good present systems count =
+    choosable present systems count && (not (inMask present METHANE) || full present systems count)
 
 goodBoth : ℕ → List ℕ → Bool
 goodBoth present l = good present l (length l) && good present (paddedOf l) (length l)
@@ -163,11 +172,11 @@ unfolding enough first second goodMarks goodBoth good full choosable offeredAt r
     candidatesOf
 each-set = tt
 
-rising-offered : (present : ℕ) → T (rises 0 (candidatesOf present))
+rising-offered : (present : ℕ) → T (rising 0 (candidatesOf present))
 unfolding candidatesOf
 rising-offered present = go (inMask present HYDROGEN)
   where
-    go : (hydrogen : Bool) → T (rises 0 (candidatesFor hydrogen))
+    go : (hydrogen : Bool) → T (rising 0 (candidatesFor hydrogen))
     go true = tt
     go false = tt
 
@@ -206,18 +215,20 @@ module _ (mix : List ℕ) (h : 2 ≤ presentCount mix) where
       and-r (good (presentOf mix) (chooseOf mix) (length (chooseOf mix)))
       (good (presentOf mix) (paddedOf (chooseOf mix)) (length (chooseOf mix))) tested
 
-good-choosable : (present : ℕ) (ch : List ℕ) (k : ℕ) → T (good present ch k) → Choosable present ch k
+good-choosable : (present : ℕ) (systems : List ℕ) (count : ℕ)
+    → T (good present systems count) → Choosable present systems count
 unfolding good
-good-choosable present ch k t =
-    of-choosable present ch k (and-l (choosable present ch k) (not (inMask present METHANE) || full present ch k) t)
+good-choosable present systems count t =
+    of-choosable present systems count
+    (and-l (choosable present systems count) (not (inMask present METHANE) || full present systems count) t)
 
-good-filled : (present : ℕ) (ch : List ℕ) (k : ℕ) → inMask present METHANE ≡ true → T (good present ch k)
-    → Filled present ch k
+good-filled : (present : ℕ) (systems : List ℕ) (count : ℕ)
+    → inMask present METHANE ≡ true → T (good present systems count) → Filled present systems count
 unfolding good
-good-filled present ch k m t =
-    of-full present ch k
-    (passed (inMask present METHANE) (full present ch k)
-    (and-r (choosable present ch k) (not (inMask present METHANE) || full present ch k) t) m)
+good-filled present systems count m t =
+    of-full present systems count
+    (passed (inMask present METHANE) (full present systems count)
+    (and-r (choosable present systems count) (not (inMask present METHANE) || full present systems count) t) m)
 
 -- the chosen systems, and the choice as it is answered
 pub choose-choosable : (mix : List ℕ) → 2 ≤ presentCount mix

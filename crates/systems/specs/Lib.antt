@@ -1,6 +1,10 @@
 pub mod Systems
 pub mod Choice
+pub mod Members
+pub mod Standing
+pub mod AllPresent
 pub mod Marked
+pub mod Before
 pub mod Without
 pub mod Fittest
 pub mod Chosen

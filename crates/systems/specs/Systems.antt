@@ -2,7 +2,7 @@
 -- Assumes nothing.
 use Prim.Native.Nat.{ℕ}
 use mathlib.Core.List.{List, [], _∷_}
-use mathlib.Core.Bool.{Bool, true, cond}
+use mathlib.Core.Bool.{Bool, true, _||_}
 use mathlib.Core.Path.{_≡_, refl}
 use lib.Dec.{eqb}
 use lib.ListN.{getD}
@@ -46,8 +46,7 @@ memberOf system j = getD (getD members system []) j COMPONENTS
 
 -- whether the system contains component c
 unfoldable pub hasOf : ℕ → ℕ → Bool
-hasOf system c =
-    cond (eqb c (memberOf system 0)) true (cond (eqb c (memberOf system 1)) true (eqb c (memberOf system 2)))
+hasOf system c = eqb c (memberOf system 0) || (eqb c (memberOf system 1) || eqb c (memberOf system 2))
 
 -- the system is a candidate
 pub record Candidate (system : ℕ) : Type 0 where

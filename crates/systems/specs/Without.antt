@@ -1,121 +1,33 @@
 -- A MIXTURE WITHOUT HYDROGEN GETS THE CHOICE THAT IT HAD (document 02, Seven): that of four components, among the four
 -- systems of hydrocarbons, in the order of document 01. Assumes nothing.
-use Prim.Native.Nat.{ℕ, zero, suc, _+_, _*_}
-use mathlib.Core.Path.{_≡_, refl, sym, ap, ap₂, _∙_}
+use Prim.Native.Nat.{ℕ, zero, suc}
+use mathlib.Core.Path.{_≡_, refl, ap, ap₂, _∙_}
 use mathlib.Core.List.{List, [], _∷_}
-use mathlib.Core.Bool.{Bool, true, false, cond}
-use native.Mathlib.Nat.{add-zero}
-use native.Mathlib.Omega.{arith}
-use lib.Dec.{eqb, ltb}
 use lib.ListN.{getD}
-use borrow.Author.Tests.{eqb-true, le-ltb}
-use Rattle.systems.specs.Systems.{COMPONENTS, HYDROGEN, memberOf, hydrocarbonSystems}
-use Rattle.systems.specs.Laws.Presence.{present-is}
-use Rattle.systems.specs.Choice.{weights, fitnessOf, weightedTo, maskFrom, inMask, presentAt, presentTo}
-use Rattle.systems.specs.Choice.{presentOf}
-use Rattle.systems.specs.Choice.{presentIn, standingBy, candidatesFor, candidatesOf, keep, hydrocarbonOrder}
-use Rattle.systems.specs.Choice.{order, chooseBy, chooseIn, chooseOf, choiceFrom, choiceOf}
-
--- ---- as it was
-
--- methane, ethane, propane, butane
-abbrev pub HYDROCARBONS : ℕ
-HYDROCARBONS = 4
-
-abbrev pub chooseBefore : List ℕ → List ℕ
-chooseBefore mix = chooseIn HYDROCARBONS hydrocarbonSystems hydrocarbonOrder mix
-
--- ---- where there is no hydrogen
-
--- a mask has no more in it where the last of its components is not
-mask-short : (f : ℕ → Bool) (n i : ℕ) → f (i + n) ≡ false → maskFrom f (suc n) i ≡ maskFrom f n i
-unfolding maskFrom
-mask-short f zero i e = rw (ap f (sym (add-zero i)) ∙ e)
-mask-short f (suc n) i e =
-    ap (λ (x : ℕ). x * 2 + cond (f i) 1 0) (mask-short f n (i + 1) (ap f (omega arith) ∙ e))
-
--- an order without hydrogen
-unfoldable others : List ℕ → List ℕ
-others [] = []
-others (c ∷ cs) = cond (eqb c HYDROGEN) (others cs) (c ∷ others cs)
-
--- which is passed over where it is absent
-keep-others : (present : ℕ) → inMask present HYDROGEN ≡ false → (cs : List ℕ)
-    → keep present cs ≡ keep present (others cs)
-unfolding keep others
-keep-others present e [] = refl
-keep-others present e (c ∷ cs) = go (eqb c HYDROGEN) refl (keep-others present e cs)
-  where
-    go : (b : Bool) → eqb c HYDROGEN ≡ b → keep present cs ≡ keep present (others cs)
-        → keep present (c ∷ cs) ≡ keep present (others (c ∷ cs))
-    go true q r = rw (q, others, ap (inMask present) (eqb-true c HYDROGEN q) ∙ e, keep) r
-    go false q r = rw (q, others) (ap (λ l. cond (inMask present c) (c ∷ l) l) r)
-
-pub keep-without : (present : ℕ) → inMask present HYDROGEN ≡ false
-    → keep present order ≡ keep present hydrocarbonOrder
-unfolding others
-keep-without present e = keep-others present e order
+use Rattle.systems.specs.Systems.{COMPONENTS, HYDROGEN, hydrocarbonSystems}
+use Rattle.systems.specs.Choice.{weightedTo, presentOf, standingBy, candidatesFor, candidatesOf, keep}
+use Rattle.systems.specs.Choice.{hydrocarbonOrder, chooseBy, chooseOf, choiceFrom, choiceOf}
+use Rattle.systems.specs.Before.{chooseBefore}
+use Rattle.systems.specs.Laws.Without.{keep-without, not-in, present-before, all-before, before-same}
 
 module _ (mix : List ℕ) (none : getD mix HYDROGEN 0 ≡ 0) where
-  hydrogen-absent : presentAt mix HYDROGEN ≡ false
-  hydrogen-absent = le-ltb 0 (getD mix HYDROGEN 0) (omega arith)
-
-  not-in : inMask (presentOf mix) HYDROGEN ≡ false
-  not-in = present-is mix HYDROGEN (omega arith) ∙ hydrogen-absent
-
-  -- the same are present,
-  pub present-before : presentOf mix ≡ presentTo HYDROCARBONS mix
-  unfolding presentOf
-  present-before = mask-short (presentAt mix) HYDROCARBONS 0 hydrogen-absent
-
-  -- the parts weigh as much,
-  pub all-before : weightedTo mix COMPONENTS ≡ weightedTo mix HYDROCARBONS
-  unfolding weightedTo
-  all-before = omega (arith, none)
-
-  -- and the candidates are the four
+  -- the candidates are the four
   pub candidates-before : candidatesOf (presentOf mix) ≡ hydrocarbonSystems
   unfolding candidatesOf
-  candidates-before = ap candidatesFor not-in
+  candidates-before = ap candidatesFor (not-in mix none)
 
   -- so the choice is the one before
   pub choose-before : chooseOf mix ≡ chooseBefore mix
   unfolding chooseOf presentOf
   choose-before =
       ap₂ (chooseBy (standingBy (presentOf mix) (weightedTo mix COMPONENTS) mix)) candidates-before
-      (keep-without (presentOf mix) not-in)
+      (keep-without (presentOf mix) (not-in mix none))
       ∙ ap₂ (λ (p all : ℕ). chooseBy (standingBy p all mix) hydrocarbonSystems (keep p hydrocarbonOrder))
-      present-before all-before
+      (present-before mix none) (all-before mix none)
 
   -- and so it is answered
   pub choice-before : choiceOf mix ≡ choiceFrom (chooseBefore mix)
   choice-before = ap choiceFrom choose-before
-
--- ---- four amounts, and the same with 0 of hydrogen
-
--- two lists with the same amounts
-module _ (mix other : List ℕ) (same : (c : ℕ) → getD mix c 0 ≡ getD other c 0) where
-  all-same : (n : ℕ) → weightedTo mix n ≡ weightedTo other n
-  unfolding weightedTo
-  all-same zero = refl
-  all-same (suc n) = ap₂ (λ (all x : ℕ). all + getD weights n 0 * x) (all-same n) (same n)
-
-  pub fitness-same : (s : ℕ) → fitnessOf mix s ≡ fitnessOf other s
-  unfolding fitnessOf
-  fitness-same s = λ j.
-      getD weights (memberOf s 0) 0 * same (memberOf s 0) j + getD weights (memberOf s 1) 0 * same (memberOf s 1) j
-      + getD weights (memberOf s 2) 0 * same (memberOf s 2) j
-
-  -- have the same components present
-  pub present-same : (n : ℕ) → presentTo n mix ≡ presentTo n other
-  present-same n = λ j. maskFrom (λ c. ltb 0 (same c j)) n 0
-
-  -- and the same choice
-  pub before-same : chooseBefore mix ≡ chooseBefore other
-  before-same = λ j.
-      let present = maskFrom (λ c. ltb 0 (same c j)) HYDROCARBONS 0 in
-      chooseBy (λ s. presentIn present s * (all-same HYDROCARBONS j + 1) + fitness-same s j) hydrocarbonSystems
-      (keep present hydrocarbonOrder)
 
 -- the choice of four amounts is that of the five with no hydrogen
 pub choose-four : (m e p b : ℕ)

@@ -10,7 +10,7 @@ pub const COMPONENTS: usize = 5;
 
 pub const HYDROGEN: usize = 4;
 
-// System numbers are below this one.
+// Room for a place for each number up to the greatest candidate: candidates are below it.
 const NUMBERS: usize = 9;
 
 // The systems' first, second and third components: an octal digit for each system number, from the right. System 1,
@@ -87,7 +87,7 @@ pub fn mask(system: u8) -> u32
     ((HELD >> (s * BITS)) % MASKS) as u32
 }
 
-// Room for chosen systems.
+// Room for chosen systems: a capacity, and not how many systems there are.
 pub const SYSTEMS: usize = 8;
 
 // The chosen systems' numbers, rising: so many, then 0 in the places left over.

@@ -30,12 +30,12 @@ pub fn before_round(spread: u64, limit: u64, rounds: u32, allowance: u32) -> Bef
     Before::Open
 }
 
-// What is done where the first move that lowers the imbalance is m, MOVES where there is none.
-pub fn go_on(level: usize, m: usize) -> Turn
-    ensures { λ r. ⌜ r ≡ goOn level m ⌝ }
+// What is done where the first move that lowers the imbalance is `moving`, MOVES where there is none.
+pub fn go_on(level: usize, moving: usize) -> Turn
+    ensures { λ r. ⌜ r ≡ goOn level moving ⌝ }
 {
-    if m < MOVES {
-        return Turn::Move(m);
+    if moving < MOVES {
+        return Turn::Move(moving);
     }
     if level == 0 {
         return Turn::Refuse;

@@ -9,7 +9,6 @@ use Rattle.choice.proofs.Keying.{all-next}
 use borrow.Author.Needs.{needs}
 use Rattle.choice.proofs.above.Statement.{statement}
 use Rattle.choice.proofs.above.Tie as tie
-use Rattle.choice.proofs.weigh.Reads as weigh-reads
 
 abbrev Inv-loop : tie.InvT-loop
 Inv-loop m k₀ c₀ k c = (c ≤ COMPONENTS) × (k ≤ MOST_WEIGHTED * c + 1) × (k ≡ weightedTo m c + 1)

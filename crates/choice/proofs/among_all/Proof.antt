@@ -4,9 +4,6 @@ use Rattle.systems.specs.Choice.{marksOf}
 use borrow.Author.Needs.{needs}
 use Rattle.choice.proofs.among_all.Statement.{statement}
 use Rattle.choice.proofs.among_all.Tie as tie
-use Rattle.choice.proofs.keys_of.Reads as keys-of-reads
-use Rattle.choice.proofs.listed.Reads as listed-reads
-use Rattle.choice.proofs.pass.Reads as pass-reads
 
 keys-of-requires : tie.Need-keys-of-requires
 keys-of-requires c κs = search needs

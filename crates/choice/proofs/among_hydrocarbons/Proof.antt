@@ -3,9 +3,6 @@ use Rattle.choice.proofs.Listing.{choice-is}
 use borrow.Author.Needs.{needs}
 use Rattle.choice.proofs.among_hydrocarbons.Statement.{statement}
 use Rattle.choice.proofs.among_hydrocarbons.Tie as tie
-use Rattle.choice.proofs.keys_of.Reads as keys-of-reads
-use Rattle.choice.proofs.listed.Reads as listed-reads
-use Rattle.choice.proofs.hydrocarbon_passes.Reads as hydrocarbon-passes-reads
 
 keys-of-requires : tie.Need-keys-of-requires
 keys-of-requires c κs = search needs

@@ -3,8 +3,6 @@ use Rattle.choice.proofs.Keying.{count-is-present}
 use borrow.Author.Needs.{needs}
 use Rattle.choice.proofs.count.Statement.{statement}
 use Rattle.choice.proofs.count.Tie as tie
-use Rattle.choice.proofs.number.Reads as number-reads
-use Rattle.systems.proofs.mask.Reads as mask-reads
 
 number-requires : tie.Need-number-requires
 number-requires c κs = search needs

@@ -3,7 +3,6 @@ use Prim.Native.Nat.{_+_, _*_, _-_, _≤_}
 use mathlib.Core.Path.{_≡_, refl}
 use native.Mathlib.Omega.{arith}
 use borrow.Author.Needs.{needs}
-use lib.ListN.{getD}
 use Rattle.systems.specs.Systems.{COMPONENTS}
 use Rattle.choice.specs.Inner.Keys.{candidateAt, MOST_WEIGHTED, keyWeights}
 use Rattle.choice.proofs.Keying.{weighed-next}

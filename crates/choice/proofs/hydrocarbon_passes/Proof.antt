@@ -4,15 +4,13 @@ use mathlib.Core.Path.{_∙_}
 use mathlib.Core.Bool.{false}
 use mathlib.Core.Logic.{⊎-elim}
 use native.Mathlib.Omega.{arith}
-use Rattle.systems.specs.Without.{HYDROCARBONS}
+use Rattle.systems.specs.Before.{HYDROCARBONS}
 use Rattle.choice.proofs.Packed.{order-lt, order-next}
 use Rattle.choice.proofs.Keying.{wantedAt, turnAt}
 use Rattle.choice.proofs.Listing.{Turns, turns-none, turns-next, turns-over, turns-all}
 use borrow.Author.Needs.{needs}
 use Rattle.choice.proofs.hydrocarbon_passes.Statement.{statement}
 use Rattle.choice.proofs.hydrocarbon_passes.Tie as tie
-use Rattle.choice.proofs.ordered.Reads as ordered-reads
-use Rattle.choice.proofs.take.Reads as take-reads
 
 abbrev Inv-loop : tie.InvT-loop
 Inv-loop keys₀ p i₀ keys i = (i ≤ 2 * HYDROCARBONS) × Turns false wantedAt turnAt p keys₀ keys i

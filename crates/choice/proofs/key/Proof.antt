@@ -4,8 +4,6 @@ use Rattle.choice.proofs.Keying.{standing-is, standing-fits}
 use borrow.Author.Needs.{needs}
 use Rattle.choice.proofs.key.Statement.{statement}
 use Rattle.choice.proofs.key.Tie as tie
-use Rattle.choice.proofs.count.Reads as count-reads
-use Rattle.choice.proofs.fitness.Reads as fitness-reads
 
 count-requires : tie.Need-count-requires
 count-requires c κs = search needs

@@ -5,8 +5,6 @@ use borrow.Author.Needs.{needs}
 use Rattle.choice.proofs.Keying.{Fresh, fresh-none, fresh-next, fresh-all}
 use Rattle.choice.proofs.keys_of.Statement.{statement}
 use Rattle.choice.proofs.keys_of.Tie as tie
-use Rattle.choice.proofs.above.Reads as above-reads
-use Rattle.choice.proofs.key.Reads as key-reads
 
 abbrev Inv-loop : tie.InvT-loop
 Inv-loop m p hydrogen top n keys₀ i₀ keys i = Fresh hydrogen m keys i

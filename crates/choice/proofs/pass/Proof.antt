@@ -10,8 +10,6 @@ use Rattle.choice.proofs.Listing.{Turns, turns-none, turns-next, turns-
 use borrow.Author.Needs.{needs}
 use Rattle.choice.proofs.pass.Statement.{statement}
 use Rattle.choice.proofs.pass.Tie as tie
-use Rattle.choice.proofs.ordered.Reads as ordered-reads
-use Rattle.choice.proofs.take.Reads as take-reads
 
 abbrev Inv-loop : tie.InvT-loop
 Inv-loop keys₀ p wanted i₀ keys i = (i ≤ COMPONENTS) × Turns true (λ i. wanted) passAt p keys₀ keys i

@@ -8,7 +8,6 @@ use Rattle.choice.proofs.Keying.{mask-next, mask-small}
 use borrow.Author.Needs.{needs}
 use Rattle.choice.proofs.present.Statement.{statement}
 use Rattle.choice.proofs.present.Tie as tie
-use Rattle.choice.proofs.one_if.Reads as one-if-reads
 
 abbrev Inv-loop : tie.InvT-loop
 Inv-loop m p₀ c₀ p c = (c ≤ COMPONENTS) × (p ≡ maskFrom (presentAt m) (COMPONENTS - c) c)

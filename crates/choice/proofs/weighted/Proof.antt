@@ -4,8 +4,6 @@ use mathlib.Core.Path.{sym, _∙_}
 use borrow.Author.Needs.{needs}
 use Rattle.choice.proofs.weighted.Statement.{statement}
 use Rattle.choice.proofs.weighted.Tie as tie
-use Rattle.choice.proofs.contains.Reads as contains-reads
-use Rattle.choice.proofs.weigh.Reads as weigh-reads
 
 contains-requires : tie.Need-contains-requires
 contains-requires c κs = search needs

@@ -18,7 +18,8 @@ use Rattle.split.specs.Laws.Members.{both-left, both-right}
 use Rattle.split.specs.Laws.Tables.{getD-table}
 use Rattle.split.specs.Split.{RECORDS, cellsOf}
 use Rattle.split.specs.Rating.{ratingOf, proposedOf, LIMIT}
-use Rattle.split.specs.Rated.{IsRated, rated-is}
+use Rattle.split.specs.Rated.{rated-is}
+use Rattle.split.specs.AnswerCases.{IsRated}
 use Rattle.split.specs.Search.{FIRST_LEVEL}
 use Rattle.split.specs.Find.{Balance}
 use Rattle.split.specs.Laws.Finds.{input-fits, find-search, find-balanced}

@@ -17,12 +17,14 @@ use Rattle.systems.specs.Systems.{memberOf, hasOf, Candidate}
 use Rattle.systems.specs.Laws.Members.{member-lt, has-member}
 use Rattle.systems.specs.Laws.Table.{everyTo, eachTo, each-candidate, of-true}
 use Rattle.split.specs.Fold.{sumTo, first}
-use Rattle.split.specs.Split.{SYSTEMS, RECORDS, systemOf, rankOf}
+use Rattle.split.specs.Split.{RECORDS, systemOf, rankOf}
+use Rattle.systems.specs.Choice.{SYSTEMS}
 use Rattle.split.specs.Rating.{spreadOf, inertNumber, PURE_METHANE}
 use Rattle.split.specs.Move.{imbalanceOf}
 use Rattle.kept.specs.Widths.{BEFORE, BLEND, cellCount, cellIn, amountIn, partsIn, numberIn, componentIn}
 use Rattle.kept.specs.Widths.{amountsIn, weightedIn, meanIn, ratingIn, someEmptyIn}
-use Rattle.kept.specs.Laws.Steady.{sum-same-ℤ, some-same, table-same, spread-same, imbalance-same}
+use Rattle.kept.specs.Laws.Steady.{some-same, table-same, spread-same, imbalance-same}
+use Rattle.split.specs.Laws.Folds.{sum-same-ℤ}
 
 -- the k chosen systems are candidates, and none contains hydrogen
 pub record Without (ch : List ℕ) (k : ℕ) : Type 0 where

@@ -9,7 +9,8 @@ use lib.ListN.{getD, length, set, length-set}
 use lib.Seq.{getD-set-same, getD-set-other}
 use borrow.Author.Tests.{eqb-true, eqb-false, eq-eqb, ne-eqb}
 use Rattle.split.specs.Fold.{table}
-use Rattle.split.specs.Split.{SYSTEMS, heldOf, recordedIn}
+use Rattle.split.specs.Split.{heldOf, recordedIn}
+use Rattle.systems.specs.Choice.{SYSTEMS}
 use Rattle.split.specs.Start.{shareOf, sharersOf, startAmount}
 use Rattle.split.specs.Move.{componentOf, giverOf, takerOf, shift}
 use Rattle.split.specs.Laws.Tables.{length-table, getD-table}

@@ -17,7 +17,7 @@ use Rattle.mixture.specs.Scaling.{quotientOf, remainderOf, quotientsOf, remaind
 use Rattle.mixture.specs.Scaling.{greatestPlace, oneMore, distributed, scaledOf}
 use Rattle.mixture.specs.Simplification.{amountOfCode, tenthsOf, tenthsTotal, simplifiedOf}
 use Rattle.mixture.specs.Inert.{methaneShare, inertFirst}
-use Rattle.systems.specs.Without.{HYDROCARBONS}
+use Rattle.systems.specs.Before.{HYDROCARBONS}
 use Rattle.mixture.specs.Laws.Total.{greatest-below, scaled-length}
 use Rattle.kept.specs.BeforeMixture.{inertBefore, simplifiedBefore, tenthsBefore}
 

@@ -2,19 +2,14 @@
 -- below n. Assumes nothing.
 use Prim.Native.Nat.{ℕ, zero, suc, _+_, _≤_, _<_}
 use mathlib.Core.Path.{_≡_, refl, sym, ap, ap₂, _∙_}
-use mathlib.Core.Bool.{Bool, true, false, cond}
+use mathlib.Core.Bool.{Bool, true, false, _&&_, _||_}
 use mathlib.Core.List.{_∷_}
 use native.Mathlib.Omega.{arith}
 use lib.IntN.{ℤ, natAbs, _+ℤ_, _-ℤ_, +ℤ-invr}
-use Rattle.split.specs.Fold.{sumTo, sumToZ, greatestTo, leastTo, allTo, someTo, first, table}
+use Rattle.split.specs.Fold.{sumTo, greatestTo, leastTo, allTo, someTo, first, table}
 use Rattle.split.specs.Rating.{spreadOf}
 use Rattle.split.specs.Move.{squareOf, imbalanceOf}
 use Rattle.split.specs.Laws.Folds.{sum-same, greatest-same, least-same}
-
-pub sum-same-ℤ : (f g : ℕ → ℤ) (n : ℕ) → ((i : ℕ) → i < n → f i ≡ g i) → sumToZ f n ≡ sumToZ g n
-unfolding sumToZ
-sum-same-ℤ f g zero h = refl
-sum-same-ℤ f g (suc n) h = ap₂ _+ℤ_ (sum-same-ℤ f g n (λ i l. h i (omega arith))) (h n (omega arith))
 
 pub sum-zero : (f : ℕ → ℕ) (n : ℕ) → ((i : ℕ) → i < n → f i ≡ 0) → sumTo f n ≡ 0
 unfolding sumTo
@@ -25,13 +20,13 @@ pub all-same : (p q : ℕ → Bool) (n : ℕ) → ((i : ℕ) → i < n → p i �
 unfolding allTo
 all-same p q zero h = refl
 all-same p q (suc n) h =
-    ap₂ (λ (x y : Bool). cond x y false) (h n (omega arith)) (all-same p q n (λ i l. h i (omega arith)))
+    ap₂ _&&_ (h n (omega arith)) (all-same p q n (λ i l. h i (omega arith)))
 
 pub some-same : (p q : ℕ → Bool) (n : ℕ) → ((i : ℕ) → i < n → p i ≡ q i) → someTo p n ≡ someTo q n
 unfolding someTo
 some-same p q zero h = refl
 some-same p q (suc n) h =
-    ap₂ (λ (x y : Bool). cond x true y) (h n (omega arith)) (some-same p q n (λ i l. h i (omega arith)))
+    ap₂ _||_ (h n (omega arith)) (some-same p q n (λ i l. h i (omega arith)))
 
 pub table-same : (f g : ℕ → ℕ) (n i : ℕ) → ((j : ℕ) → j < i + n → f j ≡ g j)
     → table f n i ≡ table g n i

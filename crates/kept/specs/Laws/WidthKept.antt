@@ -6,7 +6,7 @@
 -- spread and rounds, with every limit, first stride and allowance, and the amounts and the rating of its last split.
 use Prim.Native.Nat.{ℕ, _<_}
 use mathlib.Core.Path.{_≡_, refl, sym, ap, ap₂, _∙_, subst}
-use mathlib.Core.Bool.{Bool, true, false, cond, _&&_}
+use mathlib.Core.Bool.{Bool, true, false, _&&_}
 use mathlib.Core.List.{List}
 use native.Mathlib.Omega.{arith}
 use lib.Dec.{ltb, eqb}
@@ -87,7 +87,7 @@ module _ (ch : List ℕ) (k : ℕ) (without : Without ch k) (mix′ mix : List �
     resums-same =
         all-same (sums BEFORE mix′) (sums BLEND mix) BEFORE (λ c l. ap₂ eqb (column-same c l) (no .same c l))
         ∙ sym
-        (ap (λ (x : Bool). cond x (allTo (sums BLEND mix) BEFORE) false)
+        (ap (λ (x : Bool). x && allTo (sums BLEND mix) BEFORE)
         (eq-eqb (columnIn BLEND k (cellsIn BLEND ch k xs) BEFORE) (getD mix BEFORE 0) (column-none ∙ sym (no .none))))
 
     proposed-same : (limit n1 : ℕ) → proposedIn BEFORE limit ch k mix′ (cellsIn BEFORE ch k xs) n1

@@ -23,8 +23,7 @@ use Rattle.split.specs.Rating.{verdict, proposedOf, ratingOf, resums, someEmpty
 use Rattle.mixture.specs.Inert.{inertFirst}
 use Rattle.systems.specs.Choice.{presentCount}
 use Rattle.split.specs.Split.{cellsOf, rowNumber as partialAt}
-use Rattle.split.specs.AnswerCases.{numberOf}
-use Rattle.split.specs.Rated.{IsRated}
+use Rattle.split.specs.AnswerCases.{numberOf, IsRated}
 use Rattle.split.specs.Start.{startOf}
 use Rattle.split.specs.Search.{FIRST_LEVEL, searchOf}
 use Rattle.split.specs.Laws.Runs.{result-fit}

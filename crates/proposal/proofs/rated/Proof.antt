@@ -1,7 +1,7 @@
 -- `proposal::rated` meets its contract. Assumes nothing.
 use Rattle.integer.specs.Laws.Bits.{read-back}
 use Rattle.proposal.proofs.Weights.{wide-answer, rated-answer}
-use Rattle.split.specs.Split.{SYSTEMS}
+use Rattle.systems.specs.Choice.{SYSTEMS}
 use lib.ListN.{length}
 use native.Mathlib.Omega.{arith}
 use mathlib.Core.Path.{_≡_, _∙_}

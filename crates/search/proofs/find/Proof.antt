@@ -1,6 +1,5 @@
 -- `search::find` meets its contract. Assumes nothing.
 use mathlib.Core.Path.{_∙_}
-use borrow.Author.Needs.{needs}
 use Rattle.search.proofs.Fit.{find-turned, find-empty, may-search, find-is}
 use Rattle.search.proofs.find.Statement.{statement}
 use Rattle.search.proofs.find.Tie as tie

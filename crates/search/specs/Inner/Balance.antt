@@ -2,12 +2,12 @@
 use Prim.Native.Nat.{ℕ, _*_}
 use mathlib.Core.Path.{_≡_}
 use lib.IntN.{ℤ, pos, natAbs, _+ℤ_}
-use lib.Signed.{quotZ}
 use Rattle.split.specs.Fold.{sumTo}
+use Rattle.split.specs.Move.{cutOf}
 
 -- a number cut to thousandths of a methane number, counted from one that is below every partial number
 unfoldable pub markOf : ℤ → ℕ
-markOf x = natAbs (quotZ x (pos 10000) +ℤ pos 200000000)
+markOf x = natAbs (cutOf x +ℤ pos 200000000)
 
 -- the marks of the numbers, added, and their squares
 pub record Totalled (numbers : ℕ → ℤ) (count sum squares : ℕ) : Type 0 where

@@ -2,11 +2,12 @@
 use Prim.Native.Nat.{ℕ, _+_, _-_, _≤_, _<_}
 use mathlib.Core.List.{List}
 use mathlib.Core.Path.{_≡_}
-use mathlib.Core.Bool.{Bool, true, false, not, _&&_, cond}
+use mathlib.Core.Bool.{Bool, true, false, _&&_, cond}
 use lib.Dec.{ltb, eqb}
 use lib.IntN.{ℤ}
 use Rattle.systems.specs.Systems.{hasOf}
-use Rattle.split.specs.Split.{SYSTEMS, cellOf, systemOf, rowNumber}
+use Rattle.split.specs.Split.{cellOf, systemOf, rowNumber}
+use Rattle.systems.specs.Choice.{SYSTEMS}
 use Rattle.split.specs.Move.{componentOf, giverOf, affordsOf, canOf}
 use Rattle.split.specs.Inner.Steps.{numberWith}
 
@@ -21,16 +22,12 @@ givesOf systems count cells stride move =
     (ltb (giverOf move) count && (hasOf (systemOf systems (giverOf move)) (componentOf move)
     && affordsOf systems cells stride move))
 
--- row t is not row f, and has component c
-unfoldable pub takesOf : List ℕ → ℕ → ℕ → ℕ → Bool
-takesOf systems c f t = not (eqb f t) && hasOf (systemOf systems t) c
-
 -- no move below this one can be made and lowers the imbalance
 pub record Past (systems : List ℕ) (count : ℕ) (cells : List ℕ) (stride move : ℕ) : Type 0 where
   pub none : (s : ℕ) → s < move → canOf systems count cells stride s ≡ false
 
--- of the moves from n on with n's giver, r is the first that can be made and lowers the imbalance, or past them all
-pub record Scanned (systems : List ℕ) (count : ℕ) (cells : List ℕ) (stride n r : ℕ) : Type 0 where
+-- of the moves from `from` on with its giver, r is the first that can be made and lowers the imbalance, or past them
+pub record Scanned (systems : List ℕ) (count : ℕ) (cells : List ℕ) (stride from r : ℕ) : Type 0 where
   pub past : Past systems count cells stride r
-  pub most : r ≤ n + SYSTEMS
-  pub found : r < n + SYSTEMS → canOf systems count cells stride r ≡ true
+  pub most : r ≤ from + SYSTEMS
+  pub found : r < from + SYSTEMS → canOf systems count cells stride r ≡ true

@@ -9,7 +9,8 @@ use lib.ListN.{getD, length}
 use Rattle.integer.specs.Figures.{MILLION}
 use Rattle.formula.specs.WorkingRule.{LARGEST}
 use Rattle.systems.specs.Systems.{COMPONENTS}
-use Rattle.split.specs.Split.{SYSTEMS, CELLS}
+use Rattle.split.specs.Split.{CELLS}
+use Rattle.systems.specs.Choice.{SYSTEMS}
 use Rattle.split.specs.Inner.Steps.{numberWith}
 use Rattle.split_rows.specs.Rows.{listed}
 use Rattle.split_rows.specs.Inner.Carried.{Workable}
@@ -26,8 +27,8 @@ UNTRIED = pos 4000000000000
 abbrev pub triedRow : ℕ → ℕ
 triedRow i = i / COMPONENTS % SYSTEMS
 
-abbrev pub columnIn : ℕ → ℕ
-columnIn i = i % COMPONENTS
+abbrev pub triedComponent : ℕ → ℕ
+triedComponent i = i % COMPONENTS
 
 -- the amount that try i of the stride leads to
 unfoldable pub triedOf : List ℕ → ℕ → ℕ → ℕ
@@ -35,7 +36,7 @@ triedOf cells stride i = cond (ltb i CELLS) (getD cells i 0 - stride) (getD cell
 
 -- its row's partial number then
 unfoldable pub wantedOf : List ℕ → List ℕ → ℕ → ℕ → ℤ
-wantedOf systems cells stride i = numberWith systems cells (triedRow i) (columnIn i) (triedOf cells stride i)
+wantedOf systems cells stride i = numberWith systems cells (triedRow i) (triedComponent i) (triedOf cells stride i)
 
 -- each number of the rows' tries is not known or is the one wanted
 pub record Tried (systems : List ℕ) (count : ℕ) (cells : List ℕ) (stride : ℕ) (t : List ℤ) : Type 0 where
@@ -49,7 +50,7 @@ pub record Triable (systems : List ℕ) (count : ℕ) (cells : List ℕ) (stride
   pub row : triedRow i < count
   pub had : i < CELLS → stride ≤ getD cells i 0
   pub room : CELLS ≤ i → getD cells (i - CELLS) 0 + stride ≤ MILLION
-  pub workable : Workable systems cells (triedRow i) (columnIn i) (triedOf cells stride i)
+  pub workable : Workable systems cells (triedRow i) (triedComponent i) (triedOf cells stride i)
 
 -- u is t with row s's numbers not known
 pub record Forgot (t : List ℤ) (s : ℕ) (u : List ℤ) : Type 0 where

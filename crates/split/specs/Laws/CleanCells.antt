@@ -9,7 +9,8 @@ use lib.Dec.{ltb}
 use lib.ListN.{length, List·getD-eq-default}
 use borrow.Author.Tests.{ltb-true, ltb-false}
 use Rattle.systems.specs.Systems.{COMPONENTS}
-use Rattle.split.specs.Split.{SYSTEMS, CELLS, cellOf, heldOf, Sound, Clean}
+use Rattle.split.specs.Split.{CELLS, cellOf, heldOf, Sound, Clean}
+use Rattle.systems.specs.Choice.{SYSTEMS}
 use Rattle.split.specs.Start.{startAmount, startCell, startOf}
 use Rattle.split.specs.Move.{componentOf, giverOf, takerOf, movedOf}
 use Rattle.split.specs.Search.{turnOf, stepOf, runOf}
@@ -21,7 +22,8 @@ use Rattle.split.specs.Laws.Tests.{BetweenRows}
 use Rattle.split.specs.Laws.Moves.{cell-same}
 use Rattle.split.specs.Laws.Steps.{bt, component-low}
 use Rattle.split.specs.Laws.Turns.{moves, sound-step}
-use Rattle.split.specs.Laws.Runs.{run-ind, Reached, reached-kept}
+use Rattle.split.specs.Laws.Runs.{run-ind, reached-kept}
+use Rattle.split.specs.Reached.{Reached}
 
 pub start-clean : (mix ch : List ℕ) (k : ℕ) → Clean ch k (startOf mix ch k)
 unfolding startOf startAmount
@@ -75,7 +77,7 @@ step-clean ch k limit allowance a l r m so t =
 pub reached-clean : {ch : List ℕ} {k : ℕ} {limit level allowance : ℕ} {a b : List ℕ} {l r : ℕ} → Sound ch k a
     → Clean ch k a → Reached ch k limit level allowance a b l r → Clean ch k b
 reached-clean so cl Reached.start = cl
-reached-clean {ch} {k} {limit} {level} {allowance} so cl (Reached.moved {b = b} {l = l} {r = r} m x t) =
+reached-clean {ch} {k} {limit} {level} {allowance} so cl (Reached.moved {cells = b} {level = l} {rounds = r} m x t) =
     step-clean ch k limit allowance b l r m (reached-kept so x .sound) t (reached-clean so cl x)
 reached-clean so cl (Reached.halved x t) = reached-clean so cl x
 

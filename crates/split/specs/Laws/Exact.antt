@@ -1,8 +1,7 @@
 -- How far ratings are from the exact ones: 19 units a number, 1 for the mean's division, 19 for the inert number.
 -- Assumes nothing.
-use mathlib.Core.Path.{_≡_, refl, ap, ap₂, _∙_}
 use mathlib.Core.List.{List}
-use Prim.Native.Nat.{ℕ, zero, suc, _+_, _*_, _-_, _^_, _≤_, _<_}
+use Prim.Native.Nat.{ℕ, zero, suc, _*_, _-_, _≤_, _<_}
 use native.Mathlib.Nat as N
 use native.Mathlib.Omega.{arith}
 use lib.IntN.{pos}
@@ -10,12 +9,11 @@ use Rattle.integer.specs.Figures.{neg, MILLION}
 use Rattle.integer.specs.Fraction.{Within}
 use Rattle.integer.specs.Laws.Distance.{Close, close, looser, close-looser, close-whole, close-plus, close-times}
 use Rattle.integer.specs.Laws.Distance.{within-plus, within-over}
-use Rattle.formula.specs.Partial.{exactNumber}
 use Rattle.formula.specs.NineteenUnits.{partial-within}
 use Rattle.split.specs.Fold.{sumTo, sumToZ}
 use Rattle.split.specs.Split.{systemOf, amountOf, partsOf, rowNumber}
 use Rattle.split.specs.Rating.{weightedOf, meanOf, inertNumber, ratingOf, PURE_METHANE}
-use Rattle.split.specs.Exact.{NoRowEmpty, rowExact, exactInert, exactMean, exactRating, exactSum, powersOf}
+use Rattle.split.specs.Exact.{NoRowEmpty, rowExact, exactInert, exactMean, exactRating, exactSum}
 
 -- ---- 19 units a number, 1 for the mean's division, 19 for the inert number
 
@@ -47,18 +45,3 @@ unfolding ratingOf exactRating
 rating-within ch k a n1 h t l =
     looser (within-plus (within-plus (mean-within ch k a h t) (close (inert-within n1 l)))
     (close-whole (neg PURE_METHANE))) (omega arith)
-
-sum-den : (ch : List ℕ) (k : ℕ) (a : List ℕ) → exactSum ch k a .den ≡ powersOf ch k a
-unfolding exactSum rowExact exactNumber powersOf partsOf
-sum-den ch zero a = refl
-sum-den ch (suc k) a = ap (λ (n : ℕ). n * partsOf ch a k ^ 7) (sum-den ch k a)
-
-pub denominator : (ch : List ℕ) (k : ℕ) (a : List ℕ) (n1 : ℕ) → n1 ≤ MILLION
-    → exactRating ch k a n1 .den ≡ powersOf ch k a * MILLION * MILLION ^ 7
-unfolding exactRating exactMean exactInert exactNumber
-denominator ch k a n1 h =
-    N.mul-one (exactSum ch k a .den * MILLION * (n1 + (MILLION - n1) + 0) ^ 7)
-    ∙ ap₂ (λ (n m : ℕ). n * MILLION * m ^ 7) (sum-den ch k a) whole-million
-  where
-    whole-million : n1 + (MILLION - n1) + 0 ≡ MILLION
-    whole-million = omega arith

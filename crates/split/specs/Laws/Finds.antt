@@ -7,19 +7,17 @@ use mathlib.Core.Logic.{_↔_}
 use mathlib.Core.List.{List}
 use native.Mathlib.Omega.{arith}
 use lib.Dec.{ltb, leb, eqb}
-use lib.IntN.{natAbs}
 use lib.ListN.{getD, replicate}
 use borrow.Author.Tests.{lt-ltb, le-leb, ltb-true, leb-true, eqb-false, ne-eqb, not-true}
 use Rattle.integer.specs.Figures.{MILLION}
 use Rattle.refusal.specs.Keys.{isIn}
-use Rattle.formula.specs.WorkingRule.{LARGEST}
 use Rattle.systems.specs.Systems.{COMPONENTS, candidates}
 use Rattle.split.specs.Fold.{sumTo}
-use Rattle.split.specs.Split.{SYSTEMS, CELLS, systemOf, partsOf, columnOf, rowNumber, Chosen, Stock, Sound}
-use Rattle.split.specs.Split.{Clean, mixtureParts}
+use Rattle.split.specs.Split.{CELLS, systemOf, partsOf, Chosen, Stock, Sound}
+use Rattle.systems.specs.Choice.{SYSTEMS}
+use Rattle.split.specs.Split.{mixtureParts}
 use Rattle.split.specs.Rating.{someEmpty}
-use Rattle.split.specs.Start.{startOf, Shared}
-use Rattle.split.specs.Move.{imbalanceOf}
+use Rattle.split.specs.Start.{startOf}
 use Rattle.split.specs.Search.{FIRST_LEVEL, foundOf, searchOf}
 use Rattle.split.specs.Find.{chosenFit, mixtureFit, searchFit, findOf, Balance}
 use Rattle.split.specs.declared.Search.the-variants.{Balanced, Unfit}
@@ -27,10 +25,9 @@ use Rattle.split.specs.declared.Found.{Found}
 use Rattle.split.specs.Laws.Folds.{all-each, all-of, some-each, some-of}
 use Rattle.split.specs.Laws.Members.{both-left, both-right}
 use Rattle.split.specs.Laws.Starts.{Supplied, start-sums, start-stock, start-sound}
-use Rattle.split.specs.Laws.Runs.{Reached, reached-kept, reached-falls, reached-rounds, result-kept}
+use Rattle.split.specs.Laws.Runs.{result-kept}
 use Rattle.split.specs.Laws.Runs.{result-says, result-rounds, larger-allowance, result-fit}
-use Rattle.split.specs.Laws.Size.{number-small}
-use Rattle.split.specs.Laws.CleanCells.{start-clean, reached-clean, result-clean}
+use Rattle.split.specs.Laws.CleanCells.{start-clean, result-clean}
 
 -- ---- the tests of the input
 
@@ -145,30 +142,6 @@ module _ (mix ch : List ℕ) (k level : ℕ) where
             let made = ap (λ (o : Found). o .search) (find-search e) ∙ u in
             absurd (result-fit ch k limit allowance (allowance + level + 1) (startOf mix ch k) level 0 made)
 
--- ---- every state that a search reaches after r rounds
-
-pub record State (mix ch : List ℕ) (k allowance : ℕ) (b : List ℕ) (r : ℕ) : Type 0 where
-  pub sound : Sound ch k b
-  pub clean : Clean ch k b
-  pub sums : (c : ℕ) → c < COMPONENTS → Shared mix ch k c → columnOf k b c ≡ getD mix c 0
-  pub small : (s : ℕ) → natAbs (rowNumber ch b s) ≤ LARGEST
-  pub falls : imbalanceOf (rowNumber ch b) k + r ≤ imbalanceOf (rowNumber ch (startOf mix ch k)) k
-  pub rounds : r ≤ allowance
-
-pub reached-state : {mix ch : List ℕ} {k limit level allowance : ℕ} {b : List ℕ} {l r : ℕ}
-    → SearchInput mix ch k level → Reached ch k limit level allowance (startOf mix ch k) b l r
-    → State mix ch k allowance b r
-reached-state {mix} {ch} {k} {limit} {level} {allowance} {b} i x =
-    let z = reached-kept (i .sound) x in
-    record {
-      sound = z .sound;
-      clean = reached-clean (i .sound) (start-clean mix ch k) x;
-      sums = λ c l h. z .sums c l ∙ start-sums mix ch k (i .chosen .most) c l h;
-      small = λ s. number-small ch b s;
-      falls = reached-falls x;
-      rounds = reached-rounds x;
-    }
-
 -- ---- what is found: a split with the spread and the rounds that are answered
 
 module _ (mix ch : List ℕ) (k limit level allowance : ℕ) where
@@ -186,9 +159,9 @@ module _ (mix ch : List ℕ) (k limit level allowance : ℕ) where
             result-clean ch k limit allowance (allowance + level + 1) (startOf mix ch k) level 0 (i .sound)
             (start-clean mix ch k);
         sums = λ c l h. z .sums c l ∙ start-sums mix ch k (i .chosen .most) c l h;
-        spread = w .0;
+        measured = w .0;
         within = w .1;
-        rounds =
+        allowed =
             result-rounds ch k limit allowance (allowance + level + 1) (startOf mix ch k) level 0 s r e (omega arith);
       }
 

@@ -1,18 +1,22 @@
 -- The three tests of a split say what they are to say. Assumes nothing.
-use mathlib.Core.Path.{_≡_}
+use mathlib.Core.Path.{_≡_, sym}
 use mathlib.Core.Bool.{true, false}
 use mathlib.Core.List.{List}
 use Prim.Native.Nat.{ℕ, _<_}
+use native.Mathlib.Nat as N
 use native.Mathlib.Omega.{arith}
 use lib.Dec.{eqb}
 use lib.ListN.{getD}
 use borrow.Author.Tests.{eqb-true, eqb-false, eq-eqb, ne-eqb}
 use Rattle.systems.specs.Systems.{COMPONENTS}
 use Rattle.split.specs.Laws.Folds.{all-each, all-of, some-each, some-of}
-use Rattle.split.specs.Split.{partsOf, columnOf}
+use Rattle.split.specs.Split.{partsOf, columnOf, rowNumber}
 use Rattle.split.specs.Rating.{resums, someEmpty}
 use Rattle.split.specs.Exact.{NoRowEmpty}
-use Rattle.split.specs.Fits.{Resums}
+use Rattle.split.specs.Fits.{Resums, Fit}
+use Rattle.split.specs.Start.{Shared}
+use Rattle.split.specs.Find.{Balance}
+use Rattle.split.specs.Laws.Spread.{spread-near}
 
 -- ---- the three tests say what they are to say
 
@@ -37,3 +41,15 @@ no-empty ch k a h = some-of (λ s. eqb (partsOf ch a s) 0) k (λ s l. ne-eqb (pa
   where
     filled : (s : ℕ) → 0 < partsOf ch a s → partsOf ch a s ≡ 0 → ⊥
     filled s p e = omega arith
+
+-- what a search has found is fit
+pub balance-fit : (mix systems : List ℕ) (count limit allowance : ℕ) (cells : List ℕ) (spread rounds : ℕ)
+    → Balance mix systems count limit allowance cells spread rounds
+    → ((c : ℕ) → c < COMPONENTS → Shared mix systems count c) → Fit limit systems count mix cells
+balance-fit mix systems count limit allowance cells spread rounds balance shared = record {
+  sums = λ c l. balance .sums c l (shared c l);
+  some = balance .sound .some;
+  near =
+      spread-near limit (rowNumber systems cells) count
+      (N.le-trans (N.le-of-eq (sym (balance .measured))) (balance .within));
+}

@@ -6,9 +6,9 @@ use native.Mathlib.Nat.{not-suc-le-zero}
 use native.Mathlib.Numerals.{add-one}
 use native.Mathlib.Omega.{arith}
 use lib.Dec.{eqb}
-use lib.IntN.{ℤ}
+use lib.IntN.{ℤ, _+ℤ_}
 use borrow.Author.Tests.{eqb-true, eqb-false, eq-eqb, ne-eqb}
-use Rattle.split.specs.Fold.{sumTo, greatestTo, leastTo, allTo, someTo, first}
+use Rattle.split.specs.Fold.{sumTo, sumToZ, greatestTo, leastTo, allTo, someTo, first}
 
 pub sum-none : (f : ℕ → ℕ) → 0 ≡ sumTo f 0
 unfolding sumTo
@@ -22,6 +22,11 @@ pub sum-same : (f g : ℕ → ℕ) (n : ℕ) → ((i : ℕ) → i < n → f i �
 unfolding sumTo
 sum-same f g zero h = refl
 sum-same f g (suc n) h = ap₂ _+_ (sum-same f g n (λ i l. h i (omega arith))) (h n (omega arith))
+
+pub sum-same-ℤ : (f g : ℕ → ℤ) (n : ℕ) → ((i : ℕ) → i < n → f i ≡ g i) → sumToZ f n ≡ sumToZ g n
+unfolding sumToZ
+sum-same-ℤ f g zero h = refl
+sum-same-ℤ f g (suc n) h = ap₂ _+ℤ_ (sum-same-ℤ f g n (λ i l. h i (omega arith))) (h n (omega arith))
 
 -- a function that differs at one place only
 pub sum-but : (f g : ℕ → ℕ) (n j : ℕ) → j < n → ((i : ℕ) → i < n → (i ≡ j → ⊥) → f i ≡ g i)
@@ -80,6 +85,22 @@ first-holds p (suc n) k m e h = go (p k) refl (λ f. first-holds p n (k + 1) m f
         rw q at t
     go false t next = next (rw (t, first) at e)
 
+-- and of none before it
+pub first-before : (p : ℕ → Bool) (n i s : ℕ) → i ≤ s → s < first p n i → p s ≡ false
+unfolding first
+first-before p zero i s l h = absurd (omega arith)
+first-before p (suc n) i s l h = go (p i) refl (λ u v. first-before p n (i + 1) s u v)
+  where
+    go : (b : Bool) → p i ≡ b → (i + 1 ≤ s → s < first p n (i + 1) → p s ≡ false) → p s ≡ false
+    go true z next =
+        let q : s < i = rw (z, first) at h in
+        absurd (omega arith)
+    go false z next = at (eqb i s) refl (rw (z, first) at h)
+      where
+        at : (b : Bool) → eqb i s ≡ b → s < first p n (i + 1) → p s ≡ false
+        at true w q = ap p (sym (eqb-true i s w)) ∙ z
+        at false w q = next (omega (arith, eqb-false i s w)) q
+
 -- some moves from one place to another: the sum stays
 pub sum-shift : (f g : ℕ → ℕ) (n i j d : ℕ) → i < n → j < n → (i ≡ j → ⊥) → d ≤ f i → g i ≡ f i - d → g j ≡ f j + d
     → ((s : ℕ) → s < n → (s ≡ i → ⊥) → (s ≡ j → ⊥) → g s ≡ f s) → sumTo g n ≡ sumTo f n
@@ -106,16 +127,16 @@ sum-shift f g n i j d li lj ne le p q h =
         off s w ∙ sym (h s l w z)
 
 -- all but one place
-abbrev but : ℕ → (ℕ → ℕ) → ℕ → ℕ
+abbrev pub but : ℕ → (ℕ → ℕ) → ℕ → ℕ
 but i f s = cond (eqb s i) 0 (f s)
 
 but-on : (i : ℕ) (f : ℕ → ℕ) → but i f i ≡ 0
 but-on i f = rw (eq-eqb i i refl)
 
-but-off : (i : ℕ) (f : ℕ → ℕ) (s : ℕ) → (s ≡ i → ⊥) → but i f s ≡ f s
+pub but-off : (i : ℕ) (f : ℕ → ℕ) (s : ℕ) → (s ≡ i → ⊥) → but i f s ≡ f s
 but-off i f s z = rw (ne-eqb s i z)
 
-but-sum : (f : ℕ → ℕ) (n i : ℕ) → i < n → sumTo f n ≡ sumTo (but i f) n + f i
+pub but-sum : (f : ℕ → ℕ) (n i : ℕ) → i < n → sumTo f n ≡ sumTo (but i f) n + f i
 but-sum f n i l = omega (arith, sum-but f (but i f) n i l (λ s m z. sym (but-off i f s z)), but-on i f)
 
 sum-two : (f : ℕ → ℕ) (n i j : ℕ) → i < n → j < n → (j ≡ i → ⊥) → f i + f j ≤ sumTo f n

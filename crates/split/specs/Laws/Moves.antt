@@ -11,7 +11,8 @@ use borrow.Author.Tests.{eqb-true, eqb-false}
 use Rattle.integer.specs.Figures.{MILLION}
 use Rattle.split.specs.Fold.{sumTo}
 use Rattle.systems.specs.Systems.{COMPONENTS, memberOf, hasOf}
-use Rattle.split.specs.Split.{SYSTEMS, CELLS, cellOf, systemOf, partsOf, columnOf, rowNumber, Chosen, Sound}
+use Rattle.split.specs.Split.{CELLS, cellOf, systemOf, partsOf, columnOf, rowNumber, Chosen, Sound}
+use Rattle.systems.specs.Choice.{SYSTEMS}
 use Rattle.split.specs.Move.{shift}
 use Rattle.split.specs.Laws.Folds.{sum-same, sum-shift, sum-has}
 use Rattle.systems.specs.Laws.Members.{has-cases}

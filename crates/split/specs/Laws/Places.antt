@@ -66,7 +66,7 @@ module _ (system : ℕ) (cand : Candidate system) (j : ℕ) (low : j < 3) where
       eqb→eq (rankOf system (componentAt system j)) j
       (and-r (hasOf system (componentAt system j)) _ (and-r (ltb (componentAt system j) COMPONENTS) _ at-test))
 
--- the components of a system's three records rise: methane, ethane, propane, butane as contained
+-- the components of a system's three records rise: methane, ethane, propane, butane, hydrogen as contained
 rises : ℕ → Bool
 rises system = ltb (componentAt system 0) (componentAt system 1) && ltb (componentAt system 1) (componentAt system 2)
 

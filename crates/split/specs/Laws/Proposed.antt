@@ -13,7 +13,7 @@ use Rattle.split.specs.Rating.{resums, someEmpty, spreadOf, proposedOf}
 use Rattle.split.specs.Find.{mixtureFit}
 use Rattle.split.specs.Laws.Members.{both-left, both-right}
 use Rattle.split.specs.Laws.Finds.{chosen-of, chosen-fits, mixture-of, mixture-fits}
-use Rattle.split.specs.Rated.{proposed-unsummed, proposed-empty, proposed-wide, proposed-rated}
+use Rattle.split.specs.Laws.Verdict.{proposed-unsummed, proposed-empty, proposed-wide, proposed-rated}
 use Rattle.split.specs.declared.Answer.the-variants.{Refused}
 use Rattle.split.specs.declared.Proposed.the-variants.{Answered, Unfit}
 use Rattle.split.specs.Inner.Proposed.{Proposal, ratedOf}

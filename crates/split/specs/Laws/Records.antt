@@ -1,16 +1,14 @@
--- The records of a split and its cells say the same: cells to records and back, records to cells and back
--- (document 01, "The split and the rating", three records for each system). Assumes nothing.
-use mathlib.Core.Path.{_≡_, refl, sym, ap, ap₂, _∙_}
+-- One cell of a split as a record, one record as a cell, and each back. Assumes nothing.
+use mathlib.Core.Path.{_≡_, sym, ap, ap₂, _∙_}
 use mathlib.Core.Bool.{Bool, true, false, cond}
 use mathlib.Core.List.{List}
 use Prim.Native.Nat.{ℕ, _+_, _*_, _/_, _%_, _≤_, _<_}
 use native.Mathlib.Omega.{arith}
-use lib.Dec.{ltb}
-use lib.ListN.{getD, length, List·getD-eq-default}
-use lib.Seq.{ext-getD}
-use borrow.Author.Tests.{lt-ltb, le-ltb, ltb-true, ltb-false}
+use lib.ListN.{getD, length}
+use borrow.Author.Tests.{lt-ltb, le-ltb}
 use Rattle.systems.specs.Systems.{COMPONENTS}
-use Rattle.split.specs.Split.{SYSTEMS, CELLS, RECORDS, cellOf, systemOf, heldOf, rankOf, componentAt, cellsOf}
+use Rattle.split.specs.Split.{CELLS, RECORDS, cellOf, systemOf, heldOf, rankOf, componentAt, cellsOf}
+use Rattle.systems.specs.Choice.{SYSTEMS}
 use Rattle.split.specs.Split.{amountsOf, Chosen, amountAt, cellAt, recordedIn, Clean}
 use Rattle.split.specs.Laws.Tables.{length-table, getD-table}
 use Rattle.split.specs.Laws.Clean.{held-row, row-held}
@@ -54,22 +52,10 @@ module _ (ch : List ℕ) (k : ℕ) where
       ∙ ap (λ (b : Bool). cond b (cellOf a ((0 + r) / 3) (componentAt (systemOf ch ((0 + r) / 3)) ((0 + r) % 3))) 0)
       (le-ltb (0 + r) (3 * k) (omega arith))
 
-  -- ---- cells made of records are clean
-
-  pub cells-clean : (xs : List ℕ) → Clean ch k (cellsOf ch k xs)
-  cells-clean xs = record { none = λ s c l h. go s c l h (ltb s SYSTEMS) refl }
-    where
-      go : (s c : ℕ) → c < COMPONENTS → heldOf ch k s c ≡ false → (b : Bool) → ltb s SYSTEMS ≡ b
-          → cellOf (cellsOf ch k xs) s c ≡ 0
-      go s c l h true e = cells-cell xs s c (ltb-true s SYSTEMS e) l ∙ rw h
-      go s c l h false e =
-          List·getD-eq-default (cellsOf ch k xs) 0 {n = s * COMPONENTS + c}
-          (omega (arith, cells-length xs, ltb-false s SYSTEMS e))
-
   module _ (chosen : Chosen ch k) (room : 3 * k ≤ RECORDS) where
     -- ---- cells to records and back
 
-    cell-back : (a : List ℕ) → Clean ch k a → (s c : ℕ) → s < SYSTEMS → c < COMPONENTS → (b : Bool)
+    pub cell-back : (a : List ℕ) → Clean ch k a → (s c : ℕ) → s < SYSTEMS → c < COMPONENTS → (b : Bool)
         → heldOf ch k s c ≡ b → cellOf (cellsOf ch k (amountsOf ch k a)) s c ≡ cellOf a s c
     cell-back a clean s c h l true e =
         let (below, has) = held-row ch k s c e in
@@ -79,20 +65,9 @@ module _ (ch : List ℕ) (k : ℕ) where
         ∙ ap (cellOf a s) (component-rank (systemOf ch s) known c l has))
     cell-back a clean s c h l false e = cells-cell (amountsOf ch k a) s c h l ∙ rw e (sym (clean .none s c l e))
 
-    pub cells-back : (a : List ℕ) → length a ≡ CELLS → Clean ch k a → cellsOf ch k (amountsOf ch k a) ≡ a
-    cells-back a long clean =
-        ext-getD 0 (cellsOf ch k (amountsOf ch k a)) a (cells-length (amountsOf ch k a) ∙ sym long)
-        (λ i l.
-        let low : i < CELLS = omega (arith, cells-length (amountsOf ch k a)) in
-        let place : i / COMPONENTS * COMPONENTS + i % COMPONENTS ≡ i = omega arith in
-        sym (ap (λ (i : ℕ). getD (cellsOf ch k (amountsOf ch k a)) i 0) place)
-        ∙ cell-back a clean (i / COMPONENTS) (i % COMPONENTS) (omega arith) (omega arith)
-        (heldOf ch k (i / COMPONENTS) (i % COMPONENTS)) refl
-        ∙ ap (λ (i : ℕ). getD a i 0) place)
-
     -- ---- records to cells and back
 
-    amount-back : (xs : List ℕ) (s j : ℕ) → s < k → j < 3
+    pub amount-back : (xs : List ℕ) (s j : ℕ) → s < k → j < 3
         → getD (amountsOf ch k (cellsOf ch k xs)) (3 * s + j) 0 ≡ getD xs (3 * s + j) 0
     amount-back xs s j h l =
         let known = chosen .known s h in
@@ -101,19 +76,3 @@ module _ (ch : List ℕ) (k : ℕ) where
         ∙ cells-cell xs s c (omega (arith, chosen .most)) (component-lt (systemOf ch s) known j l)
         ∙ rw (row-held ch k s c h (component-has (systemOf ch s) known j l))
         (ap (λ (j : ℕ). getD xs (3 * s + j) 0) (rank-component (systemOf ch s) known j l))
-
-    pub amounts-back : (xs : List ℕ) → length xs ≡ RECORDS → ((r : ℕ) → 3 * k ≤ r → getD xs r 0 ≡ 0)
-        → amountsOf ch k (cellsOf ch k xs) ≡ xs
-    amounts-back xs long zeros =
-        ext-getD 0 (amountsOf ch k (cellsOf ch k xs)) xs (amounts-length (cellsOf ch k xs) ∙ sym long)
-        (λ r l. go r (omega (arith, amounts-length (cellsOf ch k xs))) (ltb r (3 * k)) refl)
-      where
-        go : (r : ℕ) → r < RECORDS → (b : Bool) → ltb r (3 * k) ≡ b
-            → getD (amountsOf ch k (cellsOf ch k xs)) r 0 ≡ getD xs r 0
-        go r l true e =
-            let place : 3 * (r / 3) + r % 3 ≡ r = omega arith in
-            sym (ap (λ (r : ℕ). getD (amountsOf ch k (cellsOf ch k xs)) r 0) place)
-            ∙ amount-back xs (r / 3) (r % 3) (omega (arith, ltb-true r (3 * k) e)) (omega arith)
-            ∙ ap (λ (r : ℕ). getD xs r 0) place
-        go r l false e =
-            amounts-beyond (cellsOf ch k xs) r l (ltb-false r (3 * k) e) ∙ sym (zeros r (ltb-false r (3 * k) e))

@@ -10,6 +10,7 @@ use Rattle.systems.specs.Systems.{COMPONENTS}
 use Rattle.split.specs.Split.{rowNumber, columnOf, Sound}
 use Rattle.split.specs.Rating.{spreadOf}
 use Rattle.split.specs.Move.{MOVES, imbalanceOf, firstOf, lowersOf}
+use Rattle.split.specs.Reached.{Reached, start, moved, halved}
 use Rattle.split.specs.Search.{goOn, turnOf, stepOf, foundOf, runOf, searchOf}
 use Rattle.split.specs.declared.Turn.{Turn}
 use Rattle.split.specs.declared.Turn.the-variants.{Rate, Refuse, Move, Halve}
@@ -59,18 +60,10 @@ pub record Kept (ch : List ℕ) (k : ℕ) (a b : List ℕ) : Type 0 where
   pub sound : Sound ch k b
   pub sums : (c : ℕ) → c < COMPONENTS → columnOf k b c ≡ columnOf k a c
 
--- the splits that a search comes by
-pub data Reached (ch : List ℕ) (k : ℕ) (limit level allowance : ℕ) (a : List ℕ) : List ℕ → ℕ → ℕ → Type 0 where
-  start : Reached ch k limit level allowance a a level 0
-  moved : {b : List ℕ} {l r : ℕ} (m : ℕ) → Reached ch k limit level allowance a b l r
-      → turnOf ch k limit allowance b l r ≡ Move m → Reached ch k limit level allowance a (stepOf b m l) l (r + 1)
-  halved : {b : List ℕ} {l r : ℕ} → Reached ch k limit level allowance a b l r
-      → turnOf ch k limit allowance b l r ≡ Halve → Reached ch k limit level allowance a b (l - 1) r
-
 pub reached-kept : {ch : List ℕ} {k : ℕ} {limit level allowance : ℕ} {a b : List ℕ} {l r : ℕ} → Sound ch k a
     → Reached ch k limit level allowance a b l r → Kept ch k a b
 reached-kept s start = record { sound = s; sums = λ c h. refl }
-reached-kept {ch} {k} {limit} {level} {allowance} s (moved {b = b} {l = l} {r = r} m x t) =
+reached-kept {ch} {k} {limit} {level} {allowance} s (moved {cells = b} {level = l} {rounds = r} m x t) =
     let kept = reached-kept s x in
     record {
       sound = sound-step ch k limit allowance b l r m (kept .sound) t;
@@ -84,7 +77,7 @@ pub reached-falls : {ch : List ℕ} {k : ℕ} {limit level allowance : ℕ} {a b
     → Reached ch k limit level allowance a b l r
     → imbalanceOf (rowNumber ch b) k + r ≤ imbalanceOf (rowNumber ch a) k
 reached-falls start = omega arith
-reached-falls {ch} {k} {limit} {level} {allowance} (moved {b = b} {l = l} {r = r} m x t) =
+reached-falls {ch} {k} {limit} {level} {allowance} (moved {cells = b} {level = l} {rounds = r} m x t) =
     omega (arith, reached-falls x, step-lowers ch k limit allowance b l r m t)
 reached-falls (halved x t) = reached-falls x
 
@@ -92,7 +85,7 @@ reached-falls (halved x t) = reached-falls x
 pub reached-rounds : {ch : List ℕ} {k : ℕ} {limit level allowance : ℕ} {a b : List ℕ} {l r : ℕ}
     → Reached ch k limit level allowance a b l r → r ≤ allowance
 reached-rounds start = omega arith
-reached-rounds {ch} {k} {limit} {level} {allowance} (moved {b = b} {l = l} {r = r} m x t) =
+reached-rounds {ch} {k} {limit} {level} {allowance} (moved {cells = b} {level = l} {rounds = r} m x t) =
     omega (arith, reached-rounds x, moves ch k limit allowance b l r m t .unspent)
 reached-rounds (halved x t) = reached-rounds x
 

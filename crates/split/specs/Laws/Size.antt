@@ -22,7 +22,7 @@ spread-small ch k a =
     near-spread 4000000000000 (rowNumber ch a) k
     (λ i j p q. omega (arith, natAbs-- (rowNumber ch a i) (rowNumber ch a j), number-small ch a i, number-small ch a j))
 
-times-small : (v : ℤ) (p : ℕ) → natAbs v ≤ LARGEST → natAbs (v *ℤ pos p) ≤ LARGEST * p
+pub times-small : (v : ℤ) (p : ℕ) → natAbs v ≤ LARGEST → natAbs (v *ℤ pos p) ≤ LARGEST * p
 times-small v p h = rw (natAbs-* v (pos p)) (N.mul-le-mul-right p h)
 
 pub weighted-small : (ch : List ℕ) (k : ℕ) (a : List ℕ) → natAbs (weightedOf ch k a) ≤ LARGEST * sumTo (partsOf ch a) k

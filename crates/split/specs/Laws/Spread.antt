@@ -1,22 +1,20 @@
 -- The laws of the spread. Assumes nothing.
 use mathlib.Core.Path.{_≡_, refl, sym, ap, _∙_, subst}
-use mathlib.Core.Bool.{Bool, true, false}
-use mathlib.Core.Logic.{⊎-elim, _↔_}
+use mathlib.Core.Logic.{⊎-elim}
 use mathlib.Core.List.{[], _∷_}
-use Prim.Native.Nat.{ℕ, zero, suc, _+_, _-_, _≤_, _<_, zero-le, max}
+use Prim.Native.Nat.{ℕ, zero, suc, _+_, _-_, _≤_, _<_, zero-le}
 use native.Mathlib.Nat as N
 use native.Mathlib.Omega.{arith}
-use lib.Dec.{T, ltb, leb→le, le→leb, ltb→lt}
-use borrow.Author.Tests.{ltb-true, ltb-false}
+use lib.Dec.{T, leb→le, le→leb, ltb→lt}
 use lib.IntN.{ℤ, pos, negsuc, negℤ, natAbs, _+ℤ_, _-ℤ_, +ℤ-invr}
 use lib.Signed.{ltZ, _≤ℤ_, ltZ-no, leZ-yes, ≤ℤ-refl}
 use Rattle.integer.specs.Laws.Tests.{at-cond}
-use Rattle.integer.specs.Laws.Ring.{ring, natAbs-neg}
+use Rattle.integer.specs.Laws.Ring.{ring}
 use Rattle.integer.specs.Laws.Order.{≤ℤ-diff, ≤ℤ-more, ≤ℤ-trans, natAbs-upper}
 use Rattle.integer.specs.Laws.Normal.{X, _⊕_, ⊖, solve, env}
-use Rattle.split.specs.Fold.{maxTo, greatestTo, leastTo}
+use Rattle.split.specs.Fold.{greatestTo, leastTo}
 use Rattle.split.specs.Rating.{spreadOf}
-use Rattle.split.specs.Spread.{EveryTwo, widest}
+use Rattle.split.specs.Fits.{EveryTwo}
 
 -- ---- the greatest and the least are among the numbers, and bound them
 
@@ -103,44 +101,3 @@ near-spread limit v (suc n) h =
     let (i, li, p) = greatest-in v (suc n) in
     let (j, lj, q) = least-in v (suc n) in
     rw (p, q) (h i j (omega arith) (omega arith))
-
-pub spread-exactly-when : (limit : ℕ) (v : ℕ → ℤ) (k : ℕ) → (spreadOf v k ≤ limit) ↔ EveryTwo limit v k
-spread-exactly-when limit v k = (spread-near limit v k, near-spread limit v k)
-
--- ---- the spread is the widest distance
-
-max-has : (f : ℕ → ℕ) (n j : ℕ) → j < n → f j ≤ maxTo f n
-unfolding maxTo
-max-has f zero j l = absurd (N.not-suc-le-zero l)
-max-has f (suc n) j l =
-    last-or (λ j. f j ≤ max (maxTo f n) (f n)) n j l (omega arith) (λ m. omega (arith, max-has f n j m))
-
-max-le : (f : ℕ → ℕ) (n m : ℕ) → ((i : ℕ) → i < n → f i ≤ m) → maxTo f n ≤ m
-unfolding maxTo
-max-le f zero m h = zero-le
-max-le f (suc n) m h = omega (arith, max-le f n m (λ i l. h i (omega arith)), h n (omega arith))
-
-pub widest-has : (v : ℕ → ℤ) (k i j : ℕ) → i < k → j < i → natAbs (v i -ℤ v j) ≤ widest v k
-widest-has v k i j h l =
-    N.le-trans (max-has (λ j. natAbs (v i -ℤ v j)) i j l) (max-has (λ i. maxTo (λ j. natAbs (v i -ℤ v j)) i) k i h)
-
-widest-two : (v : ℕ → ℤ) (k : ℕ) → EveryTwo (widest v k) v k
-widest-two v k i j li lj = by-order (ltb j i) refl
-  where
-    high : i ≤ j → natAbs (v i -ℤ v j) ≤ widest v k
-    high l = ⊎-elim
-        (λ (e : i ≡ j). subst (λ (j : ℕ). natAbs (v i -ℤ v j) ≤ widest v k) e (rw (+ℤ-invr (v i)) zero-le))
-        (λ (m : i < j). rw (← natAbs-neg (v i -ℤ v j), swapped (v i) (v j)) (widest-has v k j i lj m))
-        (N.eq-or-lt-of-le l)
-
-    by-order : (b : Bool) → ltb j i ≡ b → natAbs (v i -ℤ v j) ≤ widest v k
-    by-order true e = widest-has v k i j li (ltb-true j i e)
-    by-order false e = high (ltb-false j i e)
-
-pub widest-is : (v : ℕ → ℤ) (k : ℕ) → widest v k ≡ spreadOf v k
-widest-is v k =
-    N.le-antisymm
-    (max-le (λ i. maxTo (λ j. natAbs (v i -ℤ v j)) i) k (spreadOf v k)
-    (λ i h. max-le (λ j. natAbs (v i -ℤ v j)) i (spreadOf v k)
-    (λ j l. spread-near (spreadOf v k) v k (N.le-refl (spreadOf v k)) i j h (omega arith))))
-    (near-spread (widest v k) v k (widest-two v k))

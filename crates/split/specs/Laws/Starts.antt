@@ -12,14 +12,12 @@ use borrow.Author.Tests.{lt-ltb, le-ltb, ltb-true, ltb-false, eqb-true, eqb-fals
 use Rattle.integer.specs.Figures.{MILLION}
 use Rattle.systems.specs.Systems.{COMPONENTS, memberOf, hasOf}
 use Rattle.systems.specs.Laws.Members.{has-cases}
+use Rattle.systems.specs.Choice.{oneIf, SYSTEMS}
 use Rattle.split.specs.Fold.{sumTo}
-use Rattle.split.specs.Split.{SYSTEMS, CELLS, cellOf, systemOf, partsOf, columnOf, heldOf, Chosen, Stock, Sound}
+use Rattle.split.specs.Split.{CELLS, cellOf, systemOf, partsOf, columnOf, heldOf, Chosen, Stock, Sound}
 use Rattle.split.specs.Start.{sharersOf, shareOf, startAmount, startCell, startOf, Shared}
 use Rattle.split.specs.Laws.Tables.{length-table, getD-table}
 use Rattle.split.specs.Laws.Folds.{sum-le, sum-more, sum-none, sum-same, sum-has}
-
-abbrev oneIf : Bool → ℕ
-oneIf b = cond b 1 0
 
 -- shares add up, for any number of sharers
 
@@ -29,7 +27,7 @@ shares t n zero = rw (N.zero-mul (t / n)) (omega arith)
 shares t n (suc j) = go (ltb j (t % n)) refl (shares t n j)
   where
     go : (b : Bool) → ltb j (t % n) ≡ b → sumTo (shareOf t n) j ≡ j * (t / n) + min j (t % n)
-        → sumTo (shareOf t n) j + (t / n + cond (ltb j (t % n)) 1 0) ≡ suc j * (t / n) + min (suc j) (t % n)
+        → sumTo (shareOf t n) j + (t / n + oneIf (ltb j (t % n))) ≡ suc j * (t / n) + min (suc j) (t % n)
     go true e ih =
         let l = ltb-true j (t % n) e in
         rw (e, N.suc-mul j (t / n)) (omega arith)
@@ -45,16 +43,16 @@ shares-all t n h =
 
 -- ranked out by rank: those that p holds of get f 0, f 1, ..
 ranked : (p : ℕ → Bool) (f : ℕ → ℕ) (j : ℕ)
-    → sumTo (λ s. cond (p s) (f (sumTo (λ r. cond (p r) 1 0) s)) 0) j ≡ sumTo f (sumTo (λ r. cond (p r) 1 0) j)
+    → sumTo (λ s. cond (p s) (f (sumTo (λ r. oneIf (p r)) s)) 0) j ≡ sumTo f (sumTo (λ r. oneIf (p r)) j)
 unfolding sumTo
 ranked p f zero = refl
 ranked p f (suc j) = go (p j) refl (ranked p f j)
   where
     go : (b : Bool) → p j ≡ b
-        → sumTo (λ s. cond (p s) (f (sumTo (λ r. cond (p r) 1 0) s)) 0) j ≡ sumTo f (sumTo (λ r. cond (p r) 1 0) j)
-        → sumTo (λ s. cond (p s) (f (sumTo (λ r. cond (p r) 1 0) s)) 0) (suc j) ≡ sumTo f
-        (sumTo (λ r. cond (p r) 1 0) (suc j))
-    go true e ih = rw e (sum-more f (sumTo (λ r. cond (p r) 1 0) j) _ _ ih refl)
+        → sumTo (λ s. cond (p s) (f (sumTo (λ r. oneIf (p r)) s)) 0) j ≡ sumTo f (sumTo (λ r. oneIf (p r)) j)
+        → sumTo (λ s. cond (p s) (f (sumTo (λ r. oneIf (p r)) s)) 0) (suc j) ≡ sumTo f
+        (sumTo (λ r. oneIf (p r)) (suc j))
+    go true e ih = rw e (sum-more f (sumTo (λ r. oneIf (p r)) j) _ _ ih refl)
     go false e ih = rw (e, N.add-zero, N.add-zero) ih
 
 -- the start

@@ -8,7 +8,8 @@ use lib.Dec.{eqb}
 use borrow.Author.Tests.{eqb-true, eqb-false}
 use Rattle.integer.specs.Figures.{MILLION}
 use Rattle.systems.specs.Systems.{COMPONENTS, memberOf}
-use Rattle.split.specs.Split.{SYSTEMS, cellOf, systemOf, columnOf, rowNumber, Sound}
+use Rattle.split.specs.Split.{cellOf, systemOf, columnOf, rowNumber, Sound}
+use Rattle.systems.specs.Choice.{SYSTEMS}
 use Rattle.split.specs.Move.{MOVES, componentOf, giverOf, takerOf, movedOf}
 use Rattle.split.specs.Laws.Members.{Three}
 use Rattle.split.specs.Laws.Moves.{taken-fits, sound-after, number-other, column-same, cell-column}

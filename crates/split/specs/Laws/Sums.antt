@@ -1,26 +1,19 @@
--- The parts of all rows are the columns' sums, so a split that re-sums has as many parts as the mixture
--- (document 01, "The split and the rating"). Assumes nothing.
-use mathlib.Core.Path.{_≡_, refl, sym, ap, _∙_}
-use mathlib.Core.Bool.{Bool, true, false, cond}
+-- The parts of all rows are no more than the columns' sums, so a split that re-sums has no more parts than the mixture.
+-- Assumes nothing.
+use mathlib.Core.Path.{_≡_, refl, ap, _∙_}
 use mathlib.Core.List.{List}
 use Prim.Native.Nat.{ℕ, zero, suc, _+_, _≤_, _<_}
 use native.Mathlib.Omega.{arith}
-use lib.Dec.{eqb}
 use lib.ListN.{getD}
-use borrow.Author.Tests.{eq-eqb, ne-eqb, lt-ltb}
-use Rattle.systems.specs.Systems.{COMPONENTS, memberOf, hasOf, Candidate}
+use Rattle.integer.specs.Figures.{MILLION}
+use Rattle.systems.specs.Systems.{COMPONENTS, memberOf, Candidate}
 use Rattle.systems.specs.Laws.Members.{member-lt, members-apart}
 use Rattle.split.specs.Fold.{sumTo}
-use Rattle.split.specs.Laws.Folds.{sum-le, sum-same, sum-but}
-use Rattle.split.specs.Split.{cellOf, systemOf, partsOf, columnOf, heldOf, Chosen, Clean, mixtureParts}
+use Rattle.split.specs.Laws.Folds.{sum-le, sum-same, but, but-off, but-sum}
+use Rattle.split.specs.Split.{cellOf, systemOf, partsOf, columnOf, Chosen, mixtureParts}
 use Rattle.split.specs.Fits.{Resums}
 
 -- ---- sums of sums
-
-pub sum-zero : (f : ℕ → ℕ) (n : ℕ) → ((i : ℕ) → i < n → f i ≡ 0) → sumTo f n ≡ 0
-unfolding sumTo
-sum-zero f zero h = refl
-sum-zero f (suc n) h = omega (arith, sum-zero f n (λ i l. h i (omega arith)), h n (omega arith))
 
 sum-add : (f g : ℕ → ℕ) (n : ℕ) → sumTo (λ i. f i + g i) n ≡ sumTo f n + sumTo g n
 unfolding sumTo
@@ -36,19 +29,6 @@ columns-rows (suc k) a =
     ∙ ap (λ (n : ℕ). n + sumTo (cellOf a k) COMPONENTS) (columns-rows k a)
 
 -- ---- a row of a candidate system
-
--- f with 0 at one place
-abbrev but : ℕ → (ℕ → ℕ) → ℕ → ℕ
-but i f c = cond (eqb c i) 0 (f c)
-
-but-sum : (f : ℕ → ℕ) (n i : ℕ) → i < n → sumTo f n ≡ f i + sumTo (but i f) n
-but-sum f n i l = omega (arith, sum-but f (but i f) n i l (λ c m z. rw (ne-eqb c i z)), on)
-  where
-    on : but i f i ≡ 0
-    on = rw (eq-eqb i i refl)
-
-but-off : (i : ℕ) (f : ℕ → ℕ) (c : ℕ) → (c ≡ i → ⊥) → but i f c ≡ f c
-but-off i f c z = rw (ne-eqb c i z)
 
 module _ (system : ℕ) (cand : Candidate system) (f : ℕ → ℕ) where
   abbrev m : ℕ → ℕ
@@ -73,21 +53,6 @@ module _ (system : ℕ) (cand : Candidate system) (f : ℕ → ℕ) where
         but-off (m 1) (but (m 0) f) (m 2) (apart 2 1 (omega arith) (omega arith) (λ z. omega arith)),
       )
 
-  -- which is nothing, where what the system lacks is 0
-  rest-none : (c : ℕ) → (hasOf system c ≡ false → f c ≡ 0) → rest c ≡ 0
-  unfolding hasOf
-  rest-none c h = go (eqb c (m 0)) (eqb c (m 1)) (eqb c (m 2)) h
-    where
-      go : (x y z : Bool) → (cond x true (cond y true z) ≡ false → f c ≡ 0) → cond z 0 (cond y 0 (cond x 0 (f c))) ≡ 0
-      go x y true h = refl
-      go x true false h = refl
-      go true false false h = refl
-      go false false false h = h refl
-
-  pub members-all : ((c : ℕ) → c < COMPONENTS → hasOf system c ≡ false → f c ≡ 0)
-      → sumTo f COMPONENTS ≡ f (m 0) + f (m 1) + f (m 2)
-  members-all h = omega (arith, members-sum, sum-zero rest COMPONENTS (λ c l. rest-none c (h c l)))
-
 -- ---- all rows
 
 module _ (ch : List ℕ) (k : ℕ) (a : List ℕ) (chosen : Chosen ch k) where
@@ -95,21 +60,16 @@ module _ (ch : List ℕ) (k : ℕ) (a : List ℕ) (chosen : Chosen ch k) where
   unfolding partsOf
   row-le s l = omega (arith, members-sum (systemOf ch s) (chosen .known s l) (cellOf a s))
 
-  row-is : Clean ch k a → (s : ℕ) → s < k → partsOf ch a s ≡ sumTo (cellOf a s) COMPONENTS
-  unfolding partsOf heldOf
-  row-is clean s l =
-      sym (members-all (systemOf ch s) (chosen .known s l) (cellOf a s)
-      (λ c m h. clean .none s c m (rw (lt-ltb s k l) h)))
-
   -- whatever the cells, the parts are no more than the columns' sums
   pub parts-le : sumTo (partsOf ch a) k ≤ sumTo (columnOf k a) COMPONENTS
   parts-le = rw (columns-rows k a) (sum-le (partsOf ch a) (λ s. sumTo (cellOf a s) COMPONENTS) k row-le)
 
-  -- and of clean cells as many
-  pub parts-columns : Clean ch k a → sumTo (partsOf ch a) k ≡ sumTo (columnOf k a) COMPONENTS
-  parts-columns clean =
-      sum-same (partsOf ch a) (λ s. sumTo (cellOf a s) COMPONENTS) k (row-is clean) ∙ sym (columns-rows k a)
-
 -- a split that re-sums has the mixture's parts
 pub resummed : (mix : List ℕ) (k : ℕ) (a : List ℕ) → Resums mix k a → sumTo (columnOf k a) COMPONENTS ≡ mixtureParts mix
 resummed mix k a h = sum-same (columnOf k a) (λ c. getD mix c 0) COMPONENTS h
+
+-- so a chosen split of a mixture of a million parts at most has no more
+pub fit-few : (systems : List ℕ) (count : ℕ) (mix cells : List ℕ) → Chosen systems count → mixtureParts mix ≤ MILLION
+    → Resums mix count cells → sumTo (partsOf systems cells) count ≤ MILLION
+fit-few systems count mix cells chosen few sums =
+    omega (arith, parts-le systems count cells chosen, resummed mix count cells sums)

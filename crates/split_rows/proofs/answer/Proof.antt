@@ -1,5 +1,5 @@
 -- `split_rows::answer` meets its contract. Assumes nothing.
-use Rattle.split_rows.specs.Laws.Rows.{no-candidate, answer-is}
+use Rattle.split_rows.proofs.Evaluation.{no-candidate, answer-is}
 use borrow.Author.Tests.{not-true, not-false}
 use mathlib.Core.Bool.{true}
 use mathlib.Core.Path.{_≡_, refl, sym, _∙_}

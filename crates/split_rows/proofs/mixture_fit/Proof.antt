@@ -16,18 +16,18 @@ abbrev μ-loop : tie.MeasureT-loop
 loop-holds : tie.Need-loop-holds Inv-loop μ-loop
 loop-holds c = added-none _
 
-mul-wide : tie.Need-mul-wide Inv-loop μ-loop
-mul-wide c = search needs
+mul-ranged : tie.Need-mul-ranged Inv-loop μ-loop
+mul-ranged c = search needs
 
-element-copy-out-wide : tie.Need-element-copy-out-wide Inv-loop μ-loop
-element-copy-out-wide c = search needs
+element-copy-out-ranged : tie.Need-element-copy-out-ranged Inv-loop μ-loop
+element-copy-out-ranged c = search needs
 
-wide-requires : tie.Need-wide-requires Inv-loop μ-loop
-wide-requires c κs = search needs
+ranged-requires : tie.Need-ranged-requires Inv-loop μ-loop
+ranged-requires c κs = search needs
 
 add-sum : tie.Need-add-sum Inv-loop μ-loop
 add-sum c =
-    omega (arith, c .before .before .before .loop .inv .few, c .before .before .loop-test .taken, c .wide .ensures .1)
+    omega (arith, c .before .before .before .loop .inv .few, c .before .before .loop-test .taken, c .ranged .ensures .1)
 
 add-c : tie.Need-add-c Inv-loop μ-loop
 add-c c = search needs
@@ -37,7 +37,7 @@ loop-less c = search needs
 
 loop-again : tie.Need-loop-again Inv-loop μ-loop
 loop-again c =
-    added-more _ _ _ _ (c .before .before .loop-test .taken) (c .before .before .before .loop .inv) (c .wide .ensures)
+    added-more _ _ _ _ (c .before .before .loop-test .taken) (c .before .before .before .loop .inv) (c .ranged .ensures)
 
 returns : tie.Need-returns Inv-loop μ-loop
 returns c = added-fit _ _ _ (c .loop-test .left) (c .before .loop .inv)
@@ -49,9 +49,9 @@ mixture-fit-spec =
     Inv-loop
     μ-loop
     loop-holds
-    mul-wide
-    element-copy-out-wide
-    wide-requires
+    mul-ranged
+    element-copy-out-ranged
+    ranged-requires
     add-sum
     add-c
     loop-less

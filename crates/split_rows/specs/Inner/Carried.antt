@@ -6,12 +6,13 @@ use lib.IntN.{ℤ}
 use lib.ListN.{length}
 use Rattle.integer.specs.Figures.{MILLION}
 use Rattle.systems.specs.Systems.{memberOf, Candidate}
-use Rattle.split.specs.Split.{SYSTEMS, systemOf, rowNumber, Sound}
+use Rattle.split.specs.Split.{systemOf, rowNumber, Sound}
+use Rattle.systems.specs.Choice.{SYSTEMS}
 use Rattle.split.specs.Inner.Steps.{insteadOf}
 use Rattle.split_rows.specs.Rows.{listed}
 use Rattle.split_rows.specs.Inner.Small.{Small}
 
--- v has the partial numbers of the rows
+-- numbers that are the partial numbers of the rows
 pub record Carried (systems : List ℕ) (count : ℕ) (cells : List ℕ) (numbers : List ℤ) : Type 0 where
   pub long : length numbers ≡ SYSTEMS
   pub are : (s : ℕ) → s < count → listed numbers s ≡ rowNumber systems cells s

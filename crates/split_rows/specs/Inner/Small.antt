@@ -3,7 +3,7 @@ use Prim.Native.Nat.{ℕ, _≤_, _<_}
 use mathlib.Core.List.{List}
 use lib.IntN.{ℤ, natAbs}
 use Rattle.formula.specs.WorkingRule.{LARGEST}
-use Rattle.split.specs.Split.{SYSTEMS}
+use Rattle.systems.specs.Choice.{SYSTEMS}
 use Rattle.split_rows.specs.Rows.{listed}
 
 -- each of the numbers is small enough

@@ -6,12 +6,13 @@ use mathlib.Core.Bool.{cond}
 use lib.Dec.{ltb, eqb}
 use lib.ListN.{getD, set}
 use Rattle.systems.specs.Systems.{COMPONENTS, hasOf}
+use Rattle.systems.specs.Choice.{oneIf}
 use Rattle.split.specs.Split.{CELLS, systemOf}
 use Rattle.split.specs.Start.{sharersOf}
 
 -- whether cell i's system contains its component: 1, else 0
 abbrev pub containedAt : List ℕ → ℕ → ℕ
-containedAt systems i = cond (hasOf (systemOf systems (i / COMPONENTS)) (i % COMPONENTS)) 1 0
+containedAt systems i = oneIf (hasOf (systemOf systems (i / COMPONENTS)) (i % COMPONENTS))
 
 -- whole rows end there, and c is a component
 pub record Cells (end c : ℕ) : Type 0 where
@@ -22,15 +23,15 @@ pub record Cells (end c : ℕ) : Type 0 where
 -- the rows' cells of component c hold 1 where the row's system contains it, else 0
 pub record Marked (systems : List ℕ) (end c : ℕ) (cells : List ℕ) : Type 0 where
   pub mark : (s : ℕ) → s < end / COMPONENTS
-      → getD cells (s * COMPONENTS + c) 0 ≡ cond (hasOf (systemOf systems s) c) 1 0
+      → getD cells (s * COMPONENTS + c) 0 ≡ oneIf (hasOf (systemOf systems s) c)
 
 -- what a row gets: nothing where it does not share, else its share, and 1 more where its rank is below the odd parts
 unfoldable pub partOf : ℕ → ℕ → ℕ → ℕ → ℕ
-partOf here share odd rank = cond (eqb here 0) 0 (share + cond (ltb rank odd) 1 0)
+partOf here share odd rank = cond (eqb here 0) 0 (share + oneIf (ltb rank odd))
 
 -- row s's part of component c
 unfoldable pub sharedRow : List ℕ → ℕ → ℕ → ℕ → ℕ → ℕ
-sharedRow systems c share odd s = partOf (cond (hasOf (systemOf systems s) c) 1 0) share odd (sharersOf systems c s)
+sharedRow systems c share odd s = partOf (oneIf (hasOf (systemOf systems s) c)) share odd (sharersOf systems c s)
 
 -- the cells with component c's parts in the first n rows
 unfoldable pub columnTo : List ℕ → ℕ → ℕ → ℕ → List ℕ → ℕ → List ℕ

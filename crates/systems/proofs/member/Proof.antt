@@ -1,9 +1,9 @@
 -- `systems::member` meets its contract. Assumes nothing.
 use mathlib.Core.Path.{sym}
 use native.Mathlib.Omega.{arith}
-use Rattle.systems.specs.Laws.Members.{member-none, member-few}
+use Rattle.systems.specs.Laws.Members.{member-none}
 use Rattle.systems.specs.Systems.{memberOf}
-use Rattle.systems.proofs.Packed.{member-is}
+use Rattle.systems.proofs.Packed.{member-is, member-few}
 use borrow.Author.Needs.{needs}
 use Rattle.systems.proofs.member.Statement.{statement}
 use Rattle.systems.proofs.member.Tie as tie

@@ -1,25 +1,25 @@
--- Where all components are present, or all but hydrogen, the choice is that by fitness alone. Assumes nothing.
+-- Two keys that order the systems alike choose alike, as standing and fitness do where every system has its three
+-- components present. Assumes nothing.
 use Prim.Native.Nat.{ℕ, zero, suc, _+_, _^_, _-_, _<_}
 use mathlib.Core.Path.{_≡_, refl, sym, ap, ap₂, _∙_}
 use mathlib.Core.List.{List, [], _∷_}
 use mathlib.Core.Bool.{Bool, true, false, not, _&&_, cond}
 use native.Mathlib.Nat.{add-zero, pow-suc}
 use native.Mathlib.Omega.{arith}
-use lib.Ieee.Fits.{and-l, and-r}
-use lib.Count.{ones}
 use lib.Dec.{T, eqb, ltb, eqb→eq, ltb→lt}
 use lib.ListN.{getD, set, replicate}
 use borrow.Author.Tests.{ltb-true, ltb-false, lt-ltb, le-ltb}
-use Rattle.refusal.specs.Keys.{isIn}
-use Rattle.systems.specs.Systems.{COMPONENTS, HYDROGEN, memberOf, hasOf, candidates, hydrocarbonSystems}
-use Rattle.systems.specs.Laws.Table.{of-true, every, every-at, none-has, in-here, in-there}
+use Rattle.refusal.specs.Keys.{isIn, each}
+use Rattle.systems.specs.Systems.{COMPONENTS, HYDROGEN, hasOf}
+use Rattle.systems.specs.Laws.Table.{of-true, each-at, none-has, in-here, in-there}
 use Rattle.systems.specs.Laws.Scores.{score-open, score-closed, better-cases}
-use Rattle.systems.specs.Laws.Presence.{standing-fitter, choose-is}
-use Rattle.systems.specs.Without.{HYDROCARBONS, present-before}
-use Rattle.systems.specs.Choice.{NUMBERS, hydrocarbonOrder, order, fold, maskFrom, maskOf, inMask, presentAt}
-use Rattle.systems.specs.Choice.{presentTo, presentOf, presentIn, keep, fitnessOf, standingOf, isChosen}
+use Rattle.systems.specs.Standing.{standing-fitter}
+use Rattle.systems.specs.Laws.Without.{present-before}
+use Rattle.systems.specs.Before.{HYDROCARBONS}
+use Rattle.systems.specs.Choice.{NUMBERS, fold, maskFrom, presentAt}
+use Rattle.systems.specs.Choice.{presentTo, presentOf, presentIn, fitnessOf, standingOf, isChosen}
 use Rattle.systems.specs.Choice.{containingOf, openOf, scoreOf, betterOf, fittestOf, takeOf, passOf, marksOf}
-use Rattle.systems.specs.Choice.{candidatesOf, chosenOf, chooseBy, chooseOf}
+use Rattle.systems.specs.Choice.{chosenOf, chooseBy}
 
 ltb-suc : (a b : ℕ) → ltb (a + 1) (b + 1) ≡ ltb a b
 ltb-suc a b = go (ltb a b) refl
@@ -89,42 +89,40 @@ module _ (k l : ℕ → ℕ) (systems : List ℕ)
         ap (λ x. cond (ltb (containingOf systems marks c) wanted) (set marks x true) marks)
         (fittest-alike h)
 
-  pass-alike : (wanted : ℕ) (components : List ℕ) → T (every (λ c. ltb c COMPONENTS) components)
+  pass-alike : (wanted : ℕ) (components : List ℕ) → ((c : ℕ) → isIn c components ≡ true → c < COMPONENTS)
       → (marks : List Bool)
       → passOf k systems components wanted marks ≡ passOf l systems components wanted marks
   unfolding passOf fold
-  pass-alike wanted [] t marks = refl
-  pass-alike wanted (c ∷ components) t marks =
-      pass-alike wanted components (and-r (ltb c COMPONENTS) (every (λ c. ltb c COMPONENTS) components) t)
-      (takeOf k systems wanted marks c)
-      ∙ ap (passOf l systems components wanted)
-      (take-alike marks c wanted
-      (ltb→lt c COMPONENTS (and-l (ltb c COMPONENTS) (every (λ c. ltb c COMPONENTS) components) t)))
+  pass-alike wanted [] low marks = refl
+  pass-alike wanted (c ∷ components) low marks =
+      pass-alike wanted components (λ d e. low d (in-there d c components e)) (takeOf k systems wanted marks c)
+      ∙ ap (passOf l systems components wanted) (take-alike marks c wanted (low c (in-here c components)))
 
-  pub marks-alike : (components : List ℕ) → T (every (λ c. ltb c COMPONENTS) components)
+  marks-alike : (components : List ℕ) → ((c : ℕ) → isIn c components ≡ true → c < COMPONENTS)
       → marksOf k systems components ≡ marksOf l systems components
   unfolding marksOf
-  marks-alike components t =
-      pass-alike 2 components t (passOf k systems components 1 (replicate NUMBERS false))
-      ∙ ap (passOf l systems components 2) (pass-alike 1 components t (replicate NUMBERS false))
+  marks-alike components low =
+      pass-alike 2 components low (passOf k systems components 1 (replicate NUMBERS false))
+      ∙ ap (passOf l systems components 2) (pass-alike 1 components low (replicate NUMBERS false))
 
 -- ---- where every candidate has all three of its components present
 
-threeIn : ℕ → ℕ → Bool
+unfoldable pub threeIn : ℕ → ℕ → Bool
 threeIn present s = eqb (presentIn present s) 3
 
 -- the fitness alone decides
 module _ (mix : List ℕ) (p : ℕ) (is : presentOf mix ≡ p) (systems components : List ℕ)
-    (three : T (every (threeIn p) systems)) (low : T (every (λ c. ltb c COMPONENTS) components)) where
+    (three : T (each (threeIn p) systems)) (low : T (each (λ c. ltb c COMPONENTS) components)) where
   three-in : (s : ℕ) → isIn s systems ≡ true → presentIn (presentOf mix) s ≡ 3
   unfolding threeIn
-  three-in s e = ap (λ m. presentIn m s) is ∙ eqb→eq (presentIn p s) 3 (every-at (threeIn p) systems three s e)
+  three-in s e = ap (λ m. presentIn m s) is ∙ eqb→eq (presentIn p s) 3 (each-at (threeIn p) systems three s e)
 
-  by-fitness : chooseBy (standingOf mix) systems components ≡ chooseBy (fitnessOf mix) systems components
+  pub by-fitness : chooseBy (standingOf mix) systems components ≡ chooseBy (fitnessOf mix) systems components
   by-fitness =
       ap (chosenOf systems)
       (marks-alike (standingOf mix) (fitnessOf mix) systems
-      (λ s t e f. standing-fitter mix s t (three-in s e ∙ sym (three-in t f))) components low)
+      (λ s t e f. standing-fitter mix s t (three-in s e ∙ sym (three-in t f))) components
+      (λ c e. ltb→lt c COMPONENTS (each-at (λ c. ltb c COMPONENTS) components low c e)))
 
 mask-all : (f : ℕ → Bool) (n i : ℕ) → ((c : ℕ) → c < n → f (i + c) ≡ true)
     → maskFrom f n i + 1 ≡ 2 ^ n
@@ -145,23 +143,7 @@ pub all-present : (mix : List ℕ) → ((c : ℕ) → c < COMPONENTS → 0 < get
 unfolding presentOf
 all-present mix h = omega (arith, all-to mix COMPONENTS h)
 
-pub choose-fittest : (mix : List ℕ) → ((c : ℕ) → c < COMPONENTS → 0 < getD mix c 0)
-    → chooseOf mix ≡ chooseBy (fitnessOf mix) candidates order
-unfolding candidatesOf keep inMask threeIn presentIn maskOf maskFrom hasOf memberOf ones
-choose-fittest mix h =
-    let e = all-present mix h in
-    choose-is mix ∙ ap (λ p. chooseBy (standingOf mix) (candidatesOf p) (keep p order)) e
-    ∙ by-fitness mix (2 ^ COMPONENTS - 1) e candidates order tt tt
-
 -- and of all but hydrogen
 pub four-present : (mix : List ℕ) → ((c : ℕ) → c < HYDROCARBONS → 0 < getD mix c 0)
     → getD mix HYDROGEN 0 ≡ 0 → presentOf mix ≡ 2 ^ HYDROCARBONS - 1
 four-present mix h none = present-before mix none ∙ omega (arith, all-to mix HYDROCARBONS h)
-
-pub four-fittest : (mix : List ℕ) → ((c : ℕ) → c < HYDROCARBONS → 0 < getD mix c 0)
-    → getD mix HYDROGEN 0 ≡ 0 → chooseOf mix ≡ chooseBy (fitnessOf mix) hydrocarbonSystems hydrocarbonOrder
-unfolding candidatesOf keep inMask threeIn presentIn maskOf maskFrom hasOf memberOf ones
-four-fittest mix h none =
-    let e = four-present mix h none in
-    choose-is mix ∙ ap (λ p. chooseBy (standingOf mix) (candidatesOf p) (keep p order)) e
-    ∙ by-fitness mix (2 ^ HYDROCARBONS - 1) e hydrocarbonSystems hydrocarbonOrder tt tt

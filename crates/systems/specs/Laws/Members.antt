@@ -4,23 +4,23 @@ use mathlib.Core.Path.{_≡_, refl}
 use mathlib.Core.Bool.{Bool, true, false, not, _||_, Bool·beq}
 use mathlib.Core.List.{[]}
 use native.Mathlib.Omega.{arith}
-use lib.Dec.{T, eqb, ltb, leb, eqb→eq, ltb→lt, leb→le}
-use lib.ListN.{getD, length, List·getD-eq-default}
+use lib.Dec.{T, eqb, ltb, ltb→lt}
+use lib.ListN.{length, List·getD-eq-default}
 use borrow.Author.Tests.{eqb-true, eq-eqb}
 use Rattle.refusal.specs.Keys.{isIn}
 use Rattle.refusal.specs.Laws.Alike.{beq-is}
 use Rattle.systems.specs.Systems.{COMPONENTS, HYDROGEN, hydrocarbonSystems, members, memberOf, hasOf, Candidate}
 use Rattle.systems.specs.Laws.Table.{each-candidate, everyTo, eachTo, of-true}
-use Rattle.systems.specs.Choice.{countTo}
+use Rattle.systems.specs.Choice.{NUMBERS}
 
 -- ---- of each candidate
 
 small : ℕ → Bool
-small system = leb system 8
+small system = ltb system NUMBERS
 
-pub candidate-le : (system : ℕ) → Candidate system → system ≤ 8
+pub candidate-lt : (system : ℕ) → Candidate system → system < NUMBERS
 unfolding small
-candidate-le system k = leb→le system 8 (each-candidate small tt system k)
+candidate-lt system k = ltb→lt system NUMBERS (each-candidate small tt system k)
 
 low : ℕ → Bool
 low system = everyTo (λ j. ltb (memberOf system j) COMPONENTS) 3
@@ -51,14 +51,6 @@ members-apart system k i j hi hj e =
     go false true p q t = absurd t
     go false false p q t = absurd (of-true false q)
 
--- it contains exactly three of the components
-three : ℕ → Bool
-three system = eqb (countTo (hasOf system) COMPONENTS) 3
-
-pub has-three : (system : ℕ) → Candidate system → countTo (hasOf system) COMPONENTS ≡ 3
-unfolding three countTo hasOf memberOf
-has-three system k = eqb→eq (countTo (hasOf system) COMPONENTS) 3 (each-candidate three tt system k)
-
 -- those of hydrocarbons alone are the ones that lack hydrogen
 lacksHydrogen : ℕ → Bool
 lacksHydrogen system = Bool·beq (isIn system hydrocarbonSystems) (not (hasOf system HYDROGEN))
@@ -72,7 +64,7 @@ hydrocarbons-are system k =
 -- ---- of every number: a system contains its three members, and nothing else
 
 module _ (system c : ℕ) where
-  pub has-first : c ≡ memberOf system 0 → hasOf system c ≡ true
+  has-first : c ≡ memberOf system 0 → hasOf system c ≡ true
   unfolding hasOf
   has-first e = rw (eq-eqb c (memberOf system 0) e, hasOf)
 
@@ -90,7 +82,7 @@ module _ (system c : ℕ) where
   has-cases P h = by-tests P (eqb c (memberOf system 0)) (eqb c (memberOf system 1)) refl refl h
 
   -- and each of the three is contained
-  pub has-of-eq : (j : ℕ) → j < 3 → c ≡ memberOf system j → hasOf system c ≡ true
+  has-of-eq : (j : ℕ) → j < 3 → c ≡ memberOf system j → hasOf system c ≡ true
   unfolding hasOf
   has-of-eq zero h e = has-first e
   has-of-eq (suc zero) h e = go (eqb c (memberOf system 0)) refl
@@ -116,14 +108,3 @@ has-member system j h = has-of-eq system (memberOf system j) j h refl
 pub member-none : (system j : ℕ) → length members ≤ system → memberOf system j ≡ COMPONENTS
 unfolding memberOf
 member-none system j h = rw (List·getD-eq-default members [] {n = system} h)
-
-few : ℕ → Bool
-few system = leb (length (getD members system [])) 3
-
--- and no system has a fourth
-pub member-few : (system j : ℕ) → system < length members → 3 ≤ j → memberOf system j ≡ COMPONENTS
-unfolding memberOf few
-member-few system j h l =
-    let t : length (getD members system []) ≤ 3 =
-    leb→le (length (getD members system [])) 3 (eachTo few (length members) tt system h) in
-    List·getD-eq-default (getD members system []) COMPONENTS {n = j} (omega arith)

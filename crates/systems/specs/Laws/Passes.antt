@@ -9,10 +9,10 @@ use lib.Ieee.Fits.{and-i, and-l, and-r}
 use lib.Dec.{T, ltb, leb, le→leb}
 use lib.ListN.{set}
 use borrow.Author.Tests.{ltb-true, ltb-false, not-true}
-use Rattle.refusal.specs.Keys.{isIn}
-use Rattle.systems.specs.Laws.Table.{of-true, to-true, every, every-at, in-here, in-there}
+use Rattle.refusal.specs.Keys.{isIn, rising, each}
+use Rattle.systems.specs.Laws.Table.{of-true, to-true, each-at, in-here, in-there}
 use Rattle.systems.specs.Choice.{fold, containingOf, openOf, fittestOf, takeOf, passOf}
-use Rattle.systems.specs.Fittest.{rises, Fittest, fittest-is}
+use Rattle.systems.specs.Fittest.{Fittest, fittest-is}
 
 -- the test passes at some number of the list
 abbrev pub some : (ℕ → Bool) → List ℕ → Bool
@@ -39,19 +39,19 @@ to-passed : (a b : Bool) → (a ≡ true → T b) → T (not a || b)
 to-passed true b f = f refl
 to-passed false b f = tt
 
-every-of : (f : ℕ → Bool) (xs : List ℕ) → ((s : ℕ) → isIn s xs ≡ true → T (f s)) → T (every f xs)
+each-of : (f : ℕ → Bool) (xs : List ℕ) → ((s : ℕ) → isIn s xs ≡ true → T (f s)) → T (each f xs)
 unfolding isIn
-every-of f [] h = tt
-every-of f (x ∷ xs) h =
-    and-i (f x) (every f xs) (h x (in-here x xs)) (every-of f xs (λ s e. h s (in-there s x xs e)))
+each-of f [] h = tt
+each-of f (x ∷ xs) h =
+    rw (to-true (f x) (h x (in-here x xs))) (each-of f xs (λ s e. h s (in-there s x xs e)))
 
 -- a system can be taken, and none that can be taken ranks higher
 abbrev pub topOf : (ℕ → ℕ) → List ℕ → List Bool → ℕ → ℕ → Bool
-topOf rank systems marks c s = openOf marks c s && every (λ t. not (openOf marks c t) || leb (rank t) (rank s)) systems
+topOf rank systems marks c s = openOf marks c s && each (λ t. not (openOf marks c t) || leb (rank t) (rank s)) systems
 
 -- a test passes at each of the systems that can be taken and that rank highest
 abbrev pub eachTop : (ℕ → ℕ) → List ℕ → List Bool → ℕ → (ℕ → Bool) → Bool
-eachTop rank systems marks c test = every (λ s. not (topOf rank systems marks c s) || test s) systems
+eachTop rank systems marks c test = each (λ s. not (topOf rank systems marks c s) || test s) systems
 
 -- `good` holds in the end, whichever of the highest ranking systems each component takes
 abbrev pub always : (List Bool → Bool) → (ℕ → ℕ) → List ℕ → ℕ → List ℕ → List Bool → Bool
@@ -63,7 +63,7 @@ always good rank systems wanted (c ∷ cs) marks =
     (always good rank systems wanted cs marks)
 
 -- a key that puts higher ranks first takes a system of the highest rank
-module _ (key rank : ℕ → ℕ) (systems : List ℕ) (r : T (rises 0 systems))
+module _ (key rank : ℕ → ℕ) (systems : List ℕ) (r : T (rising 0 systems))
     (before : (s t : ℕ) → isIn s systems ≡ true → rank s < rank t → key s < key t) where
   module _ (marks : List Bool) (c : ℕ) where
     abbrev best : ℕ
@@ -72,9 +72,9 @@ module _ (key rank : ℕ → ℕ) (systems : List ℕ) (r : T (rises 0 systems))
     fittest-top : Fittest key systems marks c best → topOf rank systems marks c best ≡ true
     fittest-top f =
         to-true (topOf rank systems marks c best)
-        (and-i (openOf marks c best) (every (λ t. not (openOf marks c t) || leb (rank t) (rank best)) systems)
+        (and-i (openOf marks c best) (each (λ t. not (openOf marks c t) || leb (rank t) (rank best)) systems)
         (of-true (openOf marks c best) (f .free))
-        (every-of (λ t. not (openOf marks c t) || leb (rank t) (rank best)) systems
+        (each-of (λ t. not (openOf marks c t) || leb (rank t) (rank best)) systems
         (λ t e. to-passed (openOf marks c t) (leb (rank t) (rank best))
         (λ o. le→leb (rank t) (rank best) (no-higher t (f .greatest t e o) (f .listed))))))
       where
@@ -94,7 +94,7 @@ module _ (key rank : ℕ → ℕ) (systems : List ℕ) (r : T (rises 0 systems))
         let none = not-true (openOf marks c 0) (to-true (not (openOf marks c 0)) n) in
         let f = fittest-is key systems marks c r none s e o in
         passed (topOf rank systems marks c best) (test best)
-        (every-at (λ s. not (topOf rank systems marks c s) || test s) systems t best (f .listed)) (fittest-top f))
+        (each-at (λ s. not (topOf rank systems marks c s) || test s) systems t best (f .listed)) (fittest-top f))
 
   -- what holds whichever system each component takes holds of the pass
   module _ (good : List Bool → Bool) (wanted : ℕ) where

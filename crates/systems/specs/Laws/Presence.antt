@@ -2,44 +2,41 @@
 use Prim.Native.Nat.{ℕ, zero, suc, _+_, _*_, _/_, _%_, _^_, _≤_, _<_, min}
 use mathlib.Core.Path.{_≡_, refl, sym, ap, ap₂, _∙_}
 use mathlib.Core.List.{List, [], _∷_}
-use mathlib.Core.Bool.{Bool, true, false, cond, _&&_}
+use mathlib.Core.Bool.{Bool, true, false, _&&_}
 use native.Mathlib.Nat.{add-zero, zero-add, pow-suc, add-mul, one-mul, mul-le-mul-right}
 use native.Mathlib.Omega.{arith}
-use lib.Dec.{eqb, ltb}
+use lib.Dec.{eqb}
 use lib.Bits.{bitAnd, and-step}
 use lib.Count.{ones, ones-step}
 use lib.ListN.{getD}
 use lib.Pow.{shr-shr}
-use borrow.Author.Tests.{eqb-true, eqb-false, ltb-true, ltb-false, lt-ltb, le-ltb}
+use borrow.Author.Tests.{eqb-true, eqb-false, ltb-true, lt-ltb}
 use Rattle.refusal.specs.Keys.{isIn}
 use Rattle.systems.specs.Systems.{COMPONENTS, HYDROGEN, memberOf, hasOf, candidates}
-use Rattle.systems.specs.Laws.Table.{of-true, to-true, every-at}
-use Rattle.systems.specs.Choice.{countTo, fitnessOf, weightedTo, maskFrom, inMask, presentAt, presentOf}
+use Rattle.systems.specs.Laws.Table.{of-true, to-true, each-at}
+use Rattle.systems.specs.Choice.{oneIf, countTo, fitnessOf, weightedTo, maskFrom, inMask, presentAt, presentOf}
 use Rattle.systems.specs.Choice.{presentCount, maskOf, presentIn, standingOf, candidatesFor, candidatesOf}
 use Rattle.systems.specs.Choice.{order, keep, chooseBy, chooseOf}
 
 -- ---- masks
 
-abbrev bit : Bool → ℕ
-bit b = cond b 1 0
-
-bit-low : (b : Bool) (m : ℕ) → (m * 2 + bit b) % 2 ≡ bit b
+bit-low : (b : Bool) (m : ℕ) → (m * 2 + oneIf b) % 2 ≡ oneIf b
 bit-low true m = omega arith
 bit-low false m = omega arith
 
-bit-high : (b : Bool) (m : ℕ) → (m * 2 + bit b) / 2 ≡ m
+bit-high : (b : Bool) (m : ℕ) → (m * 2 + oneIf b) / 2 ≡ m
 bit-high true m = omega arith
 bit-high false m = omega arith
 
-bit-none : (b : Bool) (m : ℕ) → (m * 2 + bit b) / 2 ^ 0 % 2 ≡ bit b
+bit-none : (b : Bool) (m : ℕ) → (m * 2 + oneIf b) / 2 ^ 0 % 2 ≡ oneIf b
 bit-none true m = omega arith
 bit-none false m = omega arith
 
-bit-eqb : (b : Bool) → eqb (bit b) 1 ≡ b
+bit-eqb : (b : Bool) → eqb (oneIf b) 1 ≡ b
 bit-eqb true = refl
 bit-eqb false = refl
 
-bit-lt : (b : Bool) (m k : ℕ) → m < k → m * 2 + bit b < k * 2
+bit-lt : (b : Bool) (m k : ℕ) → m < k → m * 2 + oneIf b < k * 2
 bit-lt true m k h = omega arith
 bit-lt false m k h = omega arith
 
@@ -50,7 +47,7 @@ mask-lt f zero i = omega arith
 mask-lt f (suc n) i = rw (pow-suc 2 n) (bit-lt (f i) (maskFrom f n (i + 1)) (2 ^ n) (mask-lt f n (i + 1)))
 
 -- its components are those that the test passes at
-pub in-mask : (f : ℕ → Bool) (n i c : ℕ) → c < n → inMask (maskFrom f n i) c ≡ f (i + c)
+in-mask : (f : ℕ → Bool) (n i c : ℕ) → c < n → inMask (maskFrom f n i) c ≡ f (i + c)
 unfolding maskFrom inMask
 in-mask f zero i c h = absurd (omega arith)
 in-mask f (suc n) i zero h =
@@ -58,24 +55,24 @@ in-mask f (suc n) i zero h =
 in-mask f (suc n) i (suc c) h =
     let e : suc c ≡ 1 + c = omega arith in
     ap (λ (x : ℕ). eqb (x % 2) 1)
-    (ap (λ (x : ℕ). (maskFrom f n (i + 1) * 2 + bit (f i)) / 2 ^ x) e
-    ∙ sym (shr-shr (maskFrom f n (i + 1) * 2 + bit (f i)) 1 c)
+    (ap (λ (x : ℕ). (maskFrom f n (i + 1) * 2 + oneIf (f i)) / 2 ^ x) e
+    ∙ sym (shr-shr (maskFrom f n (i + 1) * 2 + oneIf (f i)) 1 c)
     ∙ ap (λ (x : ℕ). x / 2 ^ c) (bit-high (f i) (maskFrom f n (i + 1))))
     ∙ in-mask f n (i + 1) c (omega arith) ∙ ap f (omega arith)
 
 -- the number of the tests that pass from i on
 unfoldable countFrom : (ℕ → Bool) → ℕ → ℕ → ℕ
 countFrom f zero i = 0
-countFrom f (suc n) i = cond (f i) 1 0 + countFrom f n (i + 1)
+countFrom f (suc n) i = oneIf (f i) + countFrom f n (i + 1)
 
 ones-mask : (f : ℕ → Bool) (n i : ℕ) → ones (maskFrom f n i) ≡ countFrom f n i
 unfolding maskFrom countFrom ones
 ones-mask f zero i = refl
 ones-mask f (suc n) i =
-    ones-step (maskFrom f n (i + 1) * 2 + bit (f i))
+    ones-step (maskFrom f n (i + 1) * 2 + oneIf (f i))
     ∙ ap₂ (λ (x y : ℕ). x + ones y) (bit-low (f i) (maskFrom f n (i + 1)))
     (bit-high (f i) (maskFrom f n (i + 1)))
-    ∙ ap (λ (x : ℕ). bit (f i) + x) (ones-mask f n (i + 1))
+    ∙ ap (λ (x : ℕ). oneIf (f i) + x) (ones-mask f n (i + 1))
 
 -- what two masks have in common
 both-mask : (f g : ℕ → Bool) (n i : ℕ)
@@ -83,13 +80,13 @@ both-mask : (f g : ℕ → Bool) (n i : ℕ)
 unfolding maskFrom
 both-mask f g zero i = refl
 both-mask f g (suc n) i =
-    and-step (maskFrom f n (i + 1) * 2 + bit (f i)) (maskFrom g n (i + 1) * 2 + bit (g i))
+    and-step (maskFrom f n (i + 1) * 2 + oneIf (f i)) (maskFrom g n (i + 1) * 2 + oneIf (g i))
     ∙ ap₂ (λ (x y : ℕ). x * 2 + y)
     (ap₂ bitAnd (bit-high (f i) (maskFrom f n (i + 1))) (bit-high (g i) (maskFrom g n (i + 1)))
     ∙ both-mask f g n (i + 1))
     (ap₂ min (bit-low (f i) (maskFrom f n (i + 1))) (bit-low (g i) (maskFrom g n (i + 1))) ∙ go (f i) (g i))
   where
-    go : (a b : Bool) → min (bit a) (bit b) ≡ bit (a && b)
+    go : (a b : Bool) → min (oneIf a) (oneIf b) ≡ oneIf (a && b)
     go true true = refl
     go true false = refl
     go false true = refl
@@ -116,7 +113,7 @@ unfolding countTo
 count-one f zero i h e = absurd (omega arith)
 count-one f (suc n) i h e = go (eqb i n) refl (λ l. count-one f n i l e)
   where
-    go : (b : Bool) → eqb i n ≡ b → (i < n → 1 ≤ countTo f n) → 1 ≤ countTo f n + cond (f n) 1 0
+    go : (b : Bool) → eqb i n ≡ b → (i < n → 1 ≤ countTo f n) → 1 ≤ countTo f n + oneIf (f n)
     go true q r = rw (← eqb-true i n q, e) (omega arith)
     go false q r = let d : i ≡ n → ⊥ = eqb-false i n q in omega (arith, r (omega arith))
 
@@ -126,7 +123,7 @@ count-two f zero i j l h d e = absurd (omega arith)
 count-two f (suc n) i j l h d e = go (eqb j n) refl (λ k. count-one f n i k d) (λ k. count-two f n i j l k d e)
   where
     go : (b : Bool) → eqb j n ≡ b → (i < n → 1 ≤ countTo f n) → (j < n → 2 ≤ countTo f n)
-        → 2 ≤ countTo f n + cond (f n) 1 0
+        → 2 ≤ countTo f n + oneIf (f n)
     go true q r s =
         let k = eqb-true j n q in
         let t : f n ≡ true = ap f (sym k) ∙ e in
@@ -163,7 +160,7 @@ count-some P f (suc n) h k = go (f n) refl (λ l. count-some P f n l (λ c i e. 
   where
     go : (b : Bool) → f n ≡ b → (1 ≤ countTo f n → P) → P
     go true e r = k n (omega arith) e
-    go false e r = r (let z : 1 ≤ countTo f n + cond false 1 0 = rw e at h in omega arith)
+    go false e r = r (let z : 1 ≤ countTo f n + oneIf false = rw e at h in omega arith)
 
 -- there is one in each system with components present
 pub supply : (mix : List ℕ) (system : ℕ) → 1 ≤ presentIn (presentOf mix) system → Supply mix system
@@ -210,8 +207,8 @@ unfolding candidatesOf listed isIn
 offered-candidate present s = go (inMask present HYDROGEN)
   where
     go : (hydrogen : Bool) → isIn s (candidatesFor hydrogen) ≡ true → isIn s candidates ≡ true
-    go true e = to-true (listed s) (every-at listed (candidatesFor true) tt s e)
-    go false e = to-true (listed s) (every-at listed (candidatesFor false) tt s e)
+    go true e = to-true (listed s) (each-at listed (candidatesFor true) tt s e)
+    go false e = to-true (listed s) (each-at listed (candidatesFor false) tt s e)
 
 -- no candidate's fitness is above that of everything
 pub fitness-le : (mix : List ℕ) (s : ℕ) → isIn s candidates ≡ true → fitnessOf mix s ≤ weightedTo mix COMPONENTS
@@ -223,30 +220,8 @@ fitness-le mix =
     )
 
 -- the first of two figures decides
-first-decides : (p q k f g : ℕ) → f < k → p < q → p * k + f < q * k + g
+pub first-decides : (p q k f g : ℕ) → f < k → p < q → p * k + f < q * k + g
 first-decides p q k f g h l =
     let m : (p + 1) * k ≤ q * k = mul-le-mul-right k (omega arith) in
     let e : (p + 1) * k ≡ p * k + k = add-mul p 1 k ∙ ap (λ (x : ℕ). p * k + x) (one-mul k) in
     omega arith
-
--- a candidate with more of its components present goes before one with fewer
-pub standing-more : (mix : List ℕ) (s t : ℕ) → isIn s candidates ≡ true
-    → presentIn (presentOf mix) s < presentIn (presentOf mix) t
-    → standingOf mix s < standingOf mix t
-unfolding standingOf
-standing-more mix s t e h =
-    first-decides (presentIn (presentOf mix) s) (presentIn (presentOf mix) t) (weightedTo mix COMPONENTS + 1)
-    (fitnessOf mix s) (fitnessOf mix t) (omega (arith, fitness-le mix s e)) h
-
--- and of two with as many the fitter
-pub standing-fitter : (mix : List ℕ) (s t : ℕ) → presentIn (presentOf mix) s ≡ presentIn (presentOf mix) t
-    → ltb (standingOf mix s) (standingOf mix t) ≡ ltb (fitnessOf mix s) (fitnessOf mix t)
-unfolding standingOf
-standing-fitter mix s t e =
-    rw e
-    (go (presentIn (presentOf mix) t * (weightedTo mix COMPONENTS + 1)) (fitnessOf mix s) (fitnessOf mix t)
-    (ltb (fitnessOf mix s) (fitnessOf mix t)) refl)
-  where
-    go : (a f g : ℕ) (b : Bool) → ltb f g ≡ b → ltb (a + f) (a + g) ≡ b
-    go a f g true p = let h = ltb-true f g p in lt-ltb (a + f) (a + g) (omega arith)
-    go a f g false p = let h = ltb-false f g p in le-ltb (a + f) (a + g) (omega arith)

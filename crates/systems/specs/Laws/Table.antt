@@ -3,12 +3,13 @@
 use Prim.Native.Nat.{ℕ, zero, suc, _<_}
 use mathlib.Core.Path.{_≡_, refl}
 use mathlib.Core.Bool.{Bool, true, false, not, _&&_}
-use mathlib.Core.List.{List, [], _∷_}
+use mathlib.Core.List.{List, _∷_}
 use native.Mathlib.Omega.{arith}
 use lib.Ieee.Fits.{and-l, and-r}
 use lib.Dec.{T, eqb, eqb→eq}
 use borrow.Author.Tests.{eqb-true, eqb-false, not-true, eq-eqb}
-use Rattle.refusal.specs.Keys.{isIn}
+use Rattle.refusal.specs.Keys.{isIn, each}
+use Rattle.refusal.specs.Laws.Keys.{each-passes}
 use Rattle.systems.specs.Systems.{COMPONENTS, candidates, memberOf, hasOf, Candidate}
 
 pub of-true : (b : Bool) → b ≡ true → T b
@@ -19,26 +20,14 @@ pub to-true : (b : Bool) → T b → b ≡ true
 to-true true t = refl
 to-true false t = absurd t
 
--- the test passes at each number of the list
-abbrev pub every : (ℕ → Bool) → List ℕ → Bool
-every f [] = true
-every f (x ∷ xs) = f x && every f xs
-
-pub every-at : (f : ℕ → Bool) (xs : List ℕ) → T (every f xs) → (n : ℕ) → isIn n xs ≡ true → T (f n)
-unfolding isIn
-every-at f [] t n h = absurd (of-true false h)
-every-at f (x ∷ xs) t n h =
-    go (eqb n x) refl (λ e. rw (eqb-true n x e) (and-l (f x) (every f xs) t))
-    (λ e. every-at f xs (and-r (f x) (every f xs) t) n (rw (e, isIn) at h))
-  where
-    go : (b : Bool) → eqb n x ≡ b → (eqb n x ≡ true → T (f n)) → (eqb n x ≡ false → T (f n)) → T (f n)
-    go true e p q = p e
-    go false e p q = q e
+-- a test that passes at each number of a list
+pub each-at : (f : ℕ → Bool) (xs : List ℕ) → T (each f xs) → (n : ℕ) → isIn n xs ≡ true → T (f n)
+each-at f xs t n h = of-true (f n) (each-passes f n xs (to-true (each f xs) t) h)
 
 -- a test that passes at each candidate
-pub each-candidate : (f : ℕ → Bool) → T (every f candidates) → (system : ℕ) → Candidate system
+pub each-candidate : (f : ℕ → Bool) → T (each f candidates) → (system : ℕ) → Candidate system
     → T (f system)
-each-candidate f t system k = every-at f candidates t system (k .listed)
+each-candidate f t system k = each-at f candidates t system (k .listed)
 
 -- the test passes at each number below n
 abbrev pub everyTo : (ℕ → Bool) → ℕ → Bool

@@ -28,11 +28,12 @@ number-less-requires c κs =
 
 exchanged-requires : tie.Need-exchanged-requires
 exchanged-requires c κs =
-    let f = c .before .before in
+    let l = c .before in
+    let f = l .before .before in
     let i = f .before .before in
     let g = i .before in
     less-may (g .before .pre) (g .gives .ensures) (i .if1 .left) (f .giver .ensures) (f .before .component .ensures)
-    (c .number-less .ensures)
+    (l .number-less .ensures)
 
 first-taker-requires : tie.Need-first-taker-requires
 first-taker-requires c κs =
@@ -41,7 +42,7 @@ first-taker-requires c κs =
     let i = f .before .before in
     let g = i .before in
     less-scanning (g .before .pre) (g .gives .ensures) (i .if1 .left) (f .giver .ensures)
-    (f .before .component .ensures) (l .number-less .ensures) (c .before .exchanged .ensures)
+    (f .before .component .ensures) (l .number-less .ensures) (c .exchanged .ensures)
 
 returns-2 : tie.Need-returns-2
 returns-2 c = c .first-taker .ensures

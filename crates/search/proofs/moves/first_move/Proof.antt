@@ -10,12 +10,12 @@ use Rattle.search.proofs.moves.first_move.Statement.{statement}
 use Rattle.search.proofs.moves.first_move.Tie as tie
 
 abbrev Inv-loop : tie.InvT-loop
-Inv-loop systems count cells numbers tried₀ stride all was n₀ tried n =
-    Come systems count cells stride n tried
+Inv-loop systems count cells numbers tried₀ stride all was from₀ tried from =
+    Come systems count cells stride from tried
 
 abbrev μ-loop : tie.MeasureT-loop
-μ-loop systems count cells numbers tried₀ stride all was n₀ tried n =
-    MOVES - n
+μ-loop systems count cells numbers tried₀ stride all was from₀ tried from =
+    MOVES - from
 
 total-requires : tie.Need-total-requires Inv-loop μ-loop
 total-requires c κs = c .pre .0 .small
@@ -45,8 +45,8 @@ first-from-requires c κs =
       all-imbalance held total (i .imbalance .ensures),
     )
 
-add-n : tie.Need-add-n Inv-loop μ-loop
-add-n c = search needs
+add-from : tie.Need-add-from Inv-loop μ-loop
+add-from c = search needs
 
 returns : tie.Need-returns Inv-loop μ-loop
 returns c =
@@ -56,11 +56,11 @@ returns c =
 giver-requires : tie.Need-giver-requires Inv-loop μ-loop
 giver-requires c κs = tt
 
-sub-n : tie.Need-sub-n Inv-loop μ-loop
-sub-n c = search needs
+sub-from : tie.Need-sub-from Inv-loop μ-loop
+sub-from c = search needs
 
-add-n-2 : tie.Need-add-n-2 Inv-loop μ-loop
-add-n-2 c = search needs
+add-from-2 : tie.Need-add-from-2 Inv-loop μ-loop
+add-from-2 c = search needs
 
 loop-less : tie.Need-loop-less Inv-loop μ-loop
 loop-less c = omega (arith, c .before .before .before .before .before .loop-test .taken)
@@ -97,11 +97,11 @@ first-move-spec =
     imbalance-requires
     loop-holds
     first-from-requires
-    add-n
+    add-from
     returns
     giver-requires
-    sub-n
-    add-n-2
+    sub-from
+    add-from-2
     loop-less
     loop-again
     loop-less-2

@@ -12,11 +12,11 @@ use Rattle.search.proofs.moves.first_taker.Statement.{statement}
 use Rattle.search.proofs.moves.first_taker.Tie as tie
 
 abbrev Inv-loop : tie.InvT-loop
-Inv-loop systems count cells numbers tried₀ stride n component giver w was t₀ tried t =
-    (t ≤ count) × Past systems count cells stride (n + t) × Tried systems count cells stride tried
+Inv-loop systems count cells numbers tried₀ stride from component giver w was t₀ tried t =
+    (t ≤ count) × Past systems count cells stride (from + t) × Tried systems count cells stride tried
 
 abbrev μ-loop : tie.MeasureT-loop
-μ-loop systems count cells numbers tried₀ stride n component giver w was t₀ tried t =
+μ-loop systems count cells numbers tried₀ stride from component giver w was t₀ tried t =
     count - t
 
 loop-holds : tie.Need-loop-holds Inv-loop μ-loop
