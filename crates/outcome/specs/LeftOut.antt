@@ -1,20 +1,19 @@
 -- No chosen system is one that request Six left out (document 02, Six and Seven): every candidate keeps the rule of
--- Table A.2. So no blend is refused 13, nor any analysis, and the number of a mixture is 16 or none. Assumes nothing.
+-- Table A.2. So no blend is refused 13, and the number of a mixture is 16 or none. Assumes nothing.
 use mathlib.Core.Path.{_≡_, refl, _∙_}
 use mathlib.Core.Bool.{Bool, true, false, cond}
 use mathlib.Core.List.{List, [], _∷_, _++_}
 use Prim.Native.Nat.{ℕ}
 use native.Mathlib.Omega.{arith}
-use lib.Dec.{eqb, ltb}
+use lib.Dec.{ltb}
 use Rattle.refusal.specs.Keys.{each, isIn}
 use Rattle.refusal.specs.Register.{NO_SYSTEM, TOO_FEW}
 use Rattle.formula.specs.WorkingRule.{sumAbs}
 use Rattle.formula.specs.Coefficients.{placeIn, keepsRule, isSystem}
-use Rattle.analysis.specs.Check.{allInRange, totalOf, totalFits, refusalByTests, analysisRefusal}
 use Rattle.systems.specs.Systems.{HYDROGEN, candidates}
 use Rattle.systems.specs.Choice.{inMask, presentOf, presentCount, fold, isChosen, listOf, chosenOf, candidatesFor}
 use Rattle.systems.specs.Choice.{candidatesOf, chooseOf}
-use Rattle.outcome.specs.Rate.{FEWEST, mixOf, mixtureRefusal, ratingRefusal}
+use Rattle.outcome.specs.Rate.{FEWEST, mixtureRefusal}
 
 -- every candidate is a system of Table A.2 that keeps the rule
 pub candidates-kept : each isSystem candidates ≡ true
@@ -81,18 +80,3 @@ module _ (mix : List ℕ) where
       go : (b : Bool) → mixtureRefusal mix ≡ cond b TOO_FEW 0 → mixtureRefusal mix ≡ NO_SYSTEM → ⊥
       go true f g = omega arith
       go false f g = omega arith
-
--- ---- so no analysis is refused 13: 5 or 6 comes from its check, and then 16
-
-check-number : (t u : Bool) → refusalByTests t u ≡ NO_SYSTEM → ⊥
-check-number true true h = omega arith
-check-number true false h = omega arith
-check-number false u h = omega arith
-
-pub never-refused : (analysis : List ℕ) → ratingRefusal analysis ≡ NO_SYSTEM → ⊥
-unfolding ratingRefusal analysisRefusal
-never-refused analysis h = go (eqb (analysisRefusal analysis) 0) h
-  where
-    go : (b : Bool) → cond b (mixtureRefusal (mixOf analysis)) (analysisRefusal analysis) ≡ NO_SYSTEM → ⊥
-    go true e = never-left-out (mixOf analysis) e
-    go false e = check-number (allInRange 0 analysis) (totalFits (totalOf analysis)) e
