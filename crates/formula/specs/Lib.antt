@@ -5,4 +5,5 @@ pub mod Partial
 pub mod Laws
 pub mod InRange
 pub mod NineteenUnits
+pub mod EachCoefficient
 pub mod Marked

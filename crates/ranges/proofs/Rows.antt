@@ -31,4 +31,5 @@ ranges-19 p here t s q h n = ap (λ u. getD u p []) q ∙ here ∙ at (eqb s 19)
     at : (b : Bool) → eqb s 19 ≡ b → full ≡ rangesOf s
     at true e = ap rangesOf (sym (eqb-true s 19 e))
     at false e =
-        sym (ap (λ (p : ℕ). getD ranges p full) (no-place s printed (none-printed s (omega (arith, n, eqb-false s 19 e)))))
+        sym (ap (λ (p : ℕ). getD ranges p full)
+        (no-place s printed (none-printed s (omega (arith, n, eqb-false s 19 e)))))

@@ -7,15 +7,15 @@ use lib.Dec.{T, ltb}
 use borrow.Author.Tests.{ltb-true, ltb-false}
 use Rattle.refusal.specs.Keys.{allIn, isIn}
 use Rattle.formula.specs.WorkingRule.{sumAbs}
-use Rattle.formula.specs.Coefficients.{placeIn, keepsRule, isSystem, kept, systems}
+use Rattle.formula.specs.Coefficients.{placeIn, keepsRule, isSystem, systemsIn, allSystems}
 use Rattle.systems.specs.Systems.{COMPONENTS, candidates, memberOf, Candidate}
 use Rattle.systems.specs.Choice.{NUMBERS}
 use Rattle.systems.specs.Laws.Members.{candidate-le, member-none}
 use Rattle.systems.specs.Laws.Table.{eachTo, each-candidate, to-true}
 
 -- each candidate is one of the systems
-pub candidates-among : allIn candidates systems ≡ true
-unfolding kept isSystem keepsRule sumAbs placeIn isIn
+pub candidates-among : allIn candidates allSystems ≡ true
+unfolding systemsIn isSystem keepsRule sumAbs placeIn isIn
 candidates-among = refl
 
 pub known-system : (system : ℕ) → Candidate system → isSystem system ≡ true
