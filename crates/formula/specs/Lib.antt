@@ -1,4 +1,5 @@
 pub mod WorkingRule
+pub mod Cases
 pub mod Coefficients
 pub mod Ranges
 pub mod Partial

@@ -1,13 +1,12 @@
--- The marked figures of partial numbers (document 01, "Gases and their figures"), computed; and figures that tell the
--- working rule, which drops fractions towards zero ("A partial number"), from rounding down. Assumes nothing.
+-- The marked figures of partial numbers (document 01, "Gases and their figures"), computed; and a figure that tells the
+-- working rule, which drops fractions towards zero, from rounding down. Assumes nothing.
 use mathlib.Core.Path.{_≡_, refl}
 use mathlib.Core.List.{List, [], _∷_, map}
 use Prim.Native.Nat.{ℕ}
 use lib.IntN.{ℤ, pos, _+ℤ_, _*ℤ_}
 use Rattle.refusal.specs.Keys.{isIn}
-use Rattle.integer.specs.Figures.{neg}
 use Rattle.integer.specs.Floor.{floorOver}
-use Rattle.formula.specs.WorkingRule.{stepZ, worked, coefficientRows, horner, coefs, sumAbs}
+use Rattle.formula.specs.WorkingRule.{worked, coefficientRows, horner, coefs, sumAbs}
 use Rattle.formula.specs.Coefficients.{placeIn, keepsRule, isSystem, tableOf, coeffOf}
 use Rattle.formula.specs.Partial.{partialNumber}
 
@@ -25,10 +24,6 @@ unfolding partialNumber worked coefficientRows horner coefs placeIn keepsRule is
 marked-numbers = record { inert = refl; four = refl; seven = refl; eight = refl; two-propane = refl; two-butane = refl }
 
 -- ---- towards zero, and not down
-
--- a step drops its fraction towards zero, above it and below it
-pub step-cut : (stepZ (pos 3) 1 2 (pos 0) ≡ pos 1) × (stepZ (neg 3) 1 2 (pos 0) ≡ neg 1)
-step-cut = (refl, refl)
 
 -- `horner` with each fraction dropped downwards
 abbrev hornerDown : ℕ → ℕ → List ℤ → ℤ
