@@ -1,4 +1,5 @@
--- The definitions at any number of components are, at COMPONENTS, today's. Assumes nothing.
+-- The definitions at any number of components (`Widths`) are, at COMPONENTS, today's (document 02, Seven). Assumes
+-- nothing.
 use Prim.Native.Nat.{ℕ, zero, suc, _+_, _-_}
 use mathlib.Core.Path.{_≡_, refl}
 use mathlib.Core.List.{List}
