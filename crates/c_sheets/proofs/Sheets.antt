@@ -6,6 +6,7 @@ use Prim.Native.Nat.{ℕ}
 use native.Mathlib.Omega.{arith}
 use lib.Dec.{eqb}
 use lib.ListN.{length}
+use Rattle.refusal.specs.Register.{carried}
 use Rattle.analysis.specs.Check.{AtFault}
 use Rattle.sheet.specs.Sheet.{sheetOf}
 use Rattle.sheet.specs.ReadingCases as read
@@ -24,8 +25,8 @@ use Rattle.c_reply.specs.declared.Reply.{Reply}
 
 -- ---- writing: only 5 carries a code
 
-carries : (t : Bool) (n len c : ℕ) → write.faultOf (cond t (Length len) (Refused n (cond (eqb n 5) c 0)))
-    ≡ cond (eqb (write.numberOf (cond t (Length len) (Refused n (cond (eqb n 5) c 0)))) 5) c 0
+carries : (t : Bool) (n len c : ℕ) → write.faultOf (cond t (Length len) (Refused n (carried n c 0)))
+    ≡ carried (write.numberOf (cond t (Length len) (Refused n (carried n c 0)))) c 0
 carries true n len c = refl
 carries false n len c = go (eqb n 5)
   where
@@ -39,13 +40,13 @@ pub written-by : (a : List ℕ) (p q : Split) (b : List ℕ) (r : Written) (left
 written-by a p q b r left e w = subst (λ (s : Split). WrittenAs a s b r left) e w
 
 module _ (a : List ℕ) (p : Split) (b : List ℕ) (r : Written) (left : List ℕ) (w : WrittenAs a p b r left) where
-  coded : write.faultOf r ≡ cond (eqb (write.numberOf r) 5) (write.faultOf r) 0
+  coded : write.faultOf r ≡ carried (write.numberOf r) (write.faultOf r) 0
   unfolding writtenOf
   coded =
       ap write.faultOf (w .answer)
       ∙ carries (eqb (writeRefusal a p (length b)) 0) (writeRefusal a p (length b)) (length (sheetOf a p))
       (write.faultOf r)
-      ∙ sym (ap (λ (x : Written). cond (eqb (write.numberOf x) 5) (write.faultOf r) 0) (w .answer))
+      ∙ sym (ap (λ (x : Written). carried (write.numberOf x) (write.faultOf r) 0) (w .answer))
 
   pub written-done : (n : ℕ) → r ≡ Length n → (old : ℕ)
       → ((reply 0 0 ≡ writtenReply (writtenOf a p (length b) 0)) × (left ≡ leftOf a p b)
@@ -61,8 +62,8 @@ module _ (a : List ℕ) (p : Split) (b : List ℕ) (r : Written) (left : List �
   module _ (number code : ℕ) (e : r ≡ Refused number code) where
     same : write.faultOf r ≡ codeIn (reply number code)
     same =
-        ap write.faultOf e ∙ subst (λ (x : Written). write.faultOf x ≡ cond (eqb (write.numberOf x) 5)
-        (write.faultOf x) 0) e coded
+        ap write.faultOf e
+        ∙ subst (λ (x : Written). write.faultOf x ≡ carried (write.numberOf x) (write.faultOf x) 0) e coded
 
     answer-back : writtenOf a p (length b) (codeIn (reply number code)) ≡ Refused number code
     answer-back = ap (writtenOf a p (length b)) (sym same) ∙ sym (w .answer) ∙ e

@@ -2,19 +2,19 @@
 use mathlib.Core.Path.{_≡_, refl, sym, ap, _∙_, subst, subst⁻¹}
 use mathlib.Core.Bool.{Bool, true, false, cond, _&&_}
 use mathlib.Core.List.{List, [], _∷_}
-use Prim.Native.Nat.{ℕ, _+_, _/_, _%_, _^_, _≤_, _<_, zero-le}
+use Prim.Native.Nat.{ℕ, _/_, _%_, _^_, _≤_, _<_, zero-le}
 use native.Mathlib.Omega.{arith}
 use lib.Ieee.Fits.{and-l}
 use lib.Ieee.Bits.{is-true}
 use lib.Dec.{T, eqb}
 use lib.IntN.{ℤ, pos}
 use lib.ListN.{getD, replicate}
-use borrow.Author.Tests.{eqb-true, eqb-false}
 use Rattle.refusal.specs.Keys.{isIn}
-use Rattle.formula.specs.WorkingRule.{sumAbs}
+use Rattle.refusal.specs.Laws.Keys.{each-passes}
+use Rattle.formula.specs.WorkingRule.{COEFFICIENTS, sumAbs}
 use Rattle.formula.specs.Coefficients.{printed, tables, placeIn, keepsRule, isSystem, tableOf}
 use Rattle.formula.specs.Laws.Agree.{values, agree}
-use Rattle.formula.specs.Laws.Numbers.{Apart, each, not-in, none-printed}
+use Rattle.formula.specs.Laws.Numbers.{PAST, Apart, not-in, none-printed}
 
 -- ---- which numbers are systems
 
@@ -22,10 +22,11 @@ use Rattle.formula.specs.Laws.Numbers.{Apart, each, not-in, none-printed}
 abbrev bit : ℕ → ℕ → Bool
 bit word s = eqb (word / 2 ^ s % 2) 1
 
-pub bit-is : (word : ℕ) → values (bit word) 0 21 ≡ values isSystem 0 21 → (s : ℕ) → s < 21 → bit word s ≡ isSystem s
-bit-is word t s h = agree (bit word) isSystem 0 21 t s zero-le (omega arith)
+pub bit-is : (word : ℕ) → values (bit word) 0 PAST ≡ values isSystem 0 PAST → (s : ℕ) → s < PAST
+    → bit word s ≡ isSystem s
+bit-is word t s h = agree (bit word) isSystem 0 PAST t s zero-le (omega arith)
 
-pub none-beyond : (s : ℕ) → 21 ≤ s → false ≡ isSystem s
+pub none-beyond : (s : ℕ) → PAST ≤ s → false ≡ isSystem s
 unfolding isSystem isIn
 none-beyond s h =
     sym (ap (λ (b : Bool). b && keepsRule (getD tables (placeIn printed s) [])) (not-in s printed (none-printed s h)))
@@ -47,15 +48,18 @@ no-system : (s : ℕ) → Apart s all → isSystem s ≡ false
 unfolding isSystem keepsRule sumAbs placeIn isIn
 no-system s a = at (isSystem s) refl
   where
-    listed : isSystem s ≡ true → T (among s)
+    listed : isSystem s ≡ true → among s ≡ true
     listed e =
-        each among printed tt s (is-true (isIn s printed)
+        each-passes among s printed refl (is-true (isIn s printed)
         (and-l (isIn s printed) (keepsRule (getD tables (placeIn printed s) [])) (subst⁻¹ T e tt)))
 
     at : (b : Bool) → isSystem s ≡ b → b ≡ false
-    at true e = absurd (subst T (ap (λ (b : Bool). cond b (isIn s all) true) e ∙ not-in s all a) (listed e))
+    at true e =
+        absurd (subst T (sym (listed e) ∙ ap (λ (b : Bool). cond b (isIn s all) true) e ∙ not-in s all a) tt)
     at false e = refl
 
-pub no-row : (s : ℕ) → Apart s all → replicate 20 (pos 0) ≡ tableOf s
+pub no-row : (s : ℕ) → Apart s all → replicate COEFFICIENTS (pos 0) ≡ tableOf s
 unfolding tableOf
-no-row s a = sym (ap (λ (b : Bool). cond b (getD tables (placeIn printed s) []) (replicate 20 (pos 0))) (no-system s a))
+no-row s a =
+    sym (ap (λ (b : Bool). cond b (getD tables (placeIn printed s) []) (replicate COEFFICIENTS (pos 0)))
+    (no-system s a))

@@ -16,7 +16,7 @@ use Rattle.refusal.specs.Register.{TOO_FEW}
 use Rattle.formula.specs.WorkingRule.{worked, coefficientRows, horner, coefs, sumAbs}
 use Rattle.formula.specs.Coefficients.{placeIn, keepsRule, isSystem, tableOf}
 use Rattle.formula.specs.Partial.{partialNumber}
-use Rattle.analysis.specs.Register.{CODES, statusOf}
+use Rattle.analysis.specs.Register.{CODES, statusOf, hydrogenCode}
 use Rattle.analysis.specs.Check.{inRange, totalFits, analysisRefusal}
 use Rattle.sheet.specs.declared.Split.{Split}
 use Rattle.mixture.specs.Simplification.{tenthsOf, amountOfCode, butaneOf}
@@ -54,83 +54,91 @@ use Rattle.demand.specs.Demand.{Expected, cellsFor, proposal, put-back}
 -- ---- the records of an absent component
 
 -- the component of the jth record of the ith chosen system
-abbrev componentOf : List ℕ → ℕ → ℕ → ℕ
-componentOf a i j = componentAt (systemOf (systemsFor a) i) j
+abbrev recordComponent : List ℕ → ℕ → ℕ → ℕ
+recordComponent analysis i j = componentAt (systemOf (systemsFor analysis) i) j
 
-module _ (a : List ℕ) (on : RatedOn a) (p : Split) (i j : ℕ) (h : i < countFor a) (l : j < 3) where
-  low : componentOf a i j < COMPONENTS
-  low = component-lt (systemOf (systemsFor a) i) (chosen a on .known i h) j l
+module _ (analysis : List ℕ) (on : RatedOn analysis) (p : Split) (i j : ℕ) (h : i < countFor analysis) (l : j < 3) where
+  low : recordComponent analysis i j < COMPONENTS
+  low = component-lt (systemOf (systemsFor analysis) i) (chosen analysis on .known i h) j l
 
-  record-cell : cellOf (cellsFor a (p .amounts)) i (componentOf a i j) ≡ getD (p .amounts) (3 * i + j) 0
+  record-cell : cellOf (cellsFor analysis (p .amounts)) i (recordComponent analysis i j)
+      ≡ getD (p .amounts) (3 * i + j) 0
   record-cell =
-      let system = systemOf (systemsFor a) i in
-      let known = chosen a on .known i h in
-      cells-cell (systemsFor a) (countFor a) (p .amounts) i (componentAt system j) (omega (arith, chosen a on .most))
-      low
-      ∙ rw (row-held (systemsFor a) (countFor a) i (componentAt system j) h (component-has system known j l))
+      let system = systemOf (systemsFor analysis) i in
+      let known = chosen analysis on .known i h in
+      cells-cell (systemsFor analysis) (countFor analysis) (p .amounts) i (componentAt system j)
+      (omega (arith, chosen analysis on .most)) low
+      ∙ rw
+      (row-held (systemsFor analysis) (countFor analysis) i (componentAt system j) h (component-has system known j l))
       (ap (λ (n : ℕ). getD (p .amounts) (3 * i + n) 0) (rank-component system known j l))
 
   -- where the split re-sums and the component is absent, the record has no parts
-  resummed-none : Resums (mixOf a) (countFor a) (cellsFor a (p .amounts)) → getD (mixOf a) (componentOf a i j) 0 ≡ 0
+  resummed-none : Resums (mixOf analysis) (countFor analysis) (cellsFor analysis (p .amounts))
+      → getD (mixOf analysis) (recordComponent analysis i j) 0 ≡ 0
       → getD (p .amounts) (3 * i + j) 0 ≡ 0
   unfolding columnOf
   resummed-none sums e =
       sym record-cell
       ∙ omega (
         arith,
-        sums (componentOf a i j) low,
-        sum-has (λ s. cellOf (cellsFor a (p .amounts)) s (componentOf a i j)) (countFor a) i
+        sums (recordComponent analysis i j) low,
+        sum-has (λ s. cellOf (cellsFor analysis (p .amounts)) s (recordComponent analysis i j)) (countFor analysis) i
             h,
         e,
       )
 
 -- a split that is rated has none,
-pub absent-record : (a : List ℕ) (p : Split) (code : ℕ) (w : ℤ) (s r : ℕ) → splitAnswer a p code ≡ Rated w s r
-    → (i j : ℕ) → i < countFor a → j < 3 → getD (mixOf a) (componentOf a i j) 0 ≡ 0
+pub absent-record : (analysis : List ℕ) (p : Split) (code : ℕ) (w : ℤ) (s r : ℕ)
+    → splitAnswer analysis p code ≡ Rated w s r
+    → (i j : ℕ) → i < countFor analysis → j < 3 → getD (mixOf analysis) (recordComponent analysis i j) 0 ≡ 0
     → getD (p .amounts) (3 * i + j) 0 ≡ 0
-absent-record a p code w s r is i j h l e =
-    let (on, rated) = split-rated a p code w s r is in
-    let fit = rated-fit LIMIT (systemsFor a) (countFor a) (mixOf a) (cellsFor a (p .amounts)) (inertFirst a)
-    (subst IsRated (sym rated) tt) in
-    resummed-none a on p i j h l (fit .sums) e
+absent-record analysis p code w s r is i j h l e =
+    let (on, rated) = split-rated analysis p code w s r is in
+    let fit = rated-fit LIMIT (systemsFor analysis) (countFor analysis) (mixOf analysis)
+    (cellsFor analysis (p .amounts)) (inertFirst analysis) (subst IsRated (sym rated) tt) in
+    resummed-none analysis on p i j h l (fit .sums) e
 
 -- so has a split that the search found,
-pub found-absent-record : (a : List ℕ) → length a ≡ CODES → (allowance code : ℕ) (w : ℤ) (s r : ℕ)
-    → searchOutcome a allowance code .answer ≡ Rated w s r
-    → (i j : ℕ) → i < countFor a → j < 3 → getD (mixOf a) (componentOf a i j) 0 ≡ 0
-    → getD (searchOutcome a allowance code .split .amounts) (3 * i + j) 0 ≡ 0
-found-absent-record a long allowance code w s r is =
-    absent-record a (searchOutcome a allowance code .split) code w s 0 (put-back a long allowance code code w s r is)
+pub found-absent-record : (analysis : List ℕ) → length analysis ≡ CODES → (allowance code : ℕ) (w : ℤ) (s r : ℕ)
+    → searchOutcome analysis allowance code .answer ≡ Rated w s r
+    → (i j : ℕ) → i < countFor analysis → j < 3 → getD (mixOf analysis) (recordComponent analysis i j) 0 ≡ 0
+    → getD (searchOutcome analysis allowance code .split .amounts) (3 * i + j) 0 ≡ 0
+found-absent-record analysis long allowance code w s r is =
+    absent-record analysis (searchOutcome analysis allowance code .split) code w s 0
+    (put-back analysis long allowance code code w s r is)
 
 -- and any other amount in the records expected is 8
-pub absent-unsummed : (a : List ℕ) → RatedOn a → (p : Split) (code : ℕ) → Expected a p
-    → (i j : ℕ) → i < countFor a → j < 3 → getD (mixOf a) (componentOf a i j) 0 ≡ 0
-    → 0 < getD (p .amounts) (3 * i + j) 0 → splitAnswer a p code ≡ Refused 8 0
-absent-unsummed a on p code x i j h l e some =
+pub absent-unsummed : (analysis : List ℕ) → RatedOn analysis → (p : Split) (code : ℕ) → Expected analysis p
+    → (i j : ℕ) → i < countFor analysis → j < 3 → getD (mixOf analysis) (recordComponent analysis i j) 0 ≡ 0
+    → 0 < getD (p .amounts) (3 * i + j) 0 → splitAnswer analysis p code ≡ Refused 8 0
+absent-unsummed analysis on p code x i j h l e some =
     let fits = expected-fits _ _ _ (p .systems) (p .codes) (x .many) (x .systems) (x .codes) in
     let refused =
-    refused-8-exactly-when LIMIT (systemsFor a) (countFor a) (mixOf a) (cellsFor a (p .amounts)) (inertFirst a) .1 in
-    split-by-records a p code true on fits
-    ∙ refused (λ sums. let z = resummed-none a on p i j h l sums e in omega arith)
+    refused-8-exactly-when LIMIT (systemsFor analysis) (countFor analysis) (mixOf analysis)
+    (cellsFor analysis (p .amounts)) (inertFirst analysis) .1 in
+    split-by-records analysis p code true on fits
+    ∙ refused (λ sums. let z = resummed-none analysis on p i j h l sums e in omega arith)
 
 -- ---- a component is present after simplification exactly where it is in the analysis
 
-module _ (a : List ℕ) (long : length a ≡ CODES) (passed : InRange a) where
-  pub present-exactly-when : (c : ℕ) → c < COMPONENTS → (0 < getD (mixOf a) c 0) ↔ (0 < getD (tenthsOf a) c 0)
+module _ (analysis : List ℕ) (long : length analysis ≡ CODES) (passed : InRange analysis) where
+  pub present-exactly-when : (c : ℕ) → c < COMPONENTS
+      → (0 < getD (mixOf analysis) c 0) ↔ (0 < getD (tenthsOf analysis) c 0)
   present-exactly-when c l = (
-    go (ltb 0 (getD (tenthsOf a) c 0)) refl,
+    go (ltb 0 (getD (tenthsOf analysis) c 0)) refl,
     λ p. omega
-        (arith, simplified-least a long passed c l p),
+        (arith, simplified-least analysis long passed c l p),
   )
     where
-      go : (b : Bool) → ltb 0 (getD (tenthsOf a) c 0) ≡ b → 0 < getD (mixOf a) c 0 → 0 < getD (tenthsOf a) c 0
-      go true e h = ltb-true 0 (getD (tenthsOf a) c 0) e
+      go : (b : Bool) → ltb 0 (getD (tenthsOf analysis) c 0) ≡ b → 0 < getD (mixOf analysis) c 0
+          → 0 < getD (tenthsOf analysis) c 0
+      go true e h = ltb-true 0 (getD (tenthsOf analysis) c 0) e
       go false e h =
-          let none = ltb-false 0 (getD (tenthsOf a) c 0) e in
-          absurd (omega (arith, simplified-absent a long passed c l (omega arith)))
+          let none = ltb-false 0 (getD (tenthsOf analysis) c 0) e in
+          absurd (omega (arith, simplified-absent analysis long passed c l (omega arith)))
 
   -- so hydrogen is, and with it systems 1, 5 and 6 are offered, exactly where code 15 is present
-  pub hydrogen-exactly-when : (0 < getD (mixOf a) HYDROGEN 0) ↔ (0 < amountOfCode a 15)
+  pub hydrogen-exactly-when : (0 < getD (mixOf analysis) HYDROGEN 0) ↔ (0 < amountOfCode analysis hydrogenCode)
   unfolding tenthsOf
   hydrogen-exactly-when =
       let (only, when) = present-exactly-when HYDROGEN (omega arith) in
@@ -140,40 +148,44 @@ module _ (a : List ℕ) (long : length a ≡ CODES) (passed : InRange a) where
 
 -- ethane, propane, all that makes butane, and hydrogen are absent
 abbrev pub MethaneAlone : List ℕ → Type 0
-MethaneAlone a = (amountOfCode a 2 ≡ 0) × ((amountOfCode a 3 ≡ 0) × ((butaneOf a ≡ 0) × (amountOfCode a 15 ≡ 0)))
+MethaneAlone analysis =
+    (amountOfCode analysis 2 ≡ 0)
+    × ((amountOfCode analysis 3 ≡ 0) × ((butaneOf analysis ≡ 0) × (amountOfCode analysis hydrogenCode ≡ 0)))
 
-module _ (a : List ℕ) (long : length a ≡ CODES) (passed : InRange a) where
-  alone-few : MethaneAlone a → ratingRefusal a ≡ TOO_FEW
+module _ (analysis : List ℕ) (long : length analysis ≡ CODES) (passed : InRange analysis) where
+  alone-few : MethaneAlone analysis → ratingRefusal analysis ≡ TOO_FEW
   unfolding tenthsOf countTo
   alone-few (e, (f, (g, h))) =
-      too-few a passed
-      (few (presentAt (mixOf a) 0) refl (absent 1 (omega arith) (omega arith)) (absent 2 (omega arith) (omega arith))
-      (absent 3 (omega arith) g) (absent 4 (omega arith) (omega arith)))
+      too-few analysis passed
+      (few (presentAt (mixOf analysis) 0) refl (absent 1 (omega arith) (omega arith))
+      (absent 2 (omega arith) (omega arith)) (absent 3 (omega arith) g) (absent 4 (omega arith) (omega arith)))
     where
-      absent : (i : ℕ) → i < COMPONENTS → getD (tenthsOf a) i 0 ≡ 0 → presentAt (mixOf a) i ≡ false
-      absent i l z = le-ltb 0 (getD (mixOf a) i 0) (omega (arith, simplified-absent a long passed i l z))
+      absent : (i : ℕ) → i < COMPONENTS → getD (tenthsOf analysis) i 0 ≡ 0 → presentAt (mixOf analysis) i ≡ false
+      absent i l z = le-ltb 0 (getD (mixOf analysis) i 0) (omega (arith, simplified-absent analysis long passed i l z))
 
-      few : (t : Bool) → presentAt (mixOf a) 0 ≡ t → presentAt (mixOf a) 1 ≡ false → presentAt (mixOf a) 2 ≡ false
-          → presentAt (mixOf a) 3 ≡ false → presentAt (mixOf a) 4 ≡ false → presentCount (mixOf a) < 2
-      few true p q r s t = rw (present-count (mixOf a)) (rw (p, q, r, s, t) (omega arith))
-      few false p q r s t = rw (present-count (mixOf a)) (rw (p, q, r, s, t) (omega arith))
+      few : (t : Bool) → presentAt (mixOf analysis) 0 ≡ t → presentAt (mixOf analysis) 1 ≡ false
+          → presentAt (mixOf analysis) 2 ≡ false → presentAt (mixOf analysis) 3 ≡ false
+          → presentAt (mixOf analysis) 4 ≡ false → presentCount (mixOf analysis) < 2
+      few true p q r s t = rw (present-count (mixOf analysis)) (rw (p, q, r, s, t) (omega arith))
+      few false p q r s t = rw (present-count (mixOf analysis)) (rw (p, q, r, s, t) (omega arith))
 
   -- two are present where another than methane is
-  other-on : (i : ℕ) → 0 < i → i < COMPONENTS → 0 < getD (tenthsOf a) i 0 → ratingRefusal a ≡ TOO_FEW → ⊥
+  other-on : (i : ℕ) → 0 < i → i < COMPONENTS → 0 < getD (tenthsOf analysis) i 0 → ratingRefusal analysis ≡ TOO_FEW → ⊥
   other-on i h l p e =
-      let there = simplified-least a long passed i l p in
-      let methane = simplified-methane a long passed in
-      let z = enough-on a passed (two-present (mixOf a) (omega (arith, methane)) i h l (omega (arith, there))) in
+      let there = simplified-least analysis long passed i l p in
+      let methane = simplified-methane analysis long passed in
+      let two = two-present (mixOf analysis) (omega (arith, methane)) i h l (omega (arith, there)) in
+      let z = enough-on analysis passed two in
       omega arith
 
-  none-other : (i : ℕ) → 0 < i → i < COMPONENTS → ratingRefusal a ≡ TOO_FEW → getD (tenthsOf a) i 0 ≡ 0
-  none-other i h l e = go (ltb 0 (getD (tenthsOf a) i 0)) refl
+  none-other : (i : ℕ) → 0 < i → i < COMPONENTS → ratingRefusal analysis ≡ TOO_FEW → getD (tenthsOf analysis) i 0 ≡ 0
+  none-other i h l e = go (ltb 0 (getD (tenthsOf analysis) i 0)) refl
     where
-      go : (b : Bool) → ltb 0 (getD (tenthsOf a) i 0) ≡ b → getD (tenthsOf a) i 0 ≡ 0
-      go true q = absurd (other-on i h l (ltb-true 0 (getD (tenthsOf a) i 0) q) e)
-      go false q = omega (arith, ltb-false 0 (getD (tenthsOf a) i 0) q)
+      go : (b : Bool) → ltb 0 (getD (tenthsOf analysis) i 0) ≡ b → getD (tenthsOf analysis) i 0 ≡ 0
+      go true q = absurd (other-on i h l (ltb-true 0 (getD (tenthsOf analysis) i 0) q) e)
+      go false q = omega (arith, ltb-false 0 (getD (tenthsOf analysis) i 0) q)
 
-  few-alone : ratingRefusal a ≡ TOO_FEW → MethaneAlone a
+  few-alone : ratingRefusal analysis ≡ TOO_FEW → MethaneAlone analysis
   unfolding tenthsOf
   few-alone e = (
     omega (arith, none-other 1 (omega arith) (omega arith) e),
@@ -184,8 +196,8 @@ module _ (a : List ℕ) (long : length a ≡ CODES) (passed : InRange a) where
   )
 
   -- an analysis in range is refused 16 exactly where methane alone is there
-  pub few-exactly-when : (ratingRefusal a ≡ TOO_FEW) ↔ MethaneAlone a
-  few-exactly-when = (few-alone, alone-few)
+  pub alone-exactly-when : (ratingRefusal analysis ≡ TOO_FEW) ↔ MethaneAlone analysis
+  alone-exactly-when = (few-alone, alone-few)
 
 -- ---- worked examples
 

@@ -60,8 +60,8 @@ use Rattle.outcome.specs.Laws.Ends.{read-passed, split-ends, split-few-exactly-
 use Rattle.outcome.specs.declared.Outcome.{Outcome}
 use Rattle.demand.specs.Laws.Answers.{written-fits, fits-expected, expected-fits, split-passed, split-by-records}
 use Rattle.demand.specs.Laws.Answers.{split-fits, split-rated, found-back}
-use Rattle.demand.specs.Laws.Sheets.{accepted-ends, read-own, read-few, sheet-ends}
-use Rattle.demand.specs.RatedSheets.{analysisIn, splitRated, sheet-split}
+use Rattle.demand.specs.Laws.Sheets.{accepted-ends, read-own, read-few, sheet-ends, sheet-split}
+use Rattle.demand.specs.RatedSheets.{analysisIn, splitRated}
 
 -- ---- the words
 
@@ -120,10 +120,11 @@ proposal analysis amounts = record {
 
 -- the chosen systems rise, and so do the components of each one's three records
 pub records-rise : (analysis : List ℕ) → RatedOn analysis
-    → ((i j : ℕ) → i < j → j < countFor analysis → systemOf (systemsFor analysis) i < systemOf (systemsFor analysis) j)
-    × ((s : ℕ) → s < countFor analysis
-    → (componentAt (systemOf (systemsFor analysis) s) 0 < componentAt (systemOf (systemsFor analysis) s) 1)
-    × (componentAt (systemOf (systemsFor analysis) s) 1 < componentAt (systemOf (systemsFor analysis) s) 2))
+    → let count = countFor analysis in
+    let systemIn = systemOf (systemsFor analysis) in
+    ((i j : ℕ) → i < j → j < count → systemIn i < systemIn j)
+    × ((s : ℕ) → s < count → let component = componentAt (systemIn s) in
+    (component 0 < component 1) × (component 1 < component 2))
 records-rise analysis on =
     let x = choosable analysis on in
     (x .rising, λ s l. components-rise (systemOf (systemsFor analysis) s) (x .known s l))
@@ -336,8 +337,8 @@ own-split-answered s code h n = ap (λ (x : Outcome). x .answer) (read-own s cod
 -- so, rated on, it ends in a rating or in one of 7 to 10, and never in 11,
 pub own-split-ends : (s : List ℕ) (code : ℕ) → readOf s code .answer ≡ Read → RatedOn (analysisIn s code)
     → (readOf s code .split .count ≡ 0 → ⊥)
-    → IsRated (sheetOutcome s code .answer)
-    ⊎ ((7 ≤ numberOf (sheetOutcome s code .answer)) × (numberOf (sheetOutcome s code .answer) ≤ 10))
+    → let answer = sheetOutcome s code .answer in
+    IsRated answer ⊎ ((7 ≤ numberOf answer) × (numberOf answer ≤ 10))
 own-split-ends s code h on n =
     subst (λ (x : Answer). IsRated x ⊎ ((7 ≤ numberOf x) × (numberOf x ≤ 10))) (sym (own-split-answered s code h n))
     (split-ends (analysisIn s code) (readOf s code .split) code on)
@@ -365,7 +366,6 @@ few-refused s code h l = read-few s code h (too-few (analysisIn s code) (read-pa
 
 -- and every sheet at all ends in a rating, in one of 1 to 11 or in 16
 pub every-sheet-ends : (s : List ℕ) (code : ℕ)
-    → (IsRated (sheetOutcome s code .answer)
-    ⊎ ((1 ≤ numberOf (sheetOutcome s code .answer)) × (numberOf (sheetOutcome s code .answer) ≤ 11)))
-    ⊎ (sheetOutcome s code .answer ≡ Refused 16 0)
+    → let answer = sheetOutcome s code .answer in
+    (IsRated answer ⊎ ((1 ≤ numberOf answer) × (numberOf answer ≤ 11))) ⊎ (answer ≡ Refused 16 0)
 every-sheet-ends s code = sheet-ends s code

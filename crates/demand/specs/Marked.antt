@@ -18,6 +18,10 @@ use Rattle.split.specs.Fold.{sumTo, table}
 use Rattle.split.specs.Split.{cellOf, heldOf}
 use Rattle.outcome.specs.Rate.{mixOf, systemsFor, countFor}
 
+-- the cells that the search of the gas of 001 Table A.1 starts with
+abbrev pub tableA1Start : List ℕ
+tableA1Start = startOf (mixOf tableA1) (systemsFor tableA1) (countFor tableA1)
+
 pub record MarkedFigures : Type 0 where
   -- partial numbers, whole numbers
   pub numbers : MarkedNumbers
@@ -31,9 +35,9 @@ pub record MarkedFigures : Type 0 where
   pub fitness-8 : fitnessOf (simplifiedOf tableA1) 8 ≡ 48416217
   pub systems : chooseOf (simplifiedOf tableA1) ≡ 4 ∷ 7 ∷ 8 ∷ []
   -- methane's start in the three systems, and the inert mixture
-  pub start-4 : cellOf (startOf (mixOf tableA1) (systemsFor tableA1) (countFor tableA1)) 0 0 ≡ 326410
-  pub start-7 : cellOf (startOf (mixOf tableA1) (systemsFor tableA1) (countFor tableA1)) 1 0 ≡ 326410
-  pub start-8 : cellOf (startOf (mixOf tableA1) (systemsFor tableA1) (countFor tableA1)) 2 0 ≡ 326409
+  pub start-4 : cellOf tableA1Start 0 0 ≡ 326410
+  pub start-7 : cellOf tableA1Start 1 0 ≡ 326410
+  pub start-8 : cellOf tableA1Start 2 0 ≡ 326409
   pub inert : inertOf tableA1 ≡ 999468 ∷ 532 ∷ 0 ∷ []
 
 mix : List ℕ
@@ -49,8 +53,7 @@ chosen = ap chooseOf (marked .0) ∙ choice
 cells : List ℕ → List ℕ → List ℕ
 cells m l = startOf m (paddedOf l) (length l)
 
-started : (s : ℕ) → cellOf (startOf (mixOf tableA1) (systemsFor tableA1) (countFor tableA1)) s 0 ≡ cellOf
-    (cells mix (4 ∷ 7 ∷ 8 ∷ [])) s 0
+started : (s : ℕ) → cellOf tableA1Start s 0 ≡ cellOf (cells mix (4 ∷ 7 ∷ 8 ∷ [])) s 0
 unfolding mix cells
 started s =
     ap (λ (m : List ℕ). cellOf (startOf m (paddedOf (chooseOf m)) (length (chooseOf m))) s 0) (marked .0)

@@ -37,11 +37,13 @@ small-recorded (Refused number place) h = tt
 
 -- every rating: of a proposed split, by the search, of a sheet
 pub every-rating-recorded :
-    ((a : List ℕ) → length a ≡ CODES → (p : Split) (code : ℕ) → Recorded (splitAnswer a p code))
-    × ((a : List ℕ) → length a ≡ CODES → (allowance code : ℕ) → Recorded (searchOutcome a allowance code .answer))
+    ((analysis : List ℕ) → length analysis ≡ CODES → (p : Split) (code : ℕ) → Recorded (splitAnswer analysis p code))
+    × ((analysis : List ℕ) → length analysis ≡ CODES → (allowance code : ℕ)
+    → Recorded (searchOutcome analysis allowance code .answer))
     × ((s : List ℕ) (code : ℕ) → Recorded (sheetOutcome s code .answer))
 every-rating-recorded = (
-  λ a long p code. small-recorded (splitAnswer a p code) (split-small a long p code),
-  λ a long allowance code. small-recorded (searchOutcome a allowance code .answer) (search-small a long allowance code),
+  λ analysis long p code. small-recorded (splitAnswer analysis p code) (split-small analysis long p code),
+  λ analysis long allowance code. small-recorded (searchOutcome analysis allowance code .answer)
+      (search-small analysis long allowance code),
   λ s code. small-recorded (sheetOutcome s code .answer) (sheet-small s code),
 )

@@ -10,7 +10,7 @@ use lib.IntN.{ℤ, pos}
 use lib.ListN.{length, getD, replicate}
 use Rattle.integer.specs.Figures.{neg}
 use Rattle.refusal.specs.Keys.{isIn, distinct, rising}
-use Rattle.formula.specs.WorkingRule.{sumAbs, LARGEST}
+use Rattle.formula.specs.WorkingRule.{COEFFICIENTS, sumAbs, LARGEST}
 
 -- the systems that Table A.2 prints
 abbrev pub printed : List ℕ
@@ -144,22 +144,22 @@ unfoldable pub isSystem : ℕ → Bool
 isSystem system = isIn system printed && keepsRule (getD tables (placeIn printed system) [])
 
 -- those numbers of a list that are systems
-unfoldable pub kept : List ℕ → List ℕ
-kept [] = []
-kept (n ∷ ns) = cond (isSystem n) (n ∷ kept ns) (kept ns)
+unfoldable pub systemsIn : List ℕ → List ℕ
+systemsIn [] = []
+systemsIn (n ∷ ns) = cond (isSystem n) (n ∷ systemsIn ns) (systemsIn ns)
 
 -- the systems
-abbrev pub systems : List ℕ
-systems = kept printed
+abbrev pub allSystems : List ℕ
+allSystems = systemsIn printed
 
 -- by the one computation over the whole table, these
-pub systems-are : systems ≡ 1 ∷ 2 ∷ 3 ∷ 4 ∷ 5 ∷ 6 ∷ 7 ∷ 8 ∷ 12 ∷ 13 ∷ 14 ∷ 15 ∷ 16 ∷ 17 ∷ 18 ∷ 20 ∷ []
-unfolding kept isSystem keepsRule sumAbs placeIn isIn
+pub systems-are : allSystems ≡ 1 ∷ 2 ∷ 3 ∷ 4 ∷ 5 ∷ 6 ∷ 7 ∷ 8 ∷ 12 ∷ 13 ∷ 14 ∷ 15 ∷ 16 ∷ 17 ∷ 18 ∷ 20 ∷ []
+unfolding systemsIn isSystem keepsRule sumAbs placeIn isIn
 systems-are = refl
 
--- the twenty coefficients of a system; all 0 where there is no such system
+-- the coefficients of a system; all 0 where there is no such system
 unfoldable pub tableOf : ℕ → List ℤ
-tableOf system = cond (isSystem system) (getD tables (placeIn printed system) []) (replicate 20 (pos 0))
+tableOf system = cond (isSystem system) (getD tables (placeIn printed system) []) (replicate COEFFICIENTS (pos 0))
 
 -- one of them, by its place
 abbrev pub coeffOf : ℕ → ℕ → ℤ

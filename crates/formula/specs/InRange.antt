@@ -1,5 +1,6 @@
--- What it is to lie in a system's ranges of validity: each share between its two percents, both ends included; no share
--- leaves the ranges of systems 1 to 8; a component that the table leaves blank has no part. Assumes nothing.
+-- What it is to lie in a system's ranges of validity (document 02, Six: "Shares must lie in the table's minimum and
+-- maximum"): each share between its two percents, both ends included; no share leaves the ranges of systems 1 to 8; a
+-- component that the table leaves blank has no part. Assumes nothing.
 use mathlib.Core.Path.{_≡_, refl, sym, ap, _∙_, subst⁻¹}
 use mathlib.Core.Bool.{Bool, true, false, _&&_}
 use mathlib.Core.List.{List}
@@ -7,7 +8,8 @@ use Prim.Native.Nat.{ℕ, _+_, _*_, _≤_, _<_, zero-le}
 use native.Mathlib.Nat as N
 use native.Mathlib.Omega.{arith}
 use lib.Dec.{T, leb, le→leb, leb→le}
-use lib.Ieee.Fits.{and-l, and-r}
+use lib.Ieee.Bits.{is-true}
+use lib.Ieee.Fits.{and-i, and-l, and-r}
 use lib.ListN.{getD}
 use Rattle.formula.specs.Coefficients.{placeIn}
 use Rattle.formula.specs.Ranges.{full, rangesOf, shareIn, sharesIn, sharesInRange}
@@ -17,11 +19,6 @@ use Rattle.formula.specs.Laws.Agree.{agree}
 
 abbrev pub Between : ℕ → ℕ → ℕ → ℕ → Type 0
 Between least greatest n d = (least * d ≤ 100 * n) × (100 * n ≤ greatest * d)
-
-and-both : (a b : Bool) → T a → T b → a && b ≡ true
-and-both true true h k = refl
-and-both true false h k = absurd k
-and-both false b h k = absurd h
 
 share-is : (least greatest n d : ℕ) → T (shareIn least greatest n d) → Between least greatest n d
 unfolding shareIn
@@ -33,11 +30,9 @@ share-is least greatest n d t = (
 is-share : (least greatest n d : ℕ) → Between least greatest n d → T (shareIn least greatest n d)
 unfolding shareIn
 is-share least greatest n d b =
-    subst⁻¹ T
-    (and-both (leb (least * d) (100 * n)) (leb (100 * n) (greatest * d))
+    and-i (leb (least * d) (100 * n)) (leb (100 * n) (greatest * d))
     (le→leb (least * d) (100 * n) (b .0))
-    (le→leb (100 * n) (greatest * d) (b .1)))
-    tt
+    (le→leb (100 * n) (greatest * d) (b .1))
 
 module _ (r : List ℕ) (n1 n2 n3 : ℕ) where
   abbrev d : ℕ
@@ -67,12 +62,12 @@ module _ (r : List ℕ) (n1 n2 n3 : ℕ) where
 
   are-shares : Shares → sharesIn r n1 n2 n3 ≡ true
   are-shares s =
-      and-both x (y && z) (is-share (getD r 0 0) (getD r 1 0) n1 d (s .0))
-      (subst⁻¹ T
-      (and-both y z
+      is-true (x && (y && z))
+      (and-i x (y && z)
+      (is-share (getD r 0 0) (getD r 1 0) n1 d (s .0))
+      (and-i y z
       (is-share (getD r 2 0) (getD r 3 0) n2 d (s .1))
-      (is-share (getD r 4 0) (getD r 5 0) n3 d (s .2)))
-      tt)
+      (is-share (getD r 4 0) (getD r 5 0) n3 d (s .2))))
 
 module _ (system n1 n2 n3 : ℕ) where
   -- in range exactly when each share is
@@ -89,10 +84,15 @@ module _ (system n1 n2 n3 : ℕ) where
 full-between : (n m : ℕ) → n ≤ m → Between 0 100 n m
 full-between n m h = (omega arith, N.mul-le-mul-left 100 h)
 
-pub full-range : (system n1 n2 n3 : ℕ) → system < 9 → sharesInRange system n1 n2 n3 ≡ true
+-- from this number on there are systems with a range that a share can leave
+abbrev pub LIMITED : ℕ
+LIMITED = 9
+
+pub full-range : (system n1 n2 n3 : ℕ) → system < LIMITED → sharesInRange system n1 n2 n3 ≡ true
 unfolding sharesInRange rangesOf placeIn
 full-range system n1 n2 n3 h =
-    sym (ap (λ (r : List ℕ). sharesIn r n1 n2 n3) (agree (λ _. full) rangesOf 0 9 refl system zero-le (omega arith)))
+    sym (ap (λ (r : List ℕ). sharesIn r n1 n2 n3)
+    (agree (λ _. full) rangesOf 0 LIMITED refl system zero-le (omega arith)))
     ∙ are-shares full n1 n2 n3 (
       full-between n1 (n1 + n2 + n3) (omega arith),
       full-between n2 (n1 + n2 + n3) (omega arith),

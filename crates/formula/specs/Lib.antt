@@ -1,8 +1,10 @@
 pub mod WorkingRule
+pub mod Cases
 pub mod Coefficients
 pub mod Ranges
 pub mod Partial
 pub mod Laws
 pub mod InRange
 pub mod NineteenUnits
+pub mod EachCoefficient
 pub mod Marked

@@ -17,6 +17,7 @@ use lib.IntN.{ℤ}
 use lib.ListN.{getD, length}
 use borrow.Author.Tests.{eqb-true, leb-true}
 use Rattle.refusal.specs.Keys.{isIn}
+use Rattle.refusal.specs.Register.{carried}
 use Rattle.refusal.specs.Laws.Keys.{each-passes}
 use Rattle.analysis.specs.Register.{CODES, statusIn, hydrogenCode}
 use Rattle.analysis.specs.Check.{requiredBy, totalFits}
@@ -54,7 +55,7 @@ use Rattle.demand.specs.RatedSheets.{analysisIn}
 use Rattle.kept.specs.Laws.BeforeCheck as check
 use Rattle.kept.specs.BeforeCheck.{registerBefore}
 use Rattle.kept.specs.BeforeMixture.{simplifiedBefore, inertBefore}
-use Rattle.kept.specs.Laws.BeforeMixture.{no-hydrogen}
+use Rattle.kept.specs.Laws.BeforeMixture.{mixture-same, no-hydrogen}
 use Rattle.kept.specs.Before.{splitAnswerWith, searchOutcomeWith, choiceBefore, splitBefore, searchBefore}
 use Rattle.kept.specs.WithoutHydrogen as seven
 
@@ -65,16 +66,17 @@ abbrev pub requiredBefore : List ℕ
 requiredBefore = 2 ∷ 3 ∷ 4 ∷ 5 ∷ []
 
 abbrev pub refusalBeforeFive : List ℕ → ℕ
-refusalBeforeFive a = refusalIn (requiring requiredBefore registerBefore) a
+refusalBeforeFive analysis = refusalIn (requiring requiredBefore registerBefore) analysis
 
 -- what 5 and 6 let pass then: what is in range, with an amount of each of these and no hydrogen
-pub before-exactly-when : (a : List ℕ) → length a ≡ CODES
-    → (refusalBeforeFive a ≡ 0)
-    ↔ ((InRange a × (getD a hydrogenCode 0 ≡ 0)) × ((k : ℕ) → isIn k requiredBefore ≡ true → 0 < getD a k 0))
+pub before-exactly-when : (analysis : List ℕ) → length analysis ≡ CODES
+    → (refusalBeforeFive analysis ≡ 0)
+    ↔ ((InRange analysis × (getD analysis hydrogenCode 0 ≡ 0))
+    × ((k : ℕ) → isIn k requiredBefore ≡ true → 0 < getD analysis k 0))
 unfolding isIn
-before-exactly-when a long = (
-  λ h. (check.before-exactly-when a long .0 (exactly .0 h .0), exactly .0 h .1),
-  λ h. exactly .1 (check.before-exactly-when a long .1 (h .0), h .1),
+before-exactly-when analysis long = (
+  λ h. (check.before-exactly-when analysis long .0 (exactly .0 h .0), exactly .0 h .1),
+  λ h. exactly .1 (check.before-exactly-when analysis long .1 (h .0), h .1),
 )
   where
     below : (k : ℕ) → isIn k requiredBefore ≡ true → k ≤ 5
@@ -85,24 +87,25 @@ before-exactly-when a long = (
     required k e =
         each-passes (λ k. requiredBy (statusIn (requiring requiredBefore registerBefore) k)) k requiredBefore refl e
 
-    exactly : (refusalBeforeFive a ≡ 0)
-        ↔ ((refusalIn registerBefore a ≡ 0) × ((k : ℕ) → isIn k requiredBefore ≡ true → 0 < getD a k 0))
+    exactly : (refusalBeforeFive analysis ≡ 0)
+        ↔ ((refusalIn registerBefore analysis ≡ 0) × ((k : ℕ) → isIn k requiredBefore ≡ true → 0 < getD analysis k 0))
     exactly =
-        requiring-exactly-when requiredBefore registerBefore a (λ k e. (omega (arith, long, below k e), required k e))
+        requiring-exactly-when requiredBefore registerBefore analysis
+        (λ k e. (omega (arith, long, below k e), required k e))
 
 -- the choice by fitness alone, over all components
 abbrev pub choiceBeforeFive : List ℕ → Choice
 choiceBeforeFive mix = choiceFrom (chooseBy (fitnessOf mix) hydrocarbonSystems hydrocarbonOrder)
 
 unfoldable pub splitBeforeFive : List ℕ → Split → ℕ → Answer
-splitBeforeFive a p code =
-    splitAnswerWith (refusalBeforeFive a) (choiceBeforeFive (simplifiedBefore a)) (simplifiedBefore a)
-    (inertBefore a) p code
+splitBeforeFive analysis p code =
+    splitAnswerWith (refusalBeforeFive analysis) (choiceBeforeFive (simplifiedBefore analysis))
+    (simplifiedBefore analysis) (inertBefore analysis) p code
 
 unfoldable pub searchBeforeFive : List ℕ → ℕ → ℕ → Outcome
-searchBeforeFive a allowance code =
-    searchOutcomeWith (refusalBeforeFive a) (choiceBeforeFive (simplifiedBefore a)) (simplifiedBefore a) (inertBefore a)
-    allowance code
+searchBeforeFive analysis allowance code =
+    searchOutcomeWith (refusalBeforeFive analysis) (choiceBeforeFive (simplifiedBefore analysis))
+    (simplifiedBefore analysis) (inertBefore analysis) allowance code
 
 -- the gas of 001 Table A.1 passed; one of methane and ethane alone was refused 5
 pub passed-before : (refusalBeforeFive tableA1 ≡ 0) × (refusalBeforeFive methaneEthane ≡ 5)
@@ -111,91 +114,95 @@ passed-before = (refl, refl)
 
 -- ---- an analysis that 5 and 6 let pass before
 
-module _ (a : List ℕ) (long : length a ≡ CODES) (before : refusalBeforeFive a ≡ 0) where
-  then : (InRange a × (getD a hydrogenCode 0 ≡ 0)) × ((k : ℕ) → isIn k requiredBefore ≡ true → 0 < getD a k 0)
-  then = before-exactly-when a long .0 before
+module _ (analysis : List ℕ) (long : length analysis ≡ CODES) (before : refusalBeforeFive analysis ≡ 0) where
+  then : (InRange analysis × (getD analysis hydrogenCode 0 ≡ 0))
+      × ((k : ℕ) → isIn k requiredBefore ≡ true → 0 < getD analysis k 0)
+  then = before-exactly-when analysis long .0 before
 
   -- passes now, without hydrogen
-  pub passes : InRange a
+  pub passes : InRange analysis
   passes = then .0 .0
 
-  none : getD a hydrogenCode 0 ≡ 0
+  none : getD analysis hydrogenCode 0 ≡ 0
   none = then .0 .1
 
   -- with ethane, propane and i-butane, and so all four components present
-  pub all-four : (c : ℕ) → c < HYDROCARBONS → 0 < getD (mixOf a) c 0
+  pub all-four : (c : ℕ) → c < HYDROCARBONS → 0 < getD (mixOf analysis) c 0
   unfolding tenthsOf isIn
-  all-four zero l = omega (arith, simplified-methane a long passes)
-  all-four (suc zero) l = omega (arith, simplified-least a long passes 1 (omega arith) (omega (arith, then .1 2 refl)))
+  all-four zero l = omega (arith, simplified-methane analysis long passes)
+  all-four (suc zero) l =
+      omega (arith, simplified-least analysis long passes 1 (omega arith) (omega (arith, then .1 2 refl)))
   all-four (suc (suc zero)) l =
-      omega (arith, simplified-least a long passes 2 (omega arith) (omega (arith, then .1 3 refl)))
+      omega (arith, simplified-least analysis long passes 2 (omega arith) (omega (arith, then .1 3 refl)))
   all-four (suc (suc (suc zero))) l =
-      omega (arith, simplified-least a long passes 3 (omega arith) (omega (arith, then .1 4 refl)))
+      omega (arith, simplified-least analysis long passes 3 (omega arith) (omega (arith, then .1 4 refl)))
   all-four (suc (suc (suc (suc c)))) l = absurd (omega arith)
 
   -- so 16 lets it pass
-  pub rated-on : RatedOn a
+  pub rated-on : RatedOn analysis
   rated-on =
-      enough-on a passes
-      (two-present (mixOf a) (all-four 0 (omega arith)) 1 (omega arith) (omega arith) (all-four 1 (omega arith)))
+      enough-on analysis passes
+      (two-present (mixOf analysis) (all-four 0 (omega arith)) 1 (omega arith) (omega arith) (all-four 1 (omega arith)))
 
   -- and the choice is the one by fitness
-  pub choice-kept : choiceBefore (simplifiedBefore a) ≡ choiceBeforeFive (simplifiedBefore a)
+  pub choice-kept : choiceBefore (simplifiedBefore analysis) ≡ choiceBeforeFive (simplifiedBefore analysis)
   choice-kept =
-      sym (seven.choice-kept a none)
+      sym (seven.choice-kept analysis none)
       ∙ ap choiceFrom
-      (four-fittest (mixOf a) all-four (no-hydrogen a none)
-      ∙ (λ j. chooseBy (λ s. fitness-same (mixOf a) (simplifiedBefore a)
-      (seven.amount-same a none) s j) hydrocarbonSystems
+      (four-fittest (mixOf analysis) all-four (no-hydrogen analysis none)
+      ∙ (λ j. chooseBy (λ s. fitness-same (mixOf analysis) (simplifiedBefore analysis)
+      (mixture-same analysis none) s j) hydrocarbonSystems
       hydrocarbonOrder))
 
   -- the answers are those from before: to every proposed split,
-  pub split-kept : (p : Split) (code : ℕ) → splitAnswer a p code ≡ splitBeforeFive a p code
+  pub split-kept : (p : Split) (code : ℕ) → splitAnswer analysis p code ≡ splitBeforeFive analysis p code
   unfolding splitBefore splitBeforeFive
   split-kept p code =
-      seven.split-kept a none p code
-      ∙ rw (sym (seven.refusal-kept a none), rated-on, before)
-      (ap (λ (choice : Choice). splitAnswerWith 0 choice (simplifiedBefore a) (inertBefore a) p code) choice-kept)
+      seven.split-kept analysis none p code
+      ∙ rw (sym (seven.refusal-kept analysis none), rated-on, before)
+      (ap (λ (choice : Choice). splitAnswerWith 0 choice (simplifiedBefore analysis) (inertBefore analysis) p code)
+      choice-kept)
 
   -- and by the search with every allowance
-  pub search-kept : (allowance code : ℕ) → searchOutcome a allowance code ≡ searchBeforeFive a allowance code
+  pub search-kept : (allowance code : ℕ)
+      → searchOutcome analysis allowance code ≡ searchBeforeFive analysis allowance code
   unfolding searchBefore searchBeforeFive
   search-kept allowance code =
-      seven.search-kept-all a none allowance code
-      ∙ rw (sym (seven.refusal-kept a none), rated-on, before)
-      (ap (λ (choice : Choice). searchOutcomeWith 0 choice (simplifiedBefore a)
-      (inertBefore a) allowance code) choice-kept)
+      seven.search-kept-all analysis none allowance code
+      ∙ rw (sym (seven.refusal-kept analysis none), rated-on, before)
+      (ap (λ (choice : Choice). searchOutcomeWith 0 choice (simplifiedBefore analysis)
+      (inertBefore analysis) allowance code) choice-kept)
 
 -- ---- what was rated before
 
 not-refused : (n code : ℕ) (x : Answer) → IsRated (checkedBy n code x) → n ≡ 0
 not-refused n code x h = go (eqb n 0) refl h
   where
-    go : (b : Bool) → eqb n 0 ≡ b → IsRated (cond b x (Refused n (cond (eqb n 5) code 0))) → n ≡ 0
+    go : (b : Bool) → eqb n 0 ≡ b → IsRated (cond b x (Refused n (carried n code 0))) → n ≡ 0
     go true e h = eqb-true n 0 e
     go false e h = absurd h
 
 -- a split rated before gets the same rating and the same spread
-pub split-rated-before : (a : List ℕ) → length a ≡ CODES → (p : Split) (code : ℕ) (w : ℤ) (s r : ℕ)
-    → splitBeforeFive a p code ≡ Rated w s r → splitAnswer a p code ≡ Rated w s r
+pub split-rated-before : (analysis : List ℕ) → length analysis ≡ CODES → (p : Split) (code : ℕ) (w : ℤ) (s r : ℕ)
+    → splitBeforeFive analysis p code ≡ Rated w s r → splitAnswer analysis p code ≡ Rated w s r
 unfolding splitBeforeFive
-split-rated-before a long p code w s r is =
-    let passed = not-refused (refusalBeforeFive a) code _ (subst IsRated (sym is) tt) in
-    split-kept a long passed p code ∙ is
+split-rated-before analysis long p code w s r is =
+    let passed = not-refused (refusalBeforeFive analysis) code _ (subst IsRated (sym is) tt) in
+    split-kept analysis long passed p code ∙ is
 
 -- a gas rated by the search gets the same rating, spread, rounds and split
-pub search-rated-before : (a : List ℕ) → length a ≡ CODES → (allowance code : ℕ)
-    → IsRated (searchBeforeFive a allowance code .answer)
-    → searchOutcome a allowance code ≡ searchBeforeFive a allowance code
+pub search-rated-before : (analysis : List ℕ) → length analysis ≡ CODES → (allowance code : ℕ)
+    → IsRated (searchBeforeFive analysis allowance code .answer)
+    → searchOutcome analysis allowance code ≡ searchBeforeFive analysis allowance code
 unfolding searchBeforeFive
-search-rated-before a long allowance code is = go (eqb (refusalBeforeFive a) 0) refl is
+search-rated-before analysis long allowance code is = go (eqb (refusalBeforeFive analysis) 0) refl is
   where
-    go : (b : Bool) → eqb (refusalBeforeFive a) 0 ≡ b
-        → IsRated (cond b (searchOutcomeWith 0 (choiceBeforeFive (simplifiedBefore a)) (simplifiedBefore a)
-        (inertBefore a) allowance code)
-        (outcome (Refused (refusalBeforeFive a) (cond (eqb (refusalBeforeFive a) 5) code 0)) noSplit) .answer)
-        → searchOutcome a allowance code ≡ searchBeforeFive a allowance code
-    go true e h = search-kept a long (eqb-true (refusalBeforeFive a) 0 e) allowance code
+    go : (b : Bool) → eqb (refusalBeforeFive analysis) 0 ≡ b
+        → IsRated (cond b (searchOutcomeWith 0 (choiceBeforeFive (simplifiedBefore analysis))
+        (simplifiedBefore analysis) (inertBefore analysis) allowance code)
+        (outcome (Refused (refusalBeforeFive analysis) (carried (refusalBeforeFive analysis) code 0)) noSplit) .answer)
+        → searchOutcome analysis allowance code ≡ searchBeforeFive analysis allowance code
+    go true e h = search-kept analysis long (eqb-true (refusalBeforeFive analysis) 0 e) allowance code
     go false e h = absurd h
 
 -- ---- a sheet

@@ -10,12 +10,13 @@ use Rattle.mixture.specs.Inert.{methaneShare}
 
 -- the four components in tenths of a part
 unfoldable pub tenthsBefore : List ℕ → List ℕ
-tenthsBefore a = 10 * amountOfCode a 1 ∷ 10 * amountOfCode a 2 ∷ 10 * amountOfCode a 3 ∷ butaneOf a ∷ []
+tenthsBefore analysis =
+    10 * amountOfCode analysis 1 ∷ 10 * amountOfCode analysis 2 ∷ 10 * amountOfCode analysis 3 ∷ butaneOf analysis ∷ []
 
 -- the simplified mixture in parts
 abbrev pub simplifiedBefore : List ℕ → List ℕ
-simplifiedBefore a = scaledOf (tenthsBefore a)
+simplifiedBefore analysis = scaledOf (tenthsBefore analysis)
 
 -- n1 of the inert mixture
 abbrev pub inertBefore : List ℕ → ℕ
-inertBefore a = methaneShare (totalOf (tenthsBefore a)) (amountOfCode a 11)
+inertBefore analysis = methaneShare (totalOf (tenthsBefore analysis)) (amountOfCode analysis 11)

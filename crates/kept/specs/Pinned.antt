@@ -13,7 +13,7 @@ use Rattle.sheet.specs.Sheet.{LISTED}
 use Rattle.systems.specs.Systems.{members, hydrocarbonSystems}
 use Rattle.systems.specs.Choice.{weights, hydrocarbonOrder}
 use Rattle.systems.specs.Before.{HYDROCARBONS}
-use Rattle.outcome.specs.Records.{codes}
+use Rattle.outcome.specs.Records.{splitCodes}
 use Rattle.kept.specs.BeforeCheck.{registerBefore}
 
 abbrev statusesOf : List Entry → List Status
@@ -28,16 +28,16 @@ pub register-kept : (keysOf registerBefore
     live 10 15000 false ∷ live 50 100000 false ∷ live 50 150000 false ∷ retired ∷ splitsOnly ∷ [])
 register-kept = (refl, refl)
 
-pub choice-kept : (take HYDROCARBONS weights ≡ 48 ∷ 75 ∷ 80 ∷ 100 ∷ [])
+pub choice-figures-kept : (take HYDROCARBONS weights ≡ 48 ∷ 75 ∷ 80 ∷ 100 ∷ [])
     × (hydrocarbonOrder ≡ 2 ∷ 1 ∷ 3 ∷ 0 ∷ [])
     × (hydrocarbonSystems ≡ 2 ∷ 4 ∷ 7 ∷ 8 ∷ [])
-choice-kept = (refl, refl, refl)
+choice-figures-kept = (refl, refl, refl)
 
 pub members-kept : (getD members 2 [] ≡ 2 ∷ 1 ∷ 3 ∷ []) × (getD members 4 [] ≡ 0 ∷ 1 ∷ 2 ∷ [])
     × (getD members 7 [] ≡ 0 ∷ 2 ∷ 3 ∷ []) × (getD members 8 [] ≡ 0 ∷ 1 ∷ 3 ∷ [])
 members-kept = (refl, refl, refl, refl)
 
-pub codes-kept : take HYDROCARBONS codes ≡ 1 ∷ 2 ∷ 3 ∷ 14 ∷ []
+pub codes-kept : take HYDROCARBONS splitCodes ≡ 1 ∷ 2 ∷ 3 ∷ 14 ∷ []
 codes-kept = refl
 
 -- a sheet's counts from before, up to 11 components and 0, 6 or 9 records, are allowed

@@ -11,7 +11,7 @@ use lib.Signed.{quotZ}
 use Rattle.integer.specs.Figures.{neg, MILLION}
 use Rattle.formula.specs.Partial.{partialNumber}
 use Rattle.systems.specs.Before.{HYDROCARBONS}
-use Rattle.systems.specs.Systems.{COMPONENTS, memberOf, hasOf}
+use Rattle.systems.specs.Systems.{memberOf, hasOf}
 use Rattle.split.specs.Fold.{sumTo, sumToZ, allTo, someTo, first, table}
 use Rattle.split.specs.Split.{RECORDS, systemOf, rankOf, recordedIn}
 use Rattle.systems.specs.Choice.{SYSTEMS}
@@ -29,10 +29,6 @@ use Rattle.split.specs.declared.Found.{Found}
 -- the components before hydrogen: methane, ethane, propane, butane; hydrogen's number is this one
 abbrev pub BEFORE : ℕ
 BEFORE = HYDROCARBONS
-
--- the components with hydrogen: today's
-abbrev pub BLEND : ℕ
-BLEND = COMPONENTS
 
 module _ (w : ℕ) where
   -- CELLS, MOVES

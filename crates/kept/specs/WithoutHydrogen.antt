@@ -6,8 +6,8 @@
 -- refusal. `code` is the code that refusal 5 carries.
 use mathlib.Core.Path.{_≡_, refl, sym, ap, ap₂, _∙_}
 use mathlib.Core.Bool.{Bool, true, false, not, cond, _&&_}
-use mathlib.Core.List.{List, [], _∷_, _++_}
-use Prim.Native.Nat.{ℕ, zero, suc, _*_, _/_, _%_, _<_, min}
+use mathlib.Core.List.{List}
+use Prim.Native.Nat.{ℕ, _*_, _/_, _%_, _<_, min}
 use native.Mathlib.Omega.{arith}
 use lib.Count.{ones}
 use lib.Dec.{eqb, ltb}
@@ -16,6 +16,7 @@ use borrow.Author.Tests.{eqb-true, ltb-true}
 use Rattle.analysis.specs.Register.{hydrogenCode}
 use Rattle.split.specs.Rating.{LIMIT}
 use Rattle.refusal.specs.Keys.{isIn}
+use Rattle.refusal.specs.Register.{carried}
 use Rattle.analysis.specs.Required.{refusalIn}
 use Rattle.sheet.specs.Split.{noSplit}
 use Rattle.sheet.specs.Components.{codesReading, zeroListed}
@@ -54,7 +55,7 @@ use Rattle.kept.specs.Laws.BeforeCheck as check
 use Rattle.kept.specs.BeforeCheck.{registerBefore}
 use Rattle.kept.specs.Laws.BeforeCheck.{without-kept}
 use Rattle.kept.specs.BeforeMixture.{simplifiedBefore}
-use Rattle.kept.specs.Laws.BeforeMixture.{simplified-kept, no-hydrogen, inert-kept}
+use Rattle.kept.specs.Laws.BeforeMixture.{mixture-same, no-hydrogen, inert-kept}
 use Rattle.kept.specs.Widths.{BEFORE}
 use Rattle.kept.specs.Laws.Steady.{all-same, table-same}
 use Rattle.kept.specs.Laws.Alike.{Without}
@@ -65,142 +66,140 @@ use Rattle.kept.specs.Before.{splitBefore, searchBefore}
 
 -- ---- chosen systems without hydrogen: the records are the same
 
-module _ (ch : List ℕ) (k : ℕ) (without : Without ch k) where
-  code-same : (r : ℕ) → codeBefore ch k r ≡ codeAt ch k r
+module _ (systems : List ℕ) (count : ℕ) (without : Without systems count) where
+  code-same : (r : ℕ) → codeBefore systems count r ≡ codeAt systems count r
   unfolding codeBefore codeAt
-  code-same r = go (ltb r (3 * k)) refl
+  code-same r = go (ltb r (3 * count)) refl
     where
-      go : (b : Bool) → ltb r (3 * k) ≡ b → codeBefore ch k r ≡ codeAt ch k r
+      go : (b : Bool) → ltb r (3 * count) ≡ b → codeBefore systems count r ≡ codeAt systems count r
       go true e =
-          let l = ltb-true r (3 * k) e in
-          rw e (ap splitCode (component-kept ch k without (r / 3) (r % 3) (omega arith) (omega arith)))
+          let l = ltb-true r (3 * count) e in
+          rw e (ap splitCode (component-kept systems count without (r / 3) (r % 3) (omega arith) (omega arith)))
       go false e = rw e
 
-  codes-same : codesBefore ch k ≡ codesOf ch k
+  codes-same : codesBefore systems count ≡ codesOf systems count
   unfolding codesBefore codesOf
-  codes-same = table-same (codeBefore ch k) (codeAt ch k) RECORDS 0 (λ r l. code-same r)
+  codes-same = table-same (codeBefore systems count) (codeAt systems count) RECORDS 0 (λ r l. code-same r)
 
-  fits-same : (count : ℕ) (systems codes : List ℕ)
-      → fitsBefore ch k count systems codes ≡ fitsOf ch k count systems codes
+  fits-same : (records : ℕ) (named codes : List ℕ)
+      → fitsBefore systems count records named codes ≡ fitsOf systems count records named codes
   unfolding fitsBefore fitsOf matchesBefore matchesAt
-  fits-same count systems codes =
-      ap (_&&_ (eqb count (3 * k)))
-      (all-same (matchesBefore ch k systems codes) (matchesAt ch k systems codes) count
-      (λ r l. ap (λ (c : ℕ). (eqb (getD systems r 0) (systemAt ch k r) && eqb (getD codes r 0) c))
+  fits-same records named codes =
+      ap (_&&_ (eqb records (3 * count)))
+      (all-same (matchesBefore systems count named codes) (matchesAt systems count named codes) records
+      (λ r l. ap (λ (c : ℕ). (eqb (getD named r 0) (systemAt systems count r) && eqb (getD codes r 0) c))
       (code-same r)))
 
 -- ---- so are the answers, where the mixture has no hydrogen
 
-module _ (ch : List ℕ) (k : ℕ) (without : Without ch k) (mix′ mix : List ℕ) (no : NoHydrogen mix′ mix)
+module _ (systems : List ℕ) (count : ℕ) (without : Without systems count) (mix′ mix : List ℕ) (no : NoHydrogen mix′ mix)
     (n1 : ℕ) where
-  split-same : (p : Split) → splitWith ch k mix′ n1 p ≡ splitBy ch k mix n1 p
+  split-same : (p : Split) → splitWith systems count mix′ n1 p ≡ splitBy systems count mix n1 p
   unfolding splitWith splitBy
   split-same p =
       ap₂ (λ (b : Bool) (x : Answer). cond b x (Refused 7 0))
-      (fits-same ch k without (p .count) (p .systems) (p .codes))
-      (proposed-kept ch k without mix′ mix no (p .amounts) LIMIT n1)
+      (fits-same systems count without (p .count) (p .systems) (p .codes))
+      (proposed-kept systems count without mix′ mix no (p .amounts) LIMIT n1)
 
-  found-same : (x y : Found) → KeptSearch ch k x y → foundOutcomeWith ch k n1 x ≡ foundOutcome ch k n1 y
+  found-same : (x y : Found) → KeptSearch systems count x y
+      → foundOutcomeWith systems count n1 x ≡ foundOutcome systems count n1 y
   unfolding foundOutcomeWith foundOutcome
-  found-same x y same = ap (foundWith ch k n1 (x .cells)) (same .search) ∙ go (y .search)
+  found-same x y same = ap (foundWith systems count n1 (x .cells)) (same .search) ∙ go (y .search)
     where
-      records : recordsBefore ch k (x .cells) ≡ recordsOf ch k (y .cells)
+      records : recordsBefore systems count (x .cells) ≡ recordsOf systems count (y .cells)
       records =
           ap₂ (λ (codes amounts : List ℕ).
-          record { count = 3 * k; systems = systemsOf ch k; codes = codes; amounts = amounts })
-          (codes-same ch k without) (same .amounts)
+          record { count = 3 * count; systems = systemsOf systems count; codes = codes; amounts = amounts })
+          (codes-same systems count without) (same .amounts)
 
-      go : (z : Search) → foundWith ch k n1 (x .cells) z ≡ foundBy ch k n1 (y .cells) z
+      go : (z : Search) → foundWith systems count n1 (x .cells) z ≡ foundBy systems count n1 (y .cells) z
       go (Balanced s r) = ap₂ (λ w p. outcome (Rated w s r) p) (same .rating n1) records
       go Unbalanced = refl
       go Unfit = refl
 
 -- ---- an analysis without hydrogen
 
-getD-end : (xs : List ℕ) (c : ℕ) → getD (xs ++ (0 ∷ [])) c 0 ≡ getD xs c 0
-getD-end [] zero = refl
-getD-end [] (suc c) = refl
-getD-end (x ∷ xs) zero = refl
-getD-end (x ∷ xs) (suc c) = getD-end xs c
+module _ (analysis : List ℕ) (none : getD analysis hydrogenCode 0 ≡ 0) where
+  no : NoHydrogen (simplifiedBefore analysis) (mixOf analysis)
+  no = record { same = λ c l. sym (mixture-same analysis none c); none = no-hydrogen analysis none }
 
-module _ (a : List ℕ) (none : getD a hydrogenCode 0 ≡ 0) where
-  -- has the same amounts of each component
-  pub amount-same : (c : ℕ) → getD (mixOf a) c 0 ≡ getD (simplifiedBefore a) c 0
-  amount-same c = ap (λ (l : List ℕ). getD l c 0) (simplified-kept a none) ∙ getD-end (simplifiedBefore a) c
-
-  no : NoHydrogen (simplifiedBefore a) (mixOf a)
-  no = record { same = λ c l. sym (amount-same c); none = no-hydrogen a none }
-
-  -- as many of them present,
-  count-same : presentCount (mixOf a) ≡ ones (presentTo HYDROCARBONS (simplifiedBefore a))
+  -- has as many components present,
+  count-same : presentCount (mixOf analysis) ≡ ones (presentTo HYDROCARBONS (simplifiedBefore analysis))
   count-same =
-      ap ones (present-before (mixOf a) (no-hydrogen a none)
-      ∙ present-same (mixOf a) (simplifiedBefore a) amount-same HYDROCARBONS)
+      ap ones (present-before (mixOf analysis) (no-hydrogen analysis none)
+      ∙ present-same (mixOf analysis) (simplifiedBefore analysis) (mixture-same analysis none) HYDROCARBONS)
 
   -- the same refusal,
-  pub refusal-kept : ratingRefusal a ≡ refusalBefore a
+  pub refusal-kept : ratingRefusal analysis ≡ refusalBefore analysis
   unfolding ratingRefusal
-  refusal-kept = rw (without-kept a none, mixture-number (mixOf a), count-same)
+  refusal-kept = rw (without-kept analysis none, mixture-number (mixOf analysis), count-same)
 
   -- and the same choice
-  pub choice-kept : choiceOf (mixOf a) ≡ choiceBefore (simplifiedBefore a)
+  pub choice-kept : choiceOf (mixOf analysis) ≡ choiceBefore (simplifiedBefore analysis)
   choice-kept =
       ap choiceFrom
-      (choose-before (mixOf a) (no-hydrogen a none) ∙ before-same (mixOf a) (simplifiedBefore a) amount-same)
+      (choose-before (mixOf analysis) (no-hydrogen analysis none)
+      ∙ before-same (mixOf analysis) (simplifiedBefore analysis) (mixture-same analysis none))
 
   -- none of whose systems contains hydrogen
-  without : RatedOn a → Without (systemsFor a) (countFor a)
-  without on = record { most = chosen a on .most; known = chosen a on .known; lacks = lacks }
+  without : RatedOn analysis → Without (systemsFor analysis) (countFor analysis)
+  without on = record { most = chosen analysis on .most; known = chosen analysis on .known; lacks = lacks }
     where
       negation : (b : Bool) → true ≡ not b → b ≡ false
       negation false e = refl
       negation true e = e
 
-      lacks : (s : ℕ) → s < countFor a → hasOf (systemOf (systemsFor a) s) BEFORE ≡ false
+      lacks : (s : ℕ) → s < countFor analysis → hasOf (systemOf (systemsFor analysis) s) BEFORE ≡ false
       lacks s h =
-          let system = systemOf (systemsFor a) s in
-          let offered = choosable a on .offered s h in
-          let four = ap (isIn system) (candidates-before (mixOf a) (no-hydrogen a none)) in
+          let system = systemOf (systemsFor analysis) s in
+          let offered = choosable analysis on .offered s h in
+          let four = ap (isIn system) (candidates-before (mixOf analysis) (no-hydrogen analysis none)) in
           negation (hasOf system HYDROGEN)
-          (sym (sym four ∙ offered) ∙ hydrocarbons-are system (chosen a on .known s h))
+          (sym (sym four ∙ offered) ∙ hydrocarbons-are system (chosen analysis on .known s h))
 
   -- so it is answered as it was: to every proposed split,
-  pub split-kept : (p : Split) (code : ℕ) → splitAnswer a p code ≡ splitBefore a p code
+  pub split-kept : (p : Split) (code : ℕ) → splitAnswer analysis p code ≡ splitBefore analysis p code
   unfolding splitAnswer splitBefore
   split-kept p code =
-      go (eqb (ratingRefusal a) 0) refl
+      go (eqb (ratingRefusal analysis) 0) refl
       ∙ (λ j. checkedBy (refusal-kept j) code
-      (splitWith (choice-kept j .systems) (choice-kept j .count) (simplifiedBefore a) (inert-kept a none j) p))
+      (splitWith (choice-kept j .systems) (choice-kept j .count) (simplifiedBefore analysis)
+      (inert-kept analysis none j) p))
     where
-      go : (b : Bool) → eqb (ratingRefusal a) 0 ≡ b
-          → checkedBy (ratingRefusal a) code (splitBy (systemsFor a) (countFor a) (mixOf a) (inertFirst a) p)
-          ≡ checkedBy (ratingRefusal a) code
-          (splitWith (systemsFor a) (countFor a) (simplifiedBefore a) (inertFirst a) p)
+      go : (b : Bool) → eqb (ratingRefusal analysis) 0 ≡ b
+          → let systems = systemsFor analysis in
+          let count = countFor analysis in
+          let checked = checkedBy (ratingRefusal analysis) code in
+          checked (splitBy systems count (mixOf analysis) (inertFirst analysis) p)
+          ≡ checked (splitWith systems count (simplifiedBefore analysis) (inertFirst analysis) p)
       go true e =
-          let on = eqb-true (ratingRefusal a) 0 e in
-          ap (checkedBy (ratingRefusal a) code)
-          (sym (split-same (systemsFor a) (countFor a) (without on) (simplifiedBefore a) (mixOf a) no (inertFirst a) p))
+          let on = eqb-true (ratingRefusal analysis) 0 e in
+          ap (checkedBy (ratingRefusal analysis) code)
+          (sym (split-same (systemsFor analysis) (countFor analysis) (without on) (simplifiedBefore analysis)
+          (mixOf analysis) no (inertFirst analysis) p))
       go false e = rw e
 
   -- and by the search with every allowance
-  pub search-kept-all : (allowance code : ℕ) → searchOutcome a allowance code ≡ searchBefore a allowance code
+  pub search-kept-all : (allowance code : ℕ)
+      → searchOutcome analysis allowance code ≡ searchBefore analysis allowance code
   unfolding searchOutcome searchBefore
   search-kept-all allowance code =
-      go (eqb (ratingRefusal a) 0) refl
-      ∙ (λ j. searchOutcomeWith (refusal-kept j) (choice-kept j) (simplifiedBefore a)
-      (inert-kept a none j) allowance code)
+      go (eqb (ratingRefusal analysis) 0) refl
+      ∙ (λ j. searchOutcomeWith (refusal-kept j) (choice-kept j) (simplifiedBefore analysis)
+      (inert-kept analysis none j) allowance code)
     where
-      go : (b : Bool) → eqb (ratingRefusal a) 0 ≡ b
-          → searchOutcomeBy (ratingRefusal a) (choiceOf (mixOf a)) a allowance code
-          ≡ searchOutcomeWith (ratingRefusal a) (choiceOf (mixOf a)) (simplifiedBefore a)
-          (inertFirst a) allowance code
+      go : (b : Bool) → eqb (ratingRefusal analysis) 0 ≡ b
+          → searchOutcomeBy (ratingRefusal analysis) (choiceOf (mixOf analysis)) analysis allowance code
+          ≡ searchOutcomeWith (ratingRefusal analysis) (choiceOf (mixOf analysis)) (simplifiedBefore analysis)
+          (inertFirst analysis) allowance code
       go true e =
-          let on = eqb-true (ratingRefusal a) 0 e in
-          ap (λ (x : Outcome). cond (eqb (ratingRefusal a) 0) x
-          (outcome (Refused (ratingRefusal a) (cond (eqb (ratingRefusal a) 5) code 0)) noSplit))
-          (sym (found-same (systemsFor a) (countFor a) (without on) (simplifiedBefore a) (mixOf a) no (inertFirst a) _ _
-          (search-kept (systemsFor a) (countFor a) (without on) (simplifiedBefore a) (mixOf a) no LIMIT FIRST_LEVEL
-          (min allowance ROUNDS))))
+          let on = eqb-true (ratingRefusal analysis) 0 e in
+          ap (λ (x : Outcome). cond (eqb (ratingRefusal analysis) 0) x
+          (outcome (Refused (ratingRefusal analysis) (carried (ratingRefusal analysis) code 0)) noSplit))
+          (sym (found-same (systemsFor analysis) (countFor analysis) (without on) (simplifiedBefore analysis)
+          (mixOf analysis) no (inertFirst analysis) _ _
+          (search-kept (systemsFor analysis) (countFor analysis) (without on) (simplifiedBefore analysis)
+          (mixOf analysis) no LIMIT FIRST_LEVEL (min allowance ROUNDS))))
       go false e = rw e
 
 -- ---- a sheet

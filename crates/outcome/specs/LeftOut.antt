@@ -12,8 +12,7 @@ use Rattle.formula.specs.WorkingRule.{sumAbs}
 use Rattle.formula.specs.Coefficients.{placeIn, keepsRule, isSystem}
 use Rattle.systems.specs.Systems.{HYDROGEN, candidates}
 use Rattle.systems.specs.Choice.{inMask, presentOf, presentCount, fold, isChosen, listOf, chosenOf, candidatesFor}
-use Rattle.systems.specs.Choice.{candidatesOf}
-use Rattle.systems.specs.Choice.{chooseOf}
+use Rattle.systems.specs.Choice.{candidatesOf, chooseOf}
 use Rattle.outcome.specs.Rate.{FEWEST, mixtureRefusal}
 
 -- every candidate is a system of Table A.2 that keeps the rule

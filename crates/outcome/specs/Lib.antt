@@ -4,4 +4,5 @@ pub mod Misfit
 pub mod SplitCodes
 pub mod RatedOn
 pub mod LeftOut
+pub mod NoThirteen
 pub mod Laws

@@ -1,5 +1,6 @@
--- A proposed split is refused 7 exactly when its records are not those expected: three for each chosen system, of the
--- systems and components in their order (document 01, "What is turned away", 7; document 02, Five). Assumes nothing.
+-- A split of any chosen systems, once 5, 6, 16 and 13 have let the analysis pass, is refused 7 exactly when its records
+-- are not those expected: three for each system, of the systems and components in their order (document 01, "What is
+-- turned away", 7; document 02, Five). Of an analysis: `demand/specs/Demand.misfit-exactly-when`. Assumes nothing.
 use mathlib.Core.Path.{_≡_, refl, ap}
 use mathlib.Core.Bool.{Bool, true, false}
 use mathlib.Core.Logic.{_↔_}

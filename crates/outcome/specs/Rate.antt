@@ -107,9 +107,6 @@ searchedBy choice analysis allowance =
     searchOf (choice .systems) (choice .count) LIMIT FIRST_LEVEL (min allowance ROUNDS)
     (startOf (mixOf analysis) (choice .systems) (choice .count))
 
-abbrev pub searched : List ℕ → ℕ → Found
-searched analysis allowance = searchedBy (choiceOf (mixOf analysis)) analysis allowance
-
 -- of an analysis that is refused with a number (0: rated on) and has some choice of systems
 abbrev pub searchOutcomeBy : ℕ → Choice → List ℕ → ℕ → ℕ → Outcome
 searchOutcomeBy number choice analysis allowance code =

@@ -1,4 +1,5 @@
--- The records of a split of the chosen systems (document 01, "The split and the rating"). Assumes nothing.
+-- The records of a split of the chosen systems (document 01, "The split and the rating"; document 02, Seven: hydrogen's
+-- code and the room for 21 records). Assumes nothing.
 use Prim.Native.Nat.{ℕ, _*_, _/_, _%_}
 use mathlib.Core.List.{List, [], _∷_}
 use mathlib.Core.Bool.{Bool, cond, _&&_}
@@ -13,11 +14,11 @@ abbrev pub MOST_SYSTEMS : ℕ
 MOST_SYSTEMS = RECORDS / 3
 
 -- the code of a component in a split: methane, ethane, propane, butanes, hydrogen
-abbrev pub codes : List ℕ
-codes = 1 ∷ 2 ∷ 3 ∷ 14 ∷ 15 ∷ []
+abbrev pub splitCodes : List ℕ
+splitCodes = 1 ∷ 2 ∷ 3 ∷ 14 ∷ 15 ∷ []
 
 unfoldable pub splitCode : ℕ → ℕ
-splitCode c = getD codes c 0
+splitCode c = getD splitCodes c 0
 
 -- the system and the code of record r, of which there are three a system; 0 beyond the last
 unfoldable pub systemAt : List ℕ → ℕ → ℕ → ℕ
@@ -49,6 +50,5 @@ recordsOf systems count cells =
       count = 3 * count;
       systems = systemsOf systems count;
       codes = codesOf systems count;
-      amounts = amountsOf
-          systems count cells;
+      amounts = amountsOf systems count cells;
     }

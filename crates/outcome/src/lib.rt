@@ -1,6 +1,5 @@
 // What an analysis or a sheet is answered with. The definitions of the answers and the theorems about them are in
-// specs/; the code, which is proved equal to them, is in crates `split_records`
-// and `rating`.
+// specs/; the code, which is proved equal to them, is in crates `split_records` and `rating`.
 use sheet::Split;
 use split::Answer;
 

@@ -1,5 +1,5 @@
--- What the public calls meet: the check's answer, the values of an analysis in range, what the search found. Assumes
--- nothing.
+-- What the public calls meet: the check's answer, the values of an analysis in range, a proposed split's records and
+-- the answer to its cells, what the search found. Assumes nothing.
 use mathlib.Core.Path.{_≡_, refl, sym, ap, ap₂, _∙_, subst}
 use mathlib.Core.Bool.{Bool, true, false, not, cond, _&&_}
 use mathlib.Core.List.{List}
@@ -15,7 +15,7 @@ use mir.Val.{toZ, ofZ}
 use lib.ListN.{length, replicate}
 use borrow.Author.Tests.{eq-eqb, le-leb, not-true, not-false}
 use Rattle.integer.specs.Laws.Ring.{mag-le}
-use Rattle.refusal.specs.Register.{TOO_FEW}
+use Rattle.refusal.specs.Register.{TOO_FEW, carried}
 use Rattle.analysis.specs.Register.{CODES}
 use Rattle.analysis.specs.CheckedCases as check
 use Rattle.analysis.specs.Laws.Ranges.{checked-number}
@@ -50,7 +50,7 @@ use Rattle.split.specs.declared.Proposed.the-variants.{Answered, Unfit}
 use Rattle.split.specs.declared.Found.{Found}
 use Rattle.outcome.specs.Records.{MOST_SYSTEMS, fitsOf, recordsOf}
 use Rattle.outcome.specs.Rate.{ROUNDS, FEWEST, mixOf, systemsFor, countFor, ratingRefusal, splitBy, splitAnswer}
-use Rattle.outcome.specs.Rate.{outcome, foundBy, foundOutcome, searched, searchOutcome}
+use Rattle.outcome.specs.Rate.{outcome, foundBy, foundOutcome, searchOutcome}
 use Rattle.split.specs.Laws.Sums.{fit-few}
 use Rattle.split.specs.Laws.Fits.{balance-fit}
 use Rattle.split.specs.Laws.Size.{rating-small}
@@ -58,7 +58,7 @@ use Rattle.rating.specs.Inner.Given.{FoundFit}
 use Rattle.outcome.specs.RatedOn.{InRange, RatedOn}
 use Rattle.outcome.specs.Laws.RatedOn.{range-first, enough-on, too-few, on-or-few}
 use Rattle.outcome.specs.Laws.Ready.{chosen, room, million, inert-million, shared, input}
-use Rattle.outcome.specs.Laws.Ends.{never-unfit, split-in-range, search-in-range, not-five}
+use Rattle.outcome.specs.Laws.Ends.{searched, never-unfit, split-in-range, search-in-range, not-five}
 use Rattle.outcome.specs.declared.Outcome.{Outcome}
 use Rattle.integer.specs.Laws.Bits.{read-back}
 
@@ -72,7 +72,7 @@ isIn (checked.Refused number code) = false
 pub record TurnedAway (a : List ℕ) (number code : ℕ) : Type 0 where
   pub some : eqb (ratingRefusal a) 0 ≡ false
   pub same : Refused number code ≡ Refused (ratingRefusal a)
-      (cond (eqb (ratingRefusal a) 5) (faultOf (Refused number code)) 0)
+      (carried (ratingRefusal a) (faultOf (Refused number code)) 0)
   pub fault : number ≡ 5 → AtFault a (faultOf (Refused number code))
 
 module _ (a : List ℕ) (x : Checked) (h : Checking a x) where
@@ -82,12 +82,12 @@ module _ (a : List ℕ) (x : Checked) (h : Checking a x) where
   pub turned-away : (number code : ℕ) → x ≡ checked.Refused number code → TurnedAway a number code
   turned-away number code e = go (eqb (analysisRefusal a) 0) refl (h .answer)
     where
-      carried : check.faultOf x ≡ code
-      carried = ap check.faultOf e
+      code-is : check.faultOf x ≡ code
+      code-is = ap check.faultOf e
 
       by : (f : Bool) → eqb (analysisRefusal a) 5 ≡ f → number ≡ analysisRefusal a → code ≡ cond f (check.faultOf x) 0
           → Refused number code ≡ Refused (analysisRefusal a)
-          (cond (eqb (analysisRefusal a) 5) (faultOf (Refused number code)) 0)
+          (carried (analysisRefusal a) (faultOf (Refused number code)) 0)
       by true q n c =
           let five : eqb number 5 ≡ true = ap (λ (k : ℕ). eqb k 5) n ∙ q in
           ap (λ (k : ℕ). Refused k code) n ∙ rw (q, five)
@@ -95,18 +95,18 @@ module _ (a : List ℕ) (x : Checked) (h : Checking a x) where
 
       go : (b : Bool) → eqb (analysisRefusal a) 0 ≡ b
           → x ≡ cond b checked.InRange (checked.Refused (analysisRefusal a)
-          (cond (eqb (analysisRefusal a) 5) (check.faultOf x) 0)) → TurnedAway a number code
+          (carried (analysisRefusal a) (check.faultOf x) 0)) → TurnedAway a number code
       go true q r = absurd (differ (isIn x) (ap isIn r) (ap isIn e))
       go false q r =
           let same : checked.Refused number code ≡ checked.Refused (analysisRefusal a)
-          (cond (eqb (analysisRefusal a) 5) (check.faultOf x) 0) = sym e ∙ r in
+          (carried (analysisRefusal a) (check.faultOf x) 0) = sym e ∙ r in
           let n : number ≡ analysisRefusal a = cc in
-          let c : code ≡ cond (eqb (analysisRefusal a) 5) (check.faultOf x) 0 = cc in
+          let c : code ≡ carried (analysisRefusal a) (check.faultOf x) 0 = cc in
           let f = range-first a q in
           record {
             some = rw f q;
             same = rw f (by (eqb (analysisRefusal a) 5) refl n c);
-            fault = λ z. rw (eq-eqb number 5 z) (subst (AtFault a) carried (h .code (ap check.numberOf e ∙ z)));
+            fault = λ z. rw (eq-eqb number 5 z) (subst (AtFault a) code-is (h .code (ap check.numberOf e ∙ z)));
           }
 
 -- so is one with fewer than two components present
@@ -121,7 +121,7 @@ unfolding splitAnswer
 split-away a p number code t =
     t .same
     ∙ sym (ap (λ (b : Bool). cond b (splitBy (systemsFor a) (countFor a) (mixOf a) (inertFirst a) p)
-    (Refused (ratingRefusal a) (cond (eqb (ratingRefusal a) 5) (faultOf (Refused number code)) 0))) (t .some))
+    (Refused (ratingRefusal a) (carried (ratingRefusal a) (faultOf (Refused number code)) 0))) (t .some))
 
 pub search-away : (a : List ℕ) (allowance number code : ℕ) → TurnedAway a number code
     → outcome (Refused number code) noSplit ≡ searchOutcome a allowance (faultOf (Refused number code))
@@ -129,7 +129,7 @@ unfolding searchOutcome
 search-away a allowance number code t =
     ap (λ (x : Answer). outcome x noSplit) (t .same)
     ∙ sym (ap (λ (b : Bool). cond b (foundOutcome (systemsFor a) (countFor a) (inertFirst a) (searched a allowance))
-    (outcome (Refused (ratingRefusal a) (cond (eqb (ratingRefusal a) 5) (faultOf (Refused number code)) 0)) noSplit))
+    (outcome (Refused (ratingRefusal a) (carried (ratingRefusal a) (faultOf (Refused number code)) 0)) noSplit))
     (t .some))
 
 -- ---- an analysis in range

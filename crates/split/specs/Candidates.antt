@@ -3,9 +3,9 @@ use mathlib.Core.Path.{_≡_, refl}
 use mathlib.Core.Bool.{true}
 use Rattle.refusal.specs.Keys.{allIn, isIn}
 use Rattle.formula.specs.WorkingRule.{sumAbs}
-use Rattle.formula.specs.Coefficients.{placeIn, keepsRule, isSystem, kept, systems}
+use Rattle.formula.specs.Coefficients.{placeIn, keepsRule, isSystem, systemsIn, allSystems}
 use Rattle.systems.specs.Systems.{candidates}
 
-pub candidates-among : allIn candidates systems ≡ true
-unfolding kept isSystem keepsRule sumAbs placeIn isIn
+pub candidates-among : allIn candidates allSystems ≡ true
+unfolding systemsIn isSystem keepsRule sumAbs placeIn isIn
 candidates-among = refl

@@ -4,7 +4,7 @@ use Prim.Native.Nat.{ℕ, _+_, _≤_}
 use native.Mathlib.Omega.{arith}
 use lib.IntN.{ℤ, natAbs}
 use Rattle.formula.specs.Laws.Size.{horner-le, step-le}
-use Rattle.formula.specs.WorkingRule.{stepZ, horner, coefs, sumAbs, worked, coefficientRows, LARGEST}
+use Rattle.formula.specs.WorkingRule.{COEFFICIENTS, stepZ, horner, coefs, sumAbs, worked, coefficientRows, LARGEST}
 
 -- four steps: the rows 4 to 7, combined already, and the rows 3 to 0
 abbrev pub stepsOf : ℕ → ℕ → ℤ → ℤ → ℤ → ℤ → ℤ → ℤ
@@ -31,8 +31,8 @@ room-moved e f h = omega (arith, ap natAbs e, ap natAbs f)
 
 -- ---- the rows of a list of coefficients
 
-sums : (a : ℕ → ℤ) → sumAbs (coefs a 16 4) + sumAbs (coefs a 14 2) + sumAbs (coefs a 11 3) + sumAbs
-    (coefs a 7 4) + sumAbs (coefs a 0 7) ≤ sumAbs (coefs a 0 20)
+sums : (a : ℕ → ℤ) → sumAbs (coefs a 16 4) + sumAbs (coefs a 14 2) + sumAbs (coefs a 11 3) + sumAbs (coefs a 7 4)
+    + sumAbs (coefs a 0 7) ≤ sumAbs (coefs a 0 COEFFICIENTS)
 unfolding coefs sumAbs
 sums a = omega arith
 
@@ -53,7 +53,7 @@ module _ (a : ℕ → ℤ) (n1 n2 d e : ℕ) {h r3 r2 r1 r0 : ℤ} (h-is : h ≡
     (r3-is : r3 ≡ horner n2 e (coefs a 14 2)) (r2-is : r2 ≡ horner n2 e (coefs a 11 3))
     (r1-is : r1 ≡ horner n2 e (coefs a 7 4)) (r0-is : r0 ≡ horner n2 e (coefs a 0 7)) where
   -- the rule of the coefficients leaves the rows room together
-  pub rows-room : n1 ≤ d → n2 ≤ e → sumAbs (coefs a 0 20) ≤ LARGEST
+  pub rows-room : n1 ≤ d → n2 ≤ e → sumAbs (coefs a 0 COEFFICIENTS) ≤ LARGEST
       → natAbs h + natAbs r3 + natAbs r2 + natAbs r1 + natAbs r0 ≤ LARGEST
   rows-room n1≤d n2≤e small =
       rw (h-is, r3-is, r2-is, r1-is, r0-is)

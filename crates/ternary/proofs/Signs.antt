@@ -6,7 +6,7 @@ use Prim.Native.Nat.{ℕ, zero, suc, _+_, _*_, _/_, _^_, _≤_, _<_, zero-le}
 use native.Mathlib.Nat as N
 use native.Mathlib.Omega.{arith}
 use lib.Dec.{T, lit<, ltb→lt}
-use lib.IntN.{ℤ, pos, negsuc, negℤ, natAbs, _+ℤ_, _-ℤ_, _*ℤ_, zero-*ℤ, +ℤ-idl, +ℤ-comm}
+use lib.IntN.{ℤ, pos, negsuc, negℤ, natAbs, _+ℤ_, _-ℤ_, zero-*ℤ, +ℤ-idl, +ℤ-comm}
 use lib.Signed.{quotZ, ltZ, nonNeg, mag}
 use mir.Syntax.{w64}
 use mir.Val.{Fits, SFits, toZ, ofZ}

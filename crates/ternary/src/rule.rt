@@ -1,16 +1,17 @@
-// The working rule over a lent table of twenty coefficients: each row in n2, then the rows in n1.
+// The working rule over a lent table of coefficients: each row in n2, then the rows in n1.
 ghost use mathlib.Core.Path.{_≡_};
 ghost use Prim.Native.Nat.{_+_, _<_, _≤_};
 ghost use lib.IntN.{natAbs};
 ghost use Rattle.integer.specs.Figures.{MILLION};
 ghost use Rattle.formula.specs.Coefficients.{coeffOf};
-ghost use Rattle.formula.specs.WorkingRule.{stepZ, horner, coefs, worked, coefficientRows, LARGEST};
+ghost use Rattle.formula.specs.WorkingRule.{COEFFICIENTS, stepZ, horner, coefs, worked, coefficientRows, LARGEST};
 ghost use Rattle.ternary.specs.Inner.Precomputed.{Digits};
 ghost use Rattle.ternary.specs.Inner.Table.{inTable, Bounded};
 use super::ratio::ONE;
 use super::ratio::Ratio;
 use super::ratio::ratio_of;
 use super::ratio::step;
+use coefficients::COEFFICIENTS;
 use coefficients::of_system;
 
 // The number of a system at the amounts n1, n2 and others, of sum d. The inverse of d is its one division.
@@ -27,7 +28,7 @@ pub(crate) fn number(system: u32, n1: u32, n2: u32, d: u64) -> i64
 
 // The rows in w, combined in v. Rows 4 to 7 have one coefficient each. They are calls with fixed places and lengths,
 // not a loop, so that the compiler unrolls them.
-fn rows(t: &[i64; 20], v: Ratio, w: Ratio) -> i64
+fn rows(t: &[i64; COEFFICIENTS], v: Ratio, w: Ratio) -> i64
     requires { ⌜ Bounded (now t) × (v .d ≡ w .d) × Digits v × Digits w ⌝ }
     ensures { λ r. ⌜ r ≡ worked (v .n) (w .n) (v .d) (coefficientRows (inTable (now (t .entry)))) ⌝ }
 {
@@ -40,8 +41,8 @@ fn rows(t: &[i64; 20], v: Ratio, w: Ratio) -> i64
 }
 
 // `count` coefficients from place `at` on, in w, from the last down.
-fn row(t: &[i64; 20], at: usize, count: usize, w: Ratio) -> i64
-    requires { ⌜ Bounded (now t) × (at + count ≤ 20) × Digits w ⌝ }
+fn row(t: &[i64; COEFFICIENTS], at: usize, count: usize, w: Ratio) -> i64
+    requires { ⌜ Bounded (now t) × (at + count ≤ COEFFICIENTS) × Digits w ⌝ }
     ensures { λ r. ⌜ r ≡ horner (w .n) (w .d) (coefs (inTable (now (t .entry))) at count) ⌝ }
 {
     let mut i = at + count;

@@ -8,6 +8,7 @@ use lib.Dec.{eqb}
 use lib.IntN.{ℤ}
 use lib.ListN.{getD, length}
 use borrow.Author.Tests.{eq-eqb, eqb-true}
+use Rattle.refusal.specs.Register.{carried}
 use Rattle.analysis.specs.Register.{CODES}
 use Rattle.sheet.specs.Split.{noSplit}
 use Rattle.sheet.specs.declared.Split.{Split}
@@ -31,9 +32,10 @@ use Rattle.split.specs.declared.Search.the-variants.{Balanced, Unbalanced, Unfi
 use Rattle.split.specs.declared.Found.{Found}
 use Rattle.outcome.specs.Records.{systemAt, codeAt, systemsOf, codesOf, matchesAt, fitsOf, recordsOf}
 use Rattle.outcome.specs.Rate.{ROUNDS, mixOf, systemsFor, countFor, ratingRefusal, checkedBy, splitBy, splitAnswer}
-use Rattle.outcome.specs.Rate.{outcome, foundBy, foundOutcome, searched, searchOutcome}
+use Rattle.outcome.specs.Rate.{outcome, foundBy, foundOutcome, searchOutcome}
 use Rattle.outcome.specs.RatedOn.{RatedOn}
 use Rattle.outcome.specs.Laws.Ready.{room, shared, input}
+use Rattle.outcome.specs.Laws.Ends.{searched}
 use Rattle.outcome.specs.declared.Outcome.{Outcome}
 
 -- the records expected of the chosen systems fit
@@ -127,7 +129,7 @@ split-rated a p code w s r is =
 
     go : (b f : Bool) → eqb (ratingRefusal a) 0 ≡ b
         → cond b (cond f rated (Refused 7 0))
-        (Refused (ratingRefusal a) (cond (eqb (ratingRefusal a) 5) code 0)) ≡ Rated w s r
+        (Refused (ratingRefusal a) (carried (ratingRefusal a) code 0)) ≡ Rated w s r
         → (RatedOn a) × (rated ≡ Rated w s r)
     go true true e h = (eqb-true (ratingRefusal a) 0 e, h)
     go true false e h = absurd (subst IsRated (sym h) tt)
@@ -156,7 +158,7 @@ search-rated a allowance code w s r is = go (eqb (ratingRefusal a) 0) (searched 
   where
     by : Bool → Search → Outcome
     by b x = cond b (foundBy (systemsFor a) (countFor a) (inertFirst a) (searched a allowance .cells) x)
-        (outcome (Refused (ratingRefusal a) (cond (eqb (ratingRefusal a) 5) code 0)) noSplit)
+        (outcome (Refused (ratingRefusal a) (carried (ratingRefusal a) code 0)) noSplit)
 
     go : (b : Bool) (x : Search) → eqb (ratingRefusal a) 0 ≡ b → searched a allowance .search ≡ x
         → by b x .answer ≡ Rated w s r

@@ -1,4 +1,4 @@
--- How the answers to sheets end, for the third demand. Assumes nothing.
+-- How the answers to sheets end, and which split a rated sheet's rating is of, for the third demand. Assumes nothing.
 use mathlib.Core.Path.{_≡_, refl, sym, ap, _∙_, subst}
 use mathlib.Core.Bool.{Bool, true, false, cond}
 use mathlib.Core.Logic.{_⊎_, inl, inr}
@@ -6,10 +6,11 @@ use mathlib.Core.List.{List}
 use Prim.Native.Nat.{ℕ, zero, suc, _+_, _≤_}
 use native.Mathlib.Omega.{arith}
 use lib.Dec.{eqb, leb}
-use lib.ListN.{getD}
+use lib.IntN.{ℤ}
+use lib.ListN.{getD, length}
 use borrow.Author.Tests.{eqb-false, eq-eqb, ne-eqb}
-use Rattle.refusal.specs.Register.{TOO_FEW}
-use Rattle.analysis.specs.Register.{Status, live, retired, splitsOnly, unknown, statusOf}
+use Rattle.refusal.specs.Register.{TOO_FEW, carried}
+use Rattle.analysis.specs.Register.{CODES, Status, live, retired, splitsOnly, unknown, statusOf}
 use Rattle.analysis.specs.Check.{refusalByTests, analysisRefusal, allInRange, totalFits, totalOf}
 use Rattle.sheet.specs.Components as components
 use Rattle.sheet.specs.Components.{codeRefusal, codesReading, zeroListed}
@@ -25,12 +26,14 @@ use Rattle.sheet.specs.declared.Reading.the-variants as reading
 use Rattle.sheet.specs.declared.Sheet.{Sheet}
 use Rattle.split.specs.AnswerCases.{IsRated}
 use Rattle.split.specs.declared.Answer.{Answer}
-use Rattle.split.specs.declared.Answer.the-variants.{Refused}
+use Rattle.split.specs.declared.Answer.the-variants.{Rated, Refused}
 use Rattle.outcome.specs.Rate.{ROUNDS, ratingRefusal, splitAnswer, searchOutcome, outcome, sheetOutcomeBy, sheetOutcome}
 use Rattle.outcome.specs.RatedOn.{InRange, RatedOn}
 use Rattle.outcome.specs.Laws.Ends.{RatedOr, RatedOrFew, search-ends, search-few, split-few, search-in-range}
-use Rattle.outcome.specs.Laws.Ends.{split-in-range, read-passed}
+use Rattle.outcome.specs.Laws.Ends.{split-in-range, read-passed, read-long}
 use Rattle.outcome.specs.declared.Outcome.{Outcome}
+use Rattle.demand.specs.RatedSheets.{analysisIn, splitRated}
+use Rattle.demand.specs.Laws.Answers.{rated-zero, found-back}
 
 -- ---- reading: 1 to 6
 
@@ -87,7 +90,7 @@ by-number : (number code : ℕ) → number ≤ 6 → Numbered 1 6 (byAmounts num
 by-number number code h = go (eqb number 0) refl
   where
     go : (t : Bool) → eqb number 0 ≡ t
-        → Numbered 1 6 (cond t reading.Read (reading.Refused number 0 (cond (eqb number 5) code 0)))
+        → Numbered 1 6 (cond t reading.Read (reading.Refused number 0 (carried number code 0)))
     go true e = tt
     go false e = (omega (arith, eqb-false number 0 e), h)
 
@@ -181,3 +184,28 @@ sheet-ends s code = go (readOf s code .answer) refl (read-number s code)
         → RatedOr 1 11 (sheetOutcomeBy x a p code .answer) ⊎ (sheetOutcomeBy x a p code .answer ≡ Refused TOO_FEW 0)
     go reading.Read e n = by-split (read-passed s code e) (eqb (p .count) 0)
     go (reading.Refused number place code′) e n = inl (inr (n .0, omega (arith, n .1)))
+
+-- a rated sheet's rating is that of a split of its analysis: the one it has, or the one that the search found
+pub sheet-split : (s : List ℕ) (code : ℕ) (w : ℤ) (d r : ℕ) → sheetOutcome s code .answer ≡ Rated w d r
+    → (length (analysisIn s code) ≡ CODES) × (splitAnswer (analysisIn s code) (splitRated s code) code ≡ Rated w d 0)
+unfolding sheetOutcome
+sheet-split s code w d r is = go (readOf s code .answer) refl is
+  where
+    a : List ℕ
+    a = readOf s code .analysis .amounts
+
+    p : Split
+    p = readOf s code .split
+
+    by : (length a ≡ CODES) → (t : Bool)
+        → cond t (searchOutcome a ROUNDS code) (outcome (splitAnswer a p code) noSplit) .answer ≡ Rated w d r
+        → splitAnswer a (cond t (cond t (searchOutcome a ROUNDS code) (outcome (splitAnswer a p code) noSplit) .split)
+        p) code ≡ Rated w d 0
+    by long true e = found-back a long ROUNDS code code w d r e
+    by long false e = rated-zero a p code w d r e
+
+    go : (x : Reading) → readOf s code .answer ≡ x → sheetOutcomeBy x a p code .answer ≡ Rated w d r
+        → (length a ≡ CODES)
+        × (splitAnswer a (cond (eqb (p .count) 0) (sheetOutcomeBy x a p code .split) p) code ≡ Rated w d 0)
+    go reading.Read e h = (read-long s code e, by (read-long s code e) (eqb (p .count) 0) h)
+    go (reading.Refused number place code′) e h = absurd (subst IsRated (sym h) tt)

@@ -1,5 +1,4 @@
--- The rule of the table carried to every system and to each of its coefficients; so no partial number is larger.
--- Assumes nothing.
+-- The rule of the table carried to every system; so no partial number is larger. Assumes nothing.
 use mathlib.Core.Path.{_≡_, refl, subst⁻¹}
 use mathlib.Core.Bool.{Bool, true, false, cond}
 use mathlib.Core.List.{List, [], _∷_}
@@ -12,7 +11,7 @@ use lib.ListN.{getD, drop, replicate}
 use lib.IntN.{ℤ, pos, natAbs}
 use Rattle.refusal.specs.Keys.{isIn}
 use Rattle.formula.specs.Laws.Size.{innerOf, horner-le, worked-is, inner-le}
-use Rattle.formula.specs.WorkingRule.{coefs, sumAbs, worked, coefficientRows, LARGEST}
+use Rattle.formula.specs.WorkingRule.{COEFFICIENTS, coefs, sumAbs, worked, coefficientRows, LARGEST}
 use Rattle.formula.specs.Coefficients.{tables, printed, placeIn, keepsRule, isSystem, tableOf, coeffOf}
 
 -- ---- coefficients that are taken from a list by their places are no larger together than the list
@@ -38,23 +37,23 @@ listed : (system : ℕ) → isSystem system ≡ true → T (keepsRule (getD tabl
 unfolding isSystem isIn
 listed system h = and-r (isIn system printed) (keepsRule (getD tables (placeIn printed system) [])) (subst⁻¹ T h tt)
 
-none-small : sumAbs (replicate 20 (pos 0)) ≤ LARGEST
+none-small : sumAbs (replicate COEFFICIENTS (pos 0)) ≤ LARGEST
 unfolding sumAbs
 none-small = zero-le
 
-table-small : (system : ℕ) → sumAbs (tableOf system) ≤ LARGEST
+pub table-small : (system : ℕ) → sumAbs (tableOf system) ≤ LARGEST
 unfolding tableOf keepsRule
 table-small system = at (isSystem system) refl
   where
     at : (b : Bool) → isSystem system ≡ b
-        → sumAbs (cond b (getD tables (placeIn printed system) []) (replicate 20 (pos 0))) ≤ LARGEST
+        → sumAbs (cond b (getD tables (placeIn printed system) []) (replicate COEFFICIENTS (pos 0))) ≤ LARGEST
     at true e = leb→le (sumAbs (getD tables (placeIn printed system) [])) LARGEST (listed system e)
     at false e = none-small
 
-pub small : (system : ℕ) → sumAbs (coefs (coeffOf system) 0 20) ≤ LARGEST
-small system = N.le-trans (from-le (tableOf system) 0 20) (table-small system)
+pub small : (system : ℕ) → sumAbs (coefs (coeffOf system) 0 COEFFICIENTS) ≤ LARGEST
+small system = N.le-trans (from-le (tableOf system) 0 COEFFICIENTS) (table-small system)
 
--- ---- each of its coefficients
+-- ---- one of the coefficients
 
 dropped-le : (t : List ℤ) (k : ℕ) → sumAbs (drop k t) ≤ sumAbs t
 unfolding sumAbs
@@ -62,10 +61,10 @@ dropped-le t zero = N.le-refl (sumAbs t)
 dropped-le [] (suc k) = zero-le
 dropped-le (c ∷ t) (suc k) = N.le-trans (dropped-le t k) (N.le-add-left (sumAbs t) (natAbs c))
 
-pub each-small : (system i : ℕ) → natAbs (coeffOf system i) ≤ LARGEST
-each-small system i =
-    N.le-trans (N.le-add-right (natAbs (coeffOf system i)) (sumAbs (drop (suc i) (tableOf system))))
-    (N.le-trans (first-le (tableOf system) i) (N.le-trans (dropped-le (tableOf system) i) (table-small system)))
+pub one-le : (t : List ℤ) (i : ℕ) → natAbs (getD t i (pos 0)) ≤ sumAbs t
+one-le t i =
+    N.le-trans (N.le-add-right (natAbs (taken t i)) (sumAbs (drop (suc i) t)))
+    (N.le-trans (first-le t i) (dropped-le t i))
 
 -- ---- so a number by the working rule is no larger
 

@@ -4,17 +4,14 @@ use mathlib.Core.List.{List, [], _∷_}
 use Prim.Native.Nat.{ℕ, zero, suc, _+_, _≤_, zero-le}
 use native.Mathlib.Nat as N
 use native.Mathlib.Omega.{arith}
-use lib.IntN.{ℤ, pos, negℤ, natAbs, _*ℤ_}
+use lib.IntN.{ℤ, pos, natAbs, _*ℤ_}
 use lib.Signed.{quotZ}
 use lib.ListN.{getD}
 use Rattle.integer.specs.Laws.Ring.{natAbs-+, share-le}
-use Rattle.formula.specs.WorkingRule.{stepZ, horner, coefs, sumAbs, worked, coefficientRows}
+use Rattle.formula.specs.WorkingRule.{COEFFICIENTS, stepZ, horner, coefs, sumAbs, worked}
+use Rattle.formula.specs.WorkingRule.{coefficientRows}
 
--- a step drops its fraction towards zero, above it and below it
-pub step-cut : (stepZ (pos 3) 1 2 (pos 0) ≡ pos 1) × (stepZ (negℤ (pos 3)) 1 2 (pos 0) ≡ negℤ (pos 1))
-step-cut = (refl, refl)
-
--- so it is no larger than what it was made from
+-- a step is no larger than what it was made from
 pub step-le : (w : ℤ) {n d : ℕ} (c : ℤ) → n ≤ d → natAbs (stepZ w n d c) ≤ natAbs w + natAbs c
 step-le w {n} {d} c h = omega (arith, natAbs-+ (quotZ (w *ℤ pos n) (pos d)) c, share-le w h)
 
@@ -57,7 +54,7 @@ pub worked-is : (a : ℕ → ℤ) (n1 n2 d : ℕ)
 unfolding worked coefficientRows innerOf coefs horner
 worked-is a n1 n2 d = refl
 
-pub inner-le : (a : ℕ → ℤ) (n d : ℕ) → n ≤ d → sumAbs (coefs (innerOf a n d) 0 8) ≤ sumAbs (coefs a 0 20)
+pub inner-le : (a : ℕ → ℤ) (n d : ℕ) → n ≤ d → sumAbs (coefs (innerOf a n d) 0 8) ≤ sumAbs (coefs a 0 COEFFICIENTS)
 unfolding innerOf coefs sumAbs
 inner-le a n d h =
     omega (

@@ -8,6 +8,7 @@ use lib.Dec.{eqb}
 use lib.ListN.{getD, length, set, length-set}
 use lib.Seq.{getD-set-same, getD-set-other}
 use borrow.Author.Tests.{eqb-true, eqb-false, eq-eqb, ne-eqb}
+use Rattle.systems.specs.Systems.{COMPONENTS}
 use Rattle.split.specs.Fold.{table}
 use Rattle.split.specs.Split.{heldOf, recordedIn}
 use Rattle.systems.specs.Choice.{SYSTEMS}
@@ -15,7 +16,7 @@ use Rattle.split.specs.Start.{shareOf, sharersOf, startAmount}
 use Rattle.split.specs.Move.{componentOf, giverOf, takerOf, shift}
 use Rattle.split.specs.Laws.Tables.{length-table, getD-table}
 use Rattle.split.specs.Laws.Moves.{length-shift}
-use Rattle.kept.specs.Widths.{BEFORE, BLEND, cellCount, moveCount, cellIn, cellsIn, startIn, movedIn}
+use Rattle.kept.specs.Widths.{BEFORE, cellCount, moveCount, cellIn, cellsIn, startIn, movedIn}
 use Rattle.kept.specs.Laws.Alike.{Alike}
 
 -- ---- cells by a rule of row and component
@@ -28,32 +29,32 @@ before-cell f s c h l =
     getD-table (λ i. f (i / BEFORE) (i % BEFORE)) (cellCount BEFORE) 0 (s * BEFORE + c) (omega arith)
     ∙ ap₂ f row column
 
-pub blend-cell : (f : ℕ → ℕ → ℕ) (s c : ℕ) → s < SYSTEMS → c < BLEND
-    → cellIn BLEND (table (λ i. f (i / BLEND) (i % BLEND)) (cellCount BLEND) 0) s c ≡ f s c
+pub blend-cell : (f : ℕ → ℕ → ℕ) (s c : ℕ) → s < SYSTEMS → c < COMPONENTS
+    → cellIn COMPONENTS (table (λ i. f (i / COMPONENTS) (i % COMPONENTS)) (cellCount COMPONENTS) 0) s c ≡ f s c
 blend-cell f s c h l =
-    let row : (0 + (s * BLEND + c)) / BLEND ≡ s = omega arith in
-    let column : (0 + (s * BLEND + c)) % BLEND ≡ c = omega arith in
-    getD-table (λ i. f (i / BLEND) (i % BLEND)) (cellCount BLEND) 0 (s * BLEND + c) (omega arith)
+    let row : (0 + (s * COMPONENTS + c)) / COMPONENTS ≡ s = omega arith in
+    let column : (0 + (s * COMPONENTS + c)) % COMPONENTS ≡ c = omega arith in
+    getD-table (λ i. f (i / COMPONENTS) (i % COMPONENTS)) (cellCount COMPONENTS) 0 (s * COMPONENTS + c) (omega arith)
     ∙ ap₂ f row column
 
 alike-by : (f g : ℕ → ℕ → ℕ) → ((s c : ℕ) → c < BEFORE → f s c ≡ g s c)
     → Alike (table (λ i. f (i / BEFORE) (i % BEFORE)) (cellCount BEFORE) 0)
-    (table (λ i. g (i / BLEND) (i % BLEND)) (cellCount BLEND) 0)
+    (table (λ i. g (i / COMPONENTS) (i % COMPONENTS)) (cellCount COMPONENTS) 0)
 alike-by f g e = record {
   narrow = length-table (λ i. f (i / BEFORE) (i % BEFORE)) (cellCount BEFORE) 0;
-  wide = length-table (λ i. g (i / BLEND) (i % BLEND)) (cellCount BLEND) 0;
+  wide = length-table (λ i. g (i / COMPONENTS) (i % COMPONENTS)) (cellCount COMPONENTS) 0;
   same = λ s c h l. before-cell f s c h l ∙ e s c l ∙ sym (blend-cell g s c h (omega arith));
 }
 
 -- of the same records
-pub records-alike : (ch : List ℕ) (k : ℕ) (xs : List ℕ) → Alike (cellsIn BEFORE ch k xs) (cellsIn BLEND ch k xs)
+pub records-alike : (ch : List ℕ) (k : ℕ) (xs : List ℕ) → Alike (cellsIn BEFORE ch k xs) (cellsIn COMPONENTS ch k xs)
 unfolding cellsIn
 records-alike ch k xs = alike-by (recordedIn ch k xs) (recordedIn ch k xs) (λ s c l. refl)
 
 -- of two mixtures with the same amounts of the components before hydrogen
 pub start-alike : (mix′ mix ch : List ℕ) (k : ℕ)
     → ((c : ℕ) → c < BEFORE → getD mix′ c 0 ≡ getD mix c 0)
-    → Alike (startIn BEFORE mix′ ch k) (startIn BLEND mix ch k)
+    → Alike (startIn BEFORE mix′ ch k) (startIn COMPONENTS mix ch k)
 unfolding startIn startAmount
 start-alike mix′ mix ch k e =
     alike-by (startAmount mix′ ch k) (startAmount mix ch k)
@@ -82,40 +83,41 @@ shift-at a i j d p li lj = go (eqb p j) (eqb p i) refl refl
 
 -- two places are one in narrow rows exactly where they are in wide ones
 place-same : (s c t e : ℕ) → c < BEFORE → e < BEFORE
-    → eqb (s * BEFORE + c) (t * BEFORE + e) ≡ eqb (s * BLEND + c) (t * BLEND + e)
+    → eqb (s * BEFORE + c) (t * BEFORE + e) ≡ eqb (s * COMPONENTS + c) (t * COMPONENTS + e)
 place-same s c t e l m = go (eqb (s * BEFORE + c) (t * BEFORE + e)) refl
   where
-    go : (x : Bool) → eqb (s * BEFORE + c) (t * BEFORE + e) ≡ x → x ≡ eqb (s * BLEND + c) (t * BLEND + e)
+    go : (x : Bool) → eqb (s * BEFORE + c) (t * BEFORE + e) ≡ x → x ≡ eqb (s * COMPONENTS + c) (t * COMPONENTS + e)
     go true q =
         let z : s * BEFORE + c ≡ t * BEFORE + e = eqb-true (s * BEFORE + c) (t * BEFORE + e) q in
-        sym (eq-eqb (s * BLEND + c) (t * BLEND + e) (omega arith))
+        sym (eq-eqb (s * COMPONENTS + c) (t * COMPONENTS + e) (omega arith))
     go false q =
         let z : s * BEFORE + c ≡ t * BEFORE + e → ⊥ = eqb-false (s * BEFORE + c) (t * BEFORE + e) q in
-        sym (ne-eqb (s * BLEND + c) (t * BLEND + e) (λ y. z (omega arith)))
+        sym (ne-eqb (s * COMPONENTS + c) (t * COMPONENTS + e) (λ y. z (omega arith)))
 
 module _ (a b : List ℕ) (f t e d : ℕ) (lf : f < SYSTEMS) (lt : t < SYSTEMS) (le : e < BEFORE)
     (alike : Alike a b) where
   shift-same : (s c : ℕ) → s < SYSTEMS → c < BEFORE
       → cellIn BEFORE (shift a (f * BEFORE + e) (t * BEFORE + e) d) s c
-      ≡ cellIn BLEND (shift b (f * BLEND + e) (t * BLEND + e) d) s c
+      ≡ cellIn COMPONENTS (shift b (f * COMPONENTS + e) (t * COMPONENTS + e) d) s c
   shift-same s c h l =
       shift-at a (f * BEFORE + e) (t * BEFORE + e) d (s * BEFORE + c) (omega (arith, alike .narrow))
       (omega (arith, alike .narrow))
       ∙ rw (place-same s c t e l le, place-same s c f e l le)
       (rw (alike .same s c h l, alike .same f e lf le, alike .same t e lt le)
       (sym
-      (shift-at b (f * BLEND + e) (t * BLEND + e) d (s * BLEND + c) (omega (arith, alike .wide))
+      (shift-at b (f * COMPONENTS + e) (t * COMPONENTS + e) d (s * COMPONENTS + c) (omega (arith, alike .wide))
       (omega (arith, alike .wide)))))
 
-  shift-alike : Alike (shift a (f * BEFORE + e) (t * BEFORE + e) d) (shift b (f * BLEND + e) (t * BLEND + e) d)
+  shift-alike : Alike (shift a (f * BEFORE + e) (t * BEFORE + e) d)
+      (shift b (f * COMPONENTS + e) (t * COMPONENTS + e) d)
   shift-alike = record {
     narrow = length-shift a (f * BEFORE + e) (t * BEFORE + e) d ∙ alike .narrow;
-    wide = length-shift b (f * BLEND + e) (t * BLEND + e) d ∙ alike .wide;
+    wide = length-shift b (f * COMPONENTS + e) (t * COMPONENTS + e) d ∙ alike .wide;
     same = shift-same;
   }
 
 pub moved-alike : (a b : List ℕ) (m d : ℕ) → m < moveCount BEFORE → Alike a b
-    → Alike (movedIn BEFORE a m d) (movedIn BLEND b m d)
+    → Alike (movedIn BEFORE a m d) (movedIn COMPONENTS b m d)
 unfolding movedIn
 moved-alike a b m d low alike =
     shift-alike a b (giverOf m) (takerOf m) (componentOf m) d (omega arith) (omega arith) (omega arith) alike

@@ -7,7 +7,7 @@ use mathlib.Core.List.{List}
 use native.Mathlib.Omega.{arith}
 use lib.Dec.{ltb, leb, eqb}
 use borrow.Author.Tests.{lt-ltb, ltb-true}
-use Rattle.systems.specs.Systems.{hasOf}
+use Rattle.systems.specs.Systems.{COMPONENTS, hasOf}
 use Rattle.split.specs.Split.{systemOf}
 use Rattle.split.specs.Rating.{spreadOf}
 use Rattle.split.specs.Move.{componentOf, giverOf, betweenOf}
@@ -17,7 +17,7 @@ use Rattle.split.specs.declared.Turn.{Turn}
 use Rattle.split.specs.declared.Turn.the-variants.{Rate, Refuse, Move, Halve}
 use Rattle.split.specs.declared.Search.the-variants.{Balanced, Unbalanced}
 use Rattle.split.specs.declared.Found.{Found}
-use Rattle.kept.specs.Widths.{BEFORE, BLEND, moveCount, numberIn, movedIn, affordsIn, lowersIn, canIn}
+use Rattle.kept.specs.Widths.{BEFORE, moveCount, numberIn, movedIn, affordsIn, lowersIn, canIn}
 use Rattle.kept.specs.Widths.{firstIn, goOnIn, turnIn, stepIn, runIn, searchIn}
 use Rattle.kept.specs.Laws.Steady.{first-wider}
 use Rattle.kept.specs.Laws.Alike.{Without, Alike, parts-same, spreads-same, imbalances-same}
@@ -37,11 +37,11 @@ none-of-hydrogen ch k without m e = go (betweenOf ch k m) refl
         sym (b .gives) ∙ ap (hasOf (systemOf ch (giverOf m))) e ∙ without .lacks (giverOf m) (b .from)
 
 -- what is done is the same wherever the first move is, or where there is none
-go-same : (level m : ℕ) → m < moveCount BEFORE → goOnIn BEFORE level m ≡ goOnIn BLEND level m
+go-same : (level m : ℕ) → m < moveCount BEFORE → goOnIn BEFORE level m ≡ goOnIn COMPONENTS level m
 unfolding goOnIn
-go-same level m h = rw (lt-ltb m (moveCount BEFORE) h, lt-ltb m (moveCount BLEND) (omega arith), goOnIn)
+go-same level m h = rw (lt-ltb m (moveCount BEFORE) h, lt-ltb m (moveCount COMPONENTS) (omega arith), goOnIn)
 
-go-none : (level : ℕ) → goOnIn BEFORE level (moveCount BEFORE) ≡ goOnIn BLEND level (moveCount BLEND)
+go-none : (level : ℕ) → goOnIn BEFORE level (moveCount BEFORE) ≡ goOnIn COMPONENTS level (moveCount COMPONENTS)
 unfolding goOnIn
 go-none level = refl
 
@@ -50,46 +50,47 @@ abbrev turnBy : Bool → Bool → ℕ → Turn → Turn
 turnBy x y s t = cond x (Rate s) (cond y Refuse t)
 
 module _ (ch : List ℕ) (k : ℕ) (without : Without ch k) (a b : List ℕ) (alike : Alike a b) where
-  lowers-same : (d m : ℕ) → m < moveCount BEFORE → lowersIn BEFORE ch k a d m ≡ lowersIn BLEND ch k b d m
+  lowers-same : (d m : ℕ) → m < moveCount BEFORE → lowersIn BEFORE ch k a d m ≡ lowersIn COMPONENTS ch k b d m
   unfolding lowersIn
   lowers-same d m h =
       ap₂ ltb
-      (imbalances-same ch k without (movedIn BEFORE a m d) (movedIn BLEND b m d) (moved-alike a b m d h alike))
+      (imbalances-same ch k without (movedIn BEFORE a m d) (movedIn COMPONENTS b m d) (moved-alike a b m d h alike))
       (imbalances-same ch k without a b alike)
 
   affords-same : (d m : ℕ) → m < moveCount BEFORE → giverOf m < k
-      → affordsIn BEFORE ch a d m ≡ affordsIn BLEND ch b d m
+      → affordsIn BEFORE ch a d m ≡ affordsIn COMPONENTS ch b d m
   unfolding affordsIn
   affords-same d m h from =
       ap₂ _&&_ (ap (leb d) (alike .same (giverOf m) (componentOf m) (omega arith) (omega arith)))
       (ap (ltb d) (parts-same ch k without a b alike (giverOf m) from))
 
-  can-same : (d m : ℕ) → m < moveCount BEFORE → canIn BEFORE ch k a d m ≡ canIn BLEND ch k b d m
+  can-same : (d m : ℕ) → m < moveCount BEFORE → canIn BEFORE ch k a d m ≡ canIn COMPONENTS ch k b d m
   unfolding canIn
   can-same d m h = go (betweenOf ch k m) refl
     where
       go : (x : Bool) → betweenOf ch k m ≡ x
           → (x && (affordsIn BEFORE ch a d m && lowersIn BEFORE ch k a d m))
-          ≡ (x && (affordsIn BLEND ch b d m && lowersIn BLEND ch k b d m))
+          ≡ (x && (affordsIn COMPONENTS ch b d m && lowersIn COMPONENTS ch k b d m))
       go true e = ap₂ _&&_ (affords-same d m h (between-true ch k m e .from)) (lowers-same d m h)
       go false e = refl
 
-  can-not : (d m : ℕ) → moveCount BEFORE ≤ m → m < moveCount BLEND → canIn BLEND ch k b d m ≡ false
+  can-not : (d m : ℕ) → moveCount BEFORE ≤ m → m < moveCount COMPONENTS → canIn COMPONENTS ch k b d m ≡ false
   unfolding canIn
   can-not d m l h = rw (none-of-hydrogen ch k without m (omega arith))
 
   -- ---- a turn
 
   next-same : (level d : ℕ)
-      → goOnIn BEFORE level (firstIn BEFORE ch k a d) ≡ goOnIn BLEND level (firstIn BLEND ch k b d)
+      → goOnIn BEFORE level (firstIn BEFORE ch k a d) ≡ goOnIn COMPONENTS level (firstIn COMPONENTS ch k b d)
   unfolding firstIn
   next-same level d =
-      first-wider (canIn BEFORE ch k a d) (canIn BLEND ch k b d) (goOnIn BEFORE level) (goOnIn BLEND level)
-      (moveCount BLEND - moveCount BEFORE) (moveCount BEFORE) 0 (λ m l h. can-same d m h) (λ m l h. can-not d m l h)
+      first-wider (canIn BEFORE ch k a d) (canIn COMPONENTS ch k b d) (goOnIn BEFORE level) (goOnIn COMPONENTS level)
+      (moveCount COMPONENTS - moveCount BEFORE) (moveCount BEFORE) 0 (λ m l h. can-same d m h)
+      (λ m l h. can-not d m l h)
       (λ m l h. go-same level m h) (go-none level)
 
   pub turn-same : (limit allowance level rounds : ℕ)
-      → turnIn BEFORE ch k limit allowance a level rounds ≡ turnIn BLEND ch k limit allowance b level rounds
+      → turnIn BEFORE ch k limit allowance a level rounds ≡ turnIn COMPONENTS ch k limit allowance b level rounds
   unfolding turnIn
   turn-same limit allowance level rounds =
       ap₂ (λ (s : ℕ) (t : Turn). turnBy (leb s limit) (eqb rounds allowance) s t)
@@ -158,26 +159,26 @@ module _ (ch : List ℕ) (k : ℕ) (without : Without ch k) (limit allowance : �
   abbrev Runs : ℕ → List ℕ → List ℕ → ℕ → ℕ → Type 0
   Runs n a b level rounds =
       EndsAlike (runIn BEFORE ch k limit allowance n a level rounds)
-      (runIn BLEND ch k limit allowance n b level rounds)
+      (runIn COMPONENTS ch k limit allowance n b level rounds)
 
   step-alike : (n : ℕ) (a b : List ℕ) (level rounds : ℕ) → Alike a b
       → ((a b : List ℕ) (level rounds : ℕ) → Alike a b → Runs n a b level rounds)
       → (t : Turn) → turnIn BEFORE ch k limit allowance a level rounds ≡ t
-      → turnIn BLEND ch k limit allowance b level rounds ≡ t → Low t → Runs (suc n) a b level rounds
+      → turnIn COMPONENTS ch k limit allowance b level rounds ≡ t → Low t → Runs (suc n) a b level rounds
   step-alike n a b level rounds alike ih (Rate s) e f low =
       rw (in-rate ch k limit allowance BEFORE n a level rounds s e)
-      (rw (in-rate ch k limit allowance BLEND n b level rounds s f) (record { cells = alike; search = refl }))
+      (rw (in-rate ch k limit allowance COMPONENTS n b level rounds s f) (record { cells = alike; search = refl }))
   step-alike n a b level rounds alike ih Refuse e f low =
       rw (in-refuse ch k limit allowance BEFORE n a level rounds e)
-      (rw (in-refuse ch k limit allowance BLEND n b level rounds f) (record { cells = alike; search = refl }))
+      (rw (in-refuse ch k limit allowance COMPONENTS n b level rounds f) (record { cells = alike; search = refl }))
   step-alike n a b level rounds alike ih (Move m) e f low =
       rw (in-move ch k limit allowance BEFORE n a level rounds m e)
-      (rw (in-move ch k limit allowance BLEND n b level rounds m f)
-      (ih (stepIn BEFORE a m level) (stepIn BLEND b m level) level (rounds + 1)
+      (rw (in-move ch k limit allowance COMPONENTS n b level rounds m f)
+      (ih (stepIn BEFORE a m level) (stepIn COMPONENTS b m level) level (rounds + 1)
       (moved-alike a b m (2 ^ level) low alike)))
   step-alike n a b level rounds alike ih Halve e f low =
       rw (in-halve ch k limit allowance BEFORE n a level rounds e)
-      (rw (in-halve ch k limit allowance BLEND n b level rounds f) (ih a b (level - 1) rounds alike))
+      (rw (in-halve ch k limit allowance COMPONENTS n b level rounds f) (ih a b (level - 1) rounds alike))
 
   run-alike : (n : ℕ) (a b : List ℕ) (level rounds : ℕ) → Alike a b → Runs n a b level rounds
   unfolding runIn
@@ -188,6 +189,6 @@ module _ (ch : List ℕ) (k : ℕ) (without : Without ch k) (limit allowance : �
       (turn-low ch k limit allowance a level rounds)
 
   pub search-alike : (level : ℕ) (a b : List ℕ) → Alike a b
-      → EndsAlike (searchIn BEFORE ch k limit level allowance a) (searchIn BLEND ch k limit level allowance b)
+      → EndsAlike (searchIn BEFORE ch k limit level allowance a) (searchIn COMPONENTS ch k limit level allowance b)
   unfolding searchIn
   search-alike level a b = run-alike (allowance + level + 1) a b level 0

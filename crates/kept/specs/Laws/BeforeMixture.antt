@@ -106,6 +106,13 @@ scaled-end xs h =
     (length-map xs (quotientOf t) ∙ sym (length-map xs (remainderOf t)))
     (omega (arith, length-map xs (remainderOf t)))
 
+-- the amount of a component, whatever the list's length
+getD-end : (xs : List ℕ) (c : ℕ) → getD (xs ++ (0 ∷ [])) c 0 ≡ getD xs c 0
+getD-end [] zero = refl
+getD-end [] (suc c) = refl
+getD-end (x ∷ xs) zero = refl
+getD-end (x ∷ xs) (suc c) = getD-end xs c
+
 -- ---- an analysis without hydrogen
 
 module _ (a : List ℕ) (none : getD a hydrogenCode 0 ≡ 0) where
@@ -123,6 +130,10 @@ module _ (a : List ℕ) (none : getD a hydrogenCode 0 ≡ 0) where
     where
       filled : 0 < length (tenthsBefore a)
       filled = omega (arith, before-length a, scaled-length (tenthsBefore a))
+
+  -- so the amount of each component
+  pub mixture-same : (c : ℕ) → getD (simplifiedOf a) c 0 ≡ getD (simplifiedBefore a) c 0
+  mixture-same c = ap (λ (l : List ℕ). getD l c 0) simplified-kept ∙ getD-end (simplifiedBefore a) c
 
   pub no-hydrogen : getD (simplifiedOf a) 4 0 ≡ 0
   no-hydrogen =

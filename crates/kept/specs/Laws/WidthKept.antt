@@ -12,7 +12,7 @@ use native.Mathlib.Omega.{arith}
 use lib.Dec.{ltb, eqb}
 use lib.ListN.{getD}
 use borrow.Author.Tests.{eq-eqb}
-use Rattle.systems.specs.Systems.{hasOf}
+use Rattle.systems.specs.Systems.{COMPONENTS, hasOf}
 use Rattle.split.specs.Fold.{allTo}
 use Rattle.split.specs.Laws.Folds.{sum-same}
 use Rattle.split.specs.Split.{systemOf, heldOf, componentAt, cellsOf, amountsOf, recordedIn}
@@ -20,7 +20,7 @@ use Rattle.split.specs.Rating.{ratingOf, proposedOf}
 use Rattle.split.specs.Start.{startOf}
 use Rattle.split.specs.Search.{searchOf}
 use Rattle.split.specs.declared.Found.{Found}
-use Rattle.kept.specs.Widths.{BEFORE, BLEND, cellIn, columnIn, componentIn, cellsIn, amountsIn, ratingIn}
+use Rattle.kept.specs.Widths.{BEFORE, cellIn, columnIn, componentIn, cellsIn, amountsIn, ratingIn}
 use Rattle.kept.specs.Widths.{resumsIn, proposedIn, startIn, searchIn}
 use Rattle.kept.specs.Today.{component-today, from-records-today, records-today, rating-today, proposed-today}
 use Rattle.kept.specs.Today.{start-today, search-today}
@@ -52,7 +52,7 @@ module _ (ch : List ℕ) (k : ℕ) (without : Without ch k) (mix′ mix : List �
   -- ---- a proposed split
 
   module _ (xs : List ℕ) where
-    alike : Alike (cellsIn BEFORE ch k xs) (cellsIn BLEND ch k xs)
+    alike : Alike (cellsIn BEFORE ch k xs) (cellsIn COMPONENTS ch k xs)
     alike = records-alike ch k xs
 
     -- its records have no hydrogen
@@ -64,34 +64,37 @@ module _ (ch : List ℕ) (k : ℕ) (without : Without ch k) (mix′ mix : List �
         go true = without .lacks s h
         go false = refl
 
-    column-none : columnIn BLEND k (cellsIn BLEND ch k xs) BEFORE ≡ 0
+    column-none : columnIn COMPONENTS k (cellsIn COMPONENTS ch k xs) BEFORE ≡ 0
     unfolding columnIn cellsIn
     column-none =
-        sum-zero (λ s. cellIn BLEND (cellsIn BLEND ch k xs) s BEFORE) k
+        sum-zero (λ s. cellIn COMPONENTS (cellsIn COMPONENTS ch k xs) s BEFORE) k
         (λ s h. blend-cell (recordedIn ch k xs) s BEFORE (omega (arith, without .most)) (omega arith)
         ∙ rw (held-none s h))
 
     column-same : (c : ℕ) → c < BEFORE
-        → columnIn BEFORE k (cellsIn BEFORE ch k xs) c ≡ columnIn BLEND k (cellsIn BLEND ch k xs) c
+        → columnIn BEFORE k (cellsIn BEFORE ch k xs) c ≡ columnIn COMPONENTS k (cellsIn COMPONENTS ch k xs) c
     unfolding columnIn
     column-same c l =
-        sum-same (λ s. cellIn BEFORE (cellsIn BEFORE ch k xs) s c) (λ s. cellIn BLEND (cellsIn BLEND ch k xs) s c) k
+        sum-same (λ s. cellIn BEFORE (cellsIn BEFORE ch k xs) s c)
+        (λ s. cellIn COMPONENTS (cellsIn COMPONENTS ch k xs) s c) k
         (λ s h. alike .same s c (omega (arith, without .most)) l)
 
     -- a component's amounts re-sum
     abbrev sums : ℕ → List ℕ → ℕ → Bool
     sums w x c = eqb (columnIn w k (cellsIn w ch k xs) c) (getD x c 0)
 
-    resums-same : resumsIn BEFORE mix′ k (cellsIn BEFORE ch k xs) ≡ resumsIn BLEND mix k (cellsIn BLEND ch k xs)
+    resums-same : resumsIn BEFORE mix′ k (cellsIn BEFORE ch k xs)
+        ≡ resumsIn COMPONENTS mix k (cellsIn COMPONENTS ch k xs)
     unfolding resumsIn allTo
     resums-same =
-        all-same (sums BEFORE mix′) (sums BLEND mix) BEFORE (λ c l. ap₂ eqb (column-same c l) (no .same c l))
+        all-same (sums BEFORE mix′) (sums COMPONENTS mix) BEFORE (λ c l. ap₂ eqb (column-same c l) (no .same c l))
         ∙ sym
-        (ap (λ (x : Bool). x && allTo (sums BLEND mix) BEFORE)
-        (eq-eqb (columnIn BLEND k (cellsIn BLEND ch k xs) BEFORE) (getD mix BEFORE 0) (column-none ∙ sym (no .none))))
+        (ap (λ (x : Bool). x && allTo (sums COMPONENTS mix) BEFORE)
+        (eq-eqb (columnIn COMPONENTS k (cellsIn COMPONENTS ch k xs) BEFORE) (getD mix BEFORE 0)
+        (column-none ∙ sym (no .none))))
 
     proposed-same : (limit n1 : ℕ) → proposedIn BEFORE limit ch k mix′ (cellsIn BEFORE ch k xs) n1
-        ≡ proposedIn BLEND limit ch k mix (cellsIn BLEND ch k xs) n1
+        ≡ proposedIn COMPONENTS limit ch k mix (cellsIn COMPONENTS ch k xs) n1
     unfolding proposedIn
     proposed-same limit n1 =
         rw (resums-same, empty-same ch k without _ _ alike)
@@ -102,7 +105,7 @@ module _ (ch : List ℕ) (k : ℕ) (without : Without ch k) (mix′ mix : List �
         → proposedIn BEFORE limit ch k mix′ (cellsIn BEFORE ch k xs) n1
         ≡ proposedOf limit ch k mix (cellsOf ch k xs) n1
     proposed-kept limit n1 =
-        proposed-same limit n1 ∙ proposed-today limit ch k mix (cellsIn BLEND ch k xs) n1
+        proposed-same limit n1 ∙ proposed-today limit ch k mix (cellsIn COMPONENTS ch k xs) n1
         ∙ ap (λ (a : List ℕ). proposedOf limit ch k mix a n1) (from-records-today ch k xs)
 
   -- ---- the search from the written start
@@ -119,8 +122,8 @@ module _ (ch : List ℕ) (k : ℕ) (without : Without ch k) (mix′ mix : List �
       (searchOf ch k limit level allowance (startOf mix ch k))
   search-kept limit level allowance =
       subst (KeptSearch ch k (searchIn BEFORE ch k limit level allowance (startIn BEFORE mix′ ch k)))
-      (search-today ch k limit allowance level (startIn BLEND mix ch k)
+      (search-today ch k limit allowance level (startIn COMPONENTS mix ch k)
       ∙ ap (searchOf ch k limit level allowance) (start-today mix ch k))
       (kept-of _ _
-      (search-alike ch k without limit allowance level (startIn BEFORE mix′ ch k) (startIn BLEND mix ch k)
+      (search-alike ch k without limit allowance level (startIn BEFORE mix′ ch k) (startIn COMPONENTS mix ch k)
       (start-alike mix′ mix ch k (no .same))))

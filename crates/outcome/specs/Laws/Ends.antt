@@ -21,8 +21,8 @@ use Rattle.sheet.specs.declared.Reading.the-variants as reading
 use Rattle.sheet.specs.declared.Sheet.{Sheet}
 use Rattle.split.specs.Rating.{verdict, proposedOf, ratingOf, resums, someEmpty, spreadOf, LIMIT}
 use Rattle.mixture.specs.Inert.{inertFirst}
-use Rattle.systems.specs.Choice.{presentCount}
-use Rattle.split.specs.Split.{cellsOf, rowNumber as partialAt}
+use Rattle.systems.specs.Choice.{presentCount, choiceOf}
+use Rattle.split.specs.Split.{cellsOf, rowNumber}
 use Rattle.split.specs.AnswerCases.{numberOf, IsRated}
 use Rattle.split.specs.Start.{startOf}
 use Rattle.split.specs.Search.{FIRST_LEVEL, searchOf}
@@ -31,9 +31,10 @@ use Rattle.split.specs.declared.Answer.{Answer}
 use Rattle.split.specs.declared.Answer.the-variants.{Rated, Refused}
 use Rattle.split.specs.declared.Search.{Search}
 use Rattle.split.specs.declared.Search.the-variants.{Balanced, Unbalanced, Unfit}
+use Rattle.split.specs.declared.Found.{Found}
 use Rattle.outcome.specs.Records.{fitsOf}
 use Rattle.outcome.specs.Rate.{ROUNDS, FEWEST, mixOf, systemsFor, countFor, ratingRefusal, splitBy}
-use Rattle.outcome.specs.Rate.{splitAnswer, outcome, foundBy, foundOutcome, searched, searchOutcome}
+use Rattle.outcome.specs.Rate.{splitAnswer, outcome, foundBy, foundOutcome, searchedBy, searchOutcome}
 use Rattle.outcome.specs.RatedOn.{InRange, RatedOn}
 use Rattle.outcome.specs.Laws.RatedOn.{on-or-few, few-by-count}
 use Rattle.outcome.specs.declared.Outcome.{Outcome}
@@ -62,6 +63,10 @@ not-five (Refused n p) (inl (inr b)) e = omega (arith, b .0)
 not-five (Refused n p) (inr q) e = let z : n ≡ TOO_FEW = ap numberOf q in omega arith
 
 -- ---- by the search, of an analysis that is rated on: a rating or 11
+
+-- what the search of an analysis found
+abbrev pub searched : List ℕ → ℕ → Found
+searched analysis allowance = searchedBy (choiceOf (mixOf analysis)) analysis allowance
 
 -- it ends balanced or unbalanced
 pub never-unfit : (a : List ℕ) (allowance : ℕ) → searched a allowance .search ≡ Unfit → ⊥
@@ -97,8 +102,8 @@ proposed-ends : (limit : ℕ) (ch : List ℕ) (k : ℕ) (mix a : List ℕ) (n1 :
     → RatedOr 7 10 (proposedOf limit ch k mix a n1)
 unfolding proposedOf
 proposed-ends limit ch k mix a n1 =
-    verdict-ends (resums mix k a) (someEmpty ch k a) (ltb limit (spreadOf (partialAt ch a) k))
-    (Rated (ratingOf ch k a n1) (spreadOf (partialAt ch a) k) 0) tt
+    verdict-ends (resums mix k a) (someEmpty ch k a) (ltb limit (spreadOf (rowNumber ch a) k))
+    (Rated (ratingOf ch k a n1) (spreadOf (rowNumber ch a) k) 0) tt
 
 pub split-ends : (a : List ℕ) (p : Split) (code : ℕ) → RatedOn a → RatedOr 7 10 (splitAnswer a p code)
 unfolding splitAnswer splitBy

@@ -1,5 +1,5 @@
--- The analyses that are rated on, by cases; none is refused 13. Assumes nothing.
-use mathlib.Core.Path.{_≡_, refl, sym, _∙_}
+-- The analyses that are rated on, by cases. Assumes nothing.
+use mathlib.Core.Path.{_≡_, refl}
 use mathlib.Core.Bool.{Bool, true, false, cond}
 use mathlib.Core.List.{List}
 use mathlib.Core.Logic.{_↔_, _⊎_, inl, inr}
@@ -7,8 +7,8 @@ use Prim.Native.Nat.{ℕ, _≤_, _<_}
 use native.Mathlib.Omega.{arith}
 use lib.Dec.{eqb, ltb}
 use borrow.Author.Tests.{eqb-true, eqb-false, eq-eqb, ltb-true, ltb-false, lt-ltb, le-ltb}
-use Rattle.refusal.specs.Register.{NO_SYSTEM, TOO_FEW}
-use Rattle.analysis.specs.Check.{allInRange, totalOf, totalFits, refusalByTests, analysisRefusal}
+use Rattle.refusal.specs.Register.{TOO_FEW}
+use Rattle.analysis.specs.Check.{analysisRefusal}
 use Rattle.systems.specs.Choice.{presentCount}
 use Rattle.outcome.specs.Rate.{FEWEST, mixOf, ratingRefusal}
 use Rattle.outcome.specs.LeftOut.{mixture-number}
@@ -63,22 +63,3 @@ module _ (a : List ℕ) where
 
   pub on-exactly-when : RatedOn a ↔ (InRange a × (FEWEST ≤ presentCount (mixOf a)))
   on-exactly-when = (on-passed, λ h. enough-on (h .0) (h .1))
-
--- ---- no analysis is refused 13: 5 or 6 comes from its check, and then 16
-
-check-number : (t u : Bool) → refusalByTests t u ≡ NO_SYSTEM → ⊥
-check-number true true h = omega arith
-check-number true false h = omega arith
-check-number false u h = omega arith
-
-pub never-refused : (a : List ℕ) → ratingRefusal a ≡ NO_SYSTEM → ⊥
-unfolding analysisRefusal
-never-refused a h = go (eqb (analysisRefusal a) 0) refl
-  where
-    by : RatedOn a ⊎ (ratingRefusal a ≡ TOO_FEW) → ⊥
-    by (inl e) = omega arith
-    by (inr e) = omega arith
-
-    go : (b : Bool) → eqb (analysisRefusal a) 0 ≡ b → ⊥
-    go true e = by (on-or-few a (eqb-true (analysisRefusal a) 0 e))
-    go false e = check-number (allInRange 0 a) (totalFits (totalOf a)) (sym (range-first a e) ∙ h)

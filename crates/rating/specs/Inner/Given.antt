@@ -8,6 +8,6 @@ use Rattle.split.specs.declared.Search.the-variants.{Balanced, Unfit}
 use Rattle.split.specs.declared.Found.{Found}
 
 -- a search that was made; where it is balanced it has found cells that are fit
-pub record FoundFit (mix ch : List ℕ) (k : ℕ) (f : Found) : Type 0 where
-  pub made : f .search ≡ Unfit → ⊥
-  pub fit : (s r : ℕ) → f .search ≡ Balanced s r → Fit LIMIT ch k mix (f .cells)
+pub record FoundFit (mix systems : List ℕ) (count : ℕ) (found : Found) : Type 0 where
+  pub made : found .search ≡ Unfit → ⊥
+  pub fit : (spread rounds : ℕ) → found .search ≡ Balanced spread rounds → Fit LIMIT systems count mix (found .cells)

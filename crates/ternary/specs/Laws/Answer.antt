@@ -5,7 +5,8 @@ use mathlib.Core.Logic.{_⊎_, inl, inr}
 use Prim.Native.Nat.{ℕ, _+_, _≤_, _<_}
 use native.Mathlib.Omega.{arith}
 use lib.Dec.{T, ltb, leb, lt→ltb, le→leb, ltb→lt, leb→le}
-use lib.Ieee.Fits.{and-l, and-r}
+use lib.Ieee.Bits.{is-true}
+use lib.Ieee.Fits.{and-i, and-l, and-r}
 use borrow.Author.Tests.{ltb-false, leb-false}
 use lib.IntN.{ℤ}
 use Rattle.integer.specs.Figures.{MILLION}
@@ -43,12 +44,7 @@ refused-13 false m p h = refl
 
 -- what a mixture's sum is, and what none is
 pub mixture-yes : (d : ℕ) → 0 < d → d ≤ MILLION → isMixture d ≡ true
-mixture-yes d h k = both (ltb 0 d) (leb d MILLION) (lt→ltb 0 d h) (le→leb d MILLION k)
-  where
-    both : (a b : Bool) → T a → T b → a && b ≡ true
-    both true true s t = refl
-    both true false s t = absurd t
-    both false b s t = absurd s
+mixture-yes d h k = is-true (isMixture d) (and-i (ltb 0 d) (leb d MILLION) (lt→ltb 0 d h) (le→leb d MILLION k))
 
 pub mixture-of : (d : ℕ) → isMixture d ≡ true → (0 < d) × (d ≤ MILLION)
 mixture-of d e =

@@ -5,7 +5,7 @@ use Prim.Native.Nat.{ℕ, _+_, _-_, _≤_, _<_}
 use native.Mathlib.Omega.{arith}
 use mir.Syntax.{w64}
 use mir.Val.{toZ}
-use Rattle.formula.specs.WorkingRule.{stepZ, horner, coefs}
+use Rattle.formula.specs.WorkingRule.{COEFFICIENTS, stepZ, horner, coefs}
 use Rattle.ternary.specs.Inner.Table.{inTable}
 use Rattle.integer.specs.Laws.Bits.{read-back}
 use Rattle.ternary.proofs.Rows.{row-none, row-more, row-room}
@@ -47,8 +47,8 @@ step-requires c κs =
     let there : 0 < i = omega arith in
     let inside : i ≤ a .at + a .count = omega arith in (
       rw (c .before .before .loop .inv .2, read-back (inTable (a .t .now) (i - 1)) (c .step-arg .given))
-          (row-room (inTable (a .t .now)) (a .w .n) (a .w .d) i (a .at + a .count) there inside 20 (s .pre .2 .n-le)
-          (omega arith) (s .pre .0 .sum)),
+          (row-room (inTable (a .t .now)) (a .w .n) (a .w .d) i (a .at + a .count) there inside COEFFICIENTS
+          (s .pre .2 .n-le) (omega arith) (s .pre .0 .sum)),
       s .pre .2,
     )
 
