@@ -32,7 +32,7 @@ unfolding isIn
 apart n [] h = tt
 apart n (m ∷ ms) h = at (eqb n m) refl h (apart n ms)
   where
-    at : (b : Bool) → eqb n m ≡ b → cond b true (isIn n ms) ≡ false → (isIn n ms ≡ false → Apart n ms)
+    at : (b : Bool) → eqb n m ≡ b → (b || isIn n ms) ≡ false → (isIn n ms ≡ false → Apart n ms)
         → Apart n (m ∷ ms)
     at true e q r = absurd (subst T q tt)
     at false e q r = (r q, eqb-false n m e)
