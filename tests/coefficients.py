@@ -203,7 +203,7 @@ def code_rows(path, name, kind, size):
 
 def code_systems():
     """The systems that the code lets through: the places of the ones in its word of bits, from the right."""
-    found = re.search(r'^const SYSTEMS: u32 = 0b([01_]+);$', code_text(CODE_SYSTEMS), re.M)
+    found = re.search(r'^const KNOWN: u32 = 0b([01_]+);$', code_text(CODE_SYSTEMS), re.M)
     if not found:
         fail(f'{CODE_SYSTEMS}: no word of bits with the systems')
     bits = found[1].replace('_', '')

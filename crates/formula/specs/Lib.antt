@@ -1,5 +1,5 @@
 pub mod WorkingRule
-pub mod Cases
+pub mod Examples
 pub mod Coefficients
 pub mod Ranges
 pub mod Partial

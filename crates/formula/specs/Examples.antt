@@ -1,4 +1,4 @@
--- The working rule's step by computed cases (document 01, "A partial number": "dropping the fraction towards zero").
+-- The working rule's step, computed (document 01, "A partial number": "dropping the fraction towards zero").
 -- Assumes nothing.
 use mathlib.Core.Path.{_≡_, refl}
 use lib.IntN.{pos}
