@@ -1,6 +1,6 @@
 -- What the simplified mixture and the inert mixture add up to (document 01, "Simplification": "The total is exactly
 -- 1000000"; "The split and the rating": the inert mixture), and how near each amount is to its share: of any amounts
--- whose T is not 0. Assumes nothing.
+-- whose T is not 0. Of an analysis in range the inert mixture has methane. Assumes nothing.
 use Prim.Native.Nat.{ℕ, _+_, _≤_, _<_}
 use mathlib.Core.Path.{_≡_}
 use mathlib.Core.List.{List}

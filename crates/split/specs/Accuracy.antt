@@ -1,6 +1,6 @@
--- What is so of the rating of a proposed split: it is less than 40 units from the exact one, and it and its spread lie
--- below 2 ^ 53 (document 01, "The split and the rating", the third demand). Assumes nothing.
-use mathlib.Core.Path.{_≡_, sym, subst}
+-- What is so of the rating of a proposed split: its weights add up to a million, it is less than 40 units from the exact
+-- one, and it and its spread lie below 2 ^ 53 (document 01, "The split and the rating", the third demand). Assumes nothing.
+use mathlib.Core.Path.{_≡_, sym, _∙_, subst}
 use mathlib.Core.List.{List}
 use Prim.Native.Nat.{ℕ, _≤_, _<_}
 use native.Mathlib.Nat as N
@@ -9,18 +9,24 @@ use lib.IntN.{ℤ, natAbs}
 use Rattle.integer.specs.Figures.{MILLION}
 use Rattle.integer.specs.Fraction.{Within}
 use Rattle.split.specs.Fold.{sumTo}
-use Rattle.split.specs.Split.{partsOf, Chosen, mixtureParts}
+use Rattle.split.specs.Split.{partsOf, Chosen, Clean, mixtureParts}
 use Rattle.split.specs.Rating.{ratingOf, proposedOf}
 use Rattle.split.specs.Exact.{exactRating}
 use Rattle.split.specs.Laws.Exact.{rating-within}
-use Rattle.split.specs.Fits.{Fit}
+use Rattle.split.specs.Fits.{Resums, Fit}
 use Rattle.split.specs.Rated.{rated-fit, rated-is}
 use Rattle.split.specs.AnswerCases.{IsRated}
-use Rattle.split.specs.Laws.Sums.{fit-few}
+use Rattle.split.specs.Laws.Sums.{fit-few, parts-columns, resummed}
 use Rattle.split.specs.Laws.Size.{spread-small, rating-small}
 use Rattle.split.specs.declared.Answer.the-variants.{Rated}
 
 module _ (systems : List ℕ) (count : ℕ) (mix cells : List ℕ) (chosen : Chosen systems count) where
+  -- a split that re-sums has exactly a million parts, so the mean is a weighted mean
+  pub fit-million : Clean systems count cells → mixtureParts mix ≡ MILLION → Resums mix count cells
+      → sumTo (partsOf systems cells) count ≡ MILLION
+  fit-million clean million sums =
+      parts-columns systems count cells chosen clean ∙ resummed mix count cells sums ∙ million
+
   module _ (limit n1 : ℕ) (w : ℤ) (s n : ℕ) (is : proposedOf limit systems count mix cells n1 ≡ Rated w s n) where
     fit : Fit limit systems count mix cells
     fit = rated-fit limit systems count mix cells n1 (subst IsRated (sym is) tt)

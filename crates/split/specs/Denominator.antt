@@ -1,5 +1,5 @@
--- The exact rating is a whole numerator over a positive whole denominator: powers of each d, a row's parts, and of
--- 1000000 (document 01, "The split and the rating"). Assumes nothing.
+-- The exact rating is a whole numerator over a whole denominator: powers of each d, a row's parts, and of 1000000
+-- (document 01, "The split and the rating"). It is positive where no row is empty (`Within`). Assumes nothing.
 use mathlib.Core.Path.{_≡_, refl, ap, ap₂, _∙_}
 use mathlib.Core.List.{List}
 use Prim.Native.Nat.{ℕ, zero, suc, _+_, _*_, _-_, _^_, _≤_}

@@ -11,11 +11,6 @@ use Rattle.split.specs.Rating.{spreadOf}
 use Rattle.split.specs.Move.{squareOf, imbalanceOf}
 use Rattle.split.specs.Laws.Folds.{sum-same, greatest-same, least-same}
 
-pub sum-zero : (f : ℕ → ℕ) (n : ℕ) → ((i : ℕ) → i < n → f i ≡ 0) → sumTo f n ≡ 0
-unfolding sumTo
-sum-zero f zero h = refl
-sum-zero f (suc n) h = omega (arith, sum-zero f n (λ i l. h i (omega arith)), h n (omega arith))
-
 pub all-same : (p q : ℕ → Bool) (n : ℕ) → ((i : ℕ) → i < n → p i ≡ q i) → allTo p n ≡ allTo q n
 unfolding allTo
 all-same p q zero h = refl

@@ -14,7 +14,7 @@ use lib.ListN.{getD}
 use borrow.Author.Tests.{eq-eqb}
 use Rattle.systems.specs.Systems.{COMPONENTS, hasOf}
 use Rattle.split.specs.Fold.{allTo}
-use Rattle.split.specs.Laws.Folds.{sum-same}
+use Rattle.split.specs.Laws.Folds.{sum-same, sum-zero}
 use Rattle.split.specs.Split.{systemOf, heldOf, componentAt, cellsOf, amountsOf, recordedIn}
 use Rattle.split.specs.Rating.{ratingOf, proposedOf}
 use Rattle.split.specs.Start.{startOf}
@@ -24,7 +24,7 @@ use Rattle.kept.specs.Widths.{BEFORE, cellIn, columnIn, componentIn, cel
 use Rattle.kept.specs.Widths.{resumsIn, proposedIn, startIn, searchIn}
 use Rattle.kept.specs.Today.{component-today, from-records-today, records-today, rating-today, proposed-today}
 use Rattle.kept.specs.Today.{start-today, search-today}
-use Rattle.kept.specs.Laws.Steady.{sum-zero, all-same}
+use Rattle.kept.specs.Laws.Steady.{all-same}
 use Rattle.kept.specs.Laws.Alike.{Without, Alike, component-same, spreads-same, empty-same, rating-same}
 use Rattle.kept.specs.Laws.Alike.{amounts-same}
 use Rattle.kept.specs.Laws.AlikeCells.{blend-cell, records-alike, start-alike}

@@ -28,6 +28,11 @@ unfolding sumToZ
 sum-same-ℤ f g zero h = refl
 sum-same-ℤ f g (suc n) h = ap₂ _+ℤ_ (sum-same-ℤ f g n (λ i l. h i (omega arith))) (h n (omega arith))
 
+pub sum-zero : (f : ℕ → ℕ) (n : ℕ) → ((i : ℕ) → i < n → f i ≡ 0) → sumTo f n ≡ 0
+unfolding sumTo
+sum-zero f zero h = refl
+sum-zero f (suc n) h = omega (arith, sum-zero f n (λ i l. h i (omega arith)), h n (omega arith))
+
 -- a function that differs at one place only
 pub sum-but : (f g : ℕ → ℕ) (n j : ℕ) → j < n → ((i : ℕ) → i < n → (i ≡ j → ⊥) → f i ≡ g i)
     → sumTo f n + g j ≡ sumTo g n + f j

@@ -1,16 +1,19 @@
--- The parts of all rows are no more than the columns' sums, so a split that re-sums has no more parts than the mixture.
--- Assumes nothing.
-use mathlib.Core.Path.{_≡_, refl, ap, _∙_}
+-- The parts of all rows are no more than the columns' sums, and of clean cells as many, so a split that re-sums has the
+-- mixture's parts. Assumes nothing.
+use mathlib.Core.Path.{_≡_, refl, sym, ap, _∙_}
+use mathlib.Core.Bool.{Bool, true, false, cond, _||_}
 use mathlib.Core.List.{List}
 use Prim.Native.Nat.{ℕ, zero, suc, _+_, _≤_, _<_}
 use native.Mathlib.Omega.{arith}
+use lib.Dec.{eqb}
 use lib.ListN.{getD}
+use borrow.Author.Tests.{lt-ltb}
 use Rattle.integer.specs.Figures.{MILLION}
-use Rattle.systems.specs.Systems.{COMPONENTS, memberOf, Candidate}
+use Rattle.systems.specs.Systems.{COMPONENTS, memberOf, hasOf, Candidate}
 use Rattle.systems.specs.Laws.Members.{member-lt, members-apart}
 use Rattle.split.specs.Fold.{sumTo}
-use Rattle.split.specs.Laws.Folds.{sum-le, sum-same, but, but-off, but-sum}
-use Rattle.split.specs.Split.{cellOf, systemOf, partsOf, columnOf, Chosen, mixtureParts}
+use Rattle.split.specs.Laws.Folds.{sum-le, sum-same, sum-zero, but, but-off, but-sum}
+use Rattle.split.specs.Split.{cellOf, systemOf, partsOf, columnOf, heldOf, Chosen, Clean, mixtureParts}
 use Rattle.split.specs.Fits.{Resums}
 
 -- ---- sums of sums
@@ -53,6 +56,21 @@ module _ (system : ℕ) (cand : Candidate system) (f : ℕ → ℕ) where
         but-off (m 1) (but (m 0) f) (m 2) (apart 2 1 (omega arith) (omega arith) (λ z. omega arith)),
       )
 
+  -- which is nothing, where what the system lacks is 0
+  rest-none : (c : ℕ) → (hasOf system c ≡ false → f c ≡ 0) → rest c ≡ 0
+  unfolding hasOf
+  rest-none c h = go (eqb c (m 0)) (eqb c (m 1)) (eqb c (m 2)) h
+    where
+      go : (x y z : Bool) → ((x || (y || z)) ≡ false → f c ≡ 0) → cond z 0 (cond y 0 (cond x 0 (f c))) ≡ 0
+      go x y true h = refl
+      go x true false h = refl
+      go true false false h = refl
+      go false false false h = h refl
+
+  members-all : ((c : ℕ) → c < COMPONENTS → hasOf system c ≡ false → f c ≡ 0)
+      → sumTo f COMPONENTS ≡ f (m 0) + f (m 1) + f (m 2)
+  members-all h = omega (arith, members-sum, sum-zero rest COMPONENTS (λ c l. rest-none c (h c l)))
+
 -- ---- all rows
 
 module _ (ch : List ℕ) (k : ℕ) (a : List ℕ) (chosen : Chosen ch k) where
@@ -60,9 +78,20 @@ module _ (ch : List ℕ) (k : ℕ) (a : List ℕ) (chosen : Chosen ch k) where
   unfolding partsOf
   row-le s l = omega (arith, members-sum (systemOf ch s) (chosen .known s l) (cellOf a s))
 
+  row-is : Clean ch k a → (s : ℕ) → s < k → partsOf ch a s ≡ sumTo (cellOf a s) COMPONENTS
+  unfolding partsOf heldOf
+  row-is clean s l =
+      sym (members-all (systemOf ch s) (chosen .known s l) (cellOf a s)
+      (λ c m h. clean .none s c m (rw (lt-ltb s k l) h)))
+
   -- whatever the cells, the parts are no more than the columns' sums
   pub parts-le : sumTo (partsOf ch a) k ≤ sumTo (columnOf k a) COMPONENTS
   parts-le = rw (columns-rows k a) (sum-le (partsOf ch a) (λ s. sumTo (cellOf a s) COMPONENTS) k row-le)
+
+  -- and of clean cells as many
+  pub parts-columns : Clean ch k a → sumTo (partsOf ch a) k ≡ sumTo (columnOf k a) COMPONENTS
+  parts-columns clean =
+      sum-same (partsOf ch a) (λ s. sumTo (cellOf a s) COMPONENTS) k (row-is clean) ∙ sym (columns-rows k a)
 
 -- a split that re-sums has the mixture's parts
 pub resummed : (mix : List ℕ) (k : ℕ) (a : List ℕ) → Resums mix k a → sumTo (columnOf k a) COMPONENTS ≡ mixtureParts mix
