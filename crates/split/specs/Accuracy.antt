@@ -1,5 +1,6 @@
--- What is so of the rating of a proposed split: its weights add up to a million, it is less than 40 units from the exact
--- one, and it and its spread lie below 2 ^ 53 (document 01, "The split and the rating", the third demand). Assumes nothing.
+-- What is so of the rating of a proposed split: its weights add up to a million, it is less than 40 units from the
+-- exact one, and it and its spread lie below 2 ^ 53 (document 01, "The split and the rating", the third demand).
+-- Assumes nothing.
 use mathlib.Core.Path.{_≡_, sym, _∙_, subst}
 use mathlib.Core.List.{List}
 use Prim.Native.Nat.{ℕ, _≤_, _<_}
