@@ -22,6 +22,11 @@ retired-code : readOf (1 ∷ 9 ∷ 0 ∷ 0 ∷ 0 ∷ 100 ∷ 0 ∷ []) 0 ≡ ref
 unfolding readOf readBy sectionsOf sectionAt endAt allowedCount codeRefusal statusOf isIn
 retired-code = refl
 
+-- a retired code is refused 3, whatever code stands before it
+pub retired-refused : (p : ℕ) → (codeRefusal 9 p ≡ 3) × (codeRefusal 13 p ≡ 3)
+unfolding codeRefusal statusOf
+retired-refused p = (refl, refl)
+
 -- a sheet of two counts of 0 has no methane
 empty-sheet : readOf (0 ∷ 0 ∷ []) 1 ≡ refusedSheet (Refused 5 0 1)
 unfolding readOf readBy sectionsOf sectionAt endAt allowedCount amountsRefusal analysisRefusal inRange statusOf
