@@ -52,7 +52,7 @@ int main(void)
         return 1;
     printf("put back %" PRId64 ", rounds %" PRId64 "\n", figures.rating, figures.rounds);
 
-    /* A refusal: ethane is below its range, and a code at fault comes with the number. */
+    /* A refusal: ethane is below its range, and the lowest code at fault comes with the number. */
     amounts[SAUGRINTE_ETHANE] = 99;
     refused(saugrinte_write(amounts, 0, split.systems, split.codes, split.parts, sheet, sizeof sheet, &length));
     return 0;

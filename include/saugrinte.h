@@ -3,10 +3,12 @@
    A part is 0.0001 % by volume. A unit is 0.0000001 of a methane number.
 
    Every function answers every input. An answer holds a number: 0 means done, anything else is a refusal, which changes
-   no buffer. Its place tells more: for 2 to 4 the record's place from 0, for 5 a code at fault, for all else 0.
+   no buffer. Its place tells more: for 2 to 4 the record's place from 0, for 5 the lowest code at fault, for all else
+   0. At fault are the codes whose amounts are outside their ranges, methane where it is absent, and in a sheet every
+   code that is listed at 0.
 
    amounts[k] is the amount in parts of code k, 0 where it is absent; only methane must be there. At 0, 9, 13 and 14
-   no amount is legal: anything but 0 there is refused 5.
+   no amount is legal: anything but 0 there is at fault, as code 0, 9, 13 or 14.
 
    A split is a count of records and three arrays: record i gives amount parts[i] of component codes[i] to system
    systems[i]. Codes in a split are 1 methane, 2 ethane, 3 propane, 14 butanes, 15 hydrogen. A rated gas's split has
@@ -21,8 +23,9 @@
 
    Since version 1.2 codes 2 to 5 may be absent, which was refused 5 before, and a split may have 6 records. Since
    version 1.3 hydrogen has code 15, which was refused 2 in a sheet and 5 in an analysis; a sheet may list 12 components
-   and have a split of 12, 15, 18 or 21 records, which was refused 1. A gas that was rated before has the rating, the
-   split and the rounds that it had.
+   and have a split of 12, 15, 18 or 21 records, which was refused 1. Since version 1.4 the code with 5 is the lowest at
+   fault; before, it was any one at fault. A gas that was rated before has the rating, the split and the rounds that it
+   had.
 
    The functions keep nothing between calls, so several threads may call them at once. They use no heap, no floating
    point but in saugrinte_controller, and of a C library memcpy alone. No pointer may be null, not even with a length,
@@ -30,9 +33,11 @@
    another argument.
 
    Platform: the archive is for x86-64 Linux with its usual calling convention; the toolchain makes no other.
-   Stack, measured: saugrinte_rate 4.2 KB, saugrinte_search 3.9 KB, saugrinte_rate_split 2.2 KB, all others 1 KB at most.
+   Stack, measured: saugrinte_rate 4.2 KB, saugrinte_search 3.9 KB, saugrinte_rate_split 2.2 KB, all others 1 KB at
+   most.
    Longest call of the sheets in tests/data, measured on an Intel Xeon (family 6, model 207): 0.8 ms for saugrinte_rate
-   and saugrinte_search, of a gas whose search uses all 4000 rounds; all others 1 microsecond. tests/bench/limits.c measures both. */
+   and saugrinte_search, of a gas whose search uses all 4000 rounds; all others 1 microsecond. tests/bench/limits.c
+   measures both. */
 #ifndef SAUGRINTE_H
 #define SAUGRINTE_H
 
@@ -43,7 +48,7 @@
 extern "C" {
 #endif
 
-#define SAUGRINTE_VERSION 10300     /* of this header, 1.3.0: 10000, 100 and 1 times its three figures */
+#define SAUGRINTE_VERSION 10400     /* of this header, 1.4.0: 10000, 100 and 1 times its three figures */
 
 #define SAUGRINTE_CODES 16          /* entries of an analysis, one for each code from 0 to 15 */
 #define SAUGRINTE_RECORDS 21        /* room for a split's records */

@@ -80,67 +80,30 @@ def amounts(analysis):
 
 
 class Expected:
-    """One answer: the refusal's number, the places allowed, and the buffers as printed."""
-    __slots__ = ('number', 'places', 'buffers')
+    """One answer: its number, and the line as printed."""
+    __slots__ = ('number', 'line')
 
-    def __init__(self, result, buffers):
-        self.number, self.places, self.buffers = 0, (0,), buffers
-        if isinstance(result, ref.Refusal):
-            self.number = result.number
-            if result.number == 5:
-                self.places = result.at
-            elif result.number in (2, 3, 4):
-                self.places = (result.at,)
-
-    def agrees(self, line):
-        number, _, rest = line.partition(' ')
-        place, _, rest = rest.partition(' ')
-        return (number == str(self.number) and place.isdigit() and int(place) in self.places
-                and ' ' + rest == self.buffers)
-
-    def __str__(self):
-        return '%d %s%s' % (self.number, '|'.join(map(str, sorted(self.places))), self.buffers)
+    def __init__(self, number, line):
+        self.number, self.line = number, line
 
 
-class Line:
-    """An answer without refusal, as printed."""
-    __slots__ = ('line',)
-    number = 0
-
-    def __init__(self, line):
-        self.line = line
-
-    def agrees(self, line):
-        return line == self.line
-
-    def __str__(self):
-        return self.line
+def replied(result, buffers):
+    """An answer with its buffers: the number, and the place for 2 to 4, the code for 5, else 0."""
+    number, place = 0, 0
+    if isinstance(result, ref.Refusal):
+        number, place = result.number, result.at if 2 <= result.number <= 5 else 0
+    return Expected(number, '%d %d%s' % (number, place, buffers))
 
 
 # ------------------------------------------------------------ the reference's answers
 
-NO_CODE = 0, 9, 13, 14
-
-
-def check(analysis):
-    """5 or 6; an amount at a code that has none is at fault too."""
-    wrong = {c for c in NO_CODE if wide(analysis)[c]}
-    if not wrong:
-        return ref.check(analysis)
-    others = ref.check(tuple(0 if c in wrong else a for c, a in enumerate(analysis)))
-    if others is not None and others.number == 5:
-        wrong |= others.at
-    return ref.Refusal(5, frozenset(wrong))
-
-
 def search(analysis, allowance):
-    return check(analysis) or (gases.searched(analysis) if allowance >= ref.MOST_ROUNDS
-                               else ref.search(analysis, allowance))
+    return gases.searched(analysis) if allowance >= ref.MOST_ROUNDS else ref.search(analysis, allowance)
 
 
 def rate_split(analysis, count, records):
     """Of so many records; no split has the count where fewer are given, for the driver fills no record that fits."""
-    return check(analysis) or ref.rate_split(analysis, records[:count] if count <= len(records) else ())
+    return ref.rate_split(analysis, records[:count] if count <= len(records) else ())
 
 
 def read(sheet):
@@ -171,7 +134,7 @@ class Cases:
         fill = self.next_fill()
         found = None if isinstance(result, ref.Refusal) else () if sheet[1 + 5 * sheet[0]] else result.split
         self.add(kind, 'rate %02x %s' % (fill, sheet.hex() or '-'),
-                 Expected(result, figures(fill, result) + split_blocks(fill, found)))
+                 replied(result, figures(fill, result) + split_blocks(fill, found)))
 
     def read(self, kind, sheet, got):
         fill = self.next_fill()
@@ -180,18 +143,18 @@ class Cases:
         else:
             analysis, split = got
             buffers = block(fill, amounts(analysis), 4 * CODES) + split_blocks(fill, split or ())
-        self.add(kind, 'read %02x %s' % (fill, sheet.hex() or '-'), Expected(got, buffers))
+        self.add(kind, 'read %02x %s' % (fill, sheet.hex() or '-'), replied(got, buffers))
 
     def search(self, kind, analysis, allowance, result):
         fill = self.next_fill()
         found = None if isinstance(result, ref.Refusal) else result.split
         self.add(kind, 'search %02x %d %s' % (fill, allowance, amounts(analysis).hex()),
-                 Expected(result, figures(fill, result) + split_blocks(fill, found)))
+                 replied(result, figures(fill, result) + split_blocks(fill, found)))
 
     def split(self, kind, analysis, count, records, result):
         fill = self.next_fill()
         self.add(kind, 'split %02x %d %s %s' % (fill, count, amounts(analysis).hex(), packed(records)),
-                 Expected(result, figures(fill, result)))
+                 replied(result, figures(fill, result)))
 
     def write(self, kind, analysis, count, records, low, high):
         fill = self.next_fill()
@@ -202,9 +165,9 @@ class Cases:
                 result = ref.Refusal(1)
             else:
                 given = (*(records or ()), *((fill, fill, fill * 0x01010101),) * RECORDS)[:count]
-                result = check(analysis) or ref.write(analysis, given, buffer)
+                result = ref.write(analysis, given, buffer)
             length = None if isinstance(result, ref.Refusal) else big((result,), WORD)
-            expected.append(Expected(result, block(fill, bytes(buffer), room) + block(fill, length, WORD)))
+            expected.append(replied(result, block(fill, bytes(buffer), room) + block(fill, length, WORD)))
         self.add(kind, 'write %02x %d %s %s %d %d' % (fill, count, amounts(analysis).hex(), packed(records), low, high),
                  *expected)
 
@@ -213,17 +176,18 @@ class Cases:
         result = ref.partial_number(system, n1, n2, n3)
         number = None if isinstance(result, ref.Refusal) else struct.pack('>q', result)
         self.add(kind, 'partial %02x %d %d %d %d' % (fill, system, n1, n2, n3),
-                 Expected(result, block(fill, number, 8)))
+                 replied(result, block(fill, number, 8)))
 
     def controller(self, rating, spread):
         both = float(rating) / 1e7, float(spread) / 1e7
         for units, double in zip((rating, spread), both):
             if abs(units) <= 1 << 53 and double != units / ref.UNITS:
                 raise AssertionError('two roundings of %d differ from one' % units)
-        self.add('controller', 'controller %d %d' % (rating, spread), Line('0' + block(0, struct.pack('>2d', *both), 16)))
+        self.add('controller', 'controller %d %d' % (rating, spread),
+                 Expected(0, '0' + block(0, struct.pack('>2d', *both), 16)))
 
     def whole(self, rating):
-        self.add('whole number', 'whole %d' % rating, Line('0 %d' % ref.whole_number(rating)))
+        self.add('whole number', 'whole %d' % rating, Expected(0, '0 %d' % ref.whole_number(rating)))
 
 
 def packed(records):
@@ -542,6 +506,106 @@ def blend_cases(cases, exact, seed):
         blend_split_cases(cases, draw, gases.small_blend(draw))
 
 
+# ------------------------------------------------------------ several codes at fault
+
+NO_CODE = 0, 9, 13, 14      # no amount is legal there
+ABSENT, AT_0, OUT = 'absent', 'at 0', 'out of range'
+# How the lowest of the codes at fault in a sheet stands; and the others, all alike or the first of them and the last.
+LOWEST = ABSENT, AT_0, OUT
+OTHERS = (AT_0,), (OUT,), (AT_0, OUT), (OUT, AT_0)
+EACH_WAY, EACH_CODE = 8, 4  # cases of a part
+
+
+def fault_kinds():
+    """(kind, the lowest, the others)"""
+    for lowest in LOWEST:
+        for others in OTHERS:
+            yield 'at fault: ' + ', '.join((lowest, *others)), lowest, others
+
+
+def wrong_amount(draw, code):
+    """Neither 0 nor in range."""
+    if code in NO_CODE:
+        return draw.pick((1, 100, U32 - 1, draw.between(1, U32 - 1)))
+    least, greatest = ref.RANGE[code]
+    return draw.pick((1, least - 1, greatest + 1, U32 - 1, draw.between(greatest + 1, U32 - 1)))
+
+
+def some_of(draw, items, count):
+    """So many of the items, in their order."""
+    left = list(items)
+    while len(left) > count:
+        left.pop(draw.below(len(left)))
+    return left
+
+
+def faulty_sheet(draw, stands):
+    """A sheet of any gas, but for the codes that stand otherwise."""
+    listed = dict(gases.listed_of(gases.any_gas(draw)))
+    for code, how in stands.items():
+        listed.pop(code, None)
+        if how != ABSENT:
+            listed[code] = 0 if how == AT_0 else wrong_amount(draw, code)
+    return gases.sheet_of(sorted(listed.items()), gases.random_records(draw) if draw.one_in(2) else None)
+
+
+def faulty_sheet_cases(cases, kind, sheet, code):
+    """Read and rated. The sheet is made so that this code is the lowest at fault: the reference has to say so too."""
+    got, result = read(sheet)
+    if not got == result == ref.Refusal(5, code):
+        raise Difference('the reference has %s for %s, the lowest at fault is %d' % (got, sheet.hex(), code))
+    cases.read(kind, sheet, got)
+    cases.rate(kind, sheet, result)
+
+
+def faulty_analysis_cases(cases, draw, kind, analysis, code):
+    """By each call that takes an analysis. It is made so that this code is the lowest at fault, as above."""
+    got = ref.check(analysis)
+    if got != ref.Refusal(5, code):
+        raise Difference('the reference has %s for %s, the lowest at fault is %d' % (got, analysis, code))
+    allowance = draw.pick((0, 1, ref.MOST_ROUNDS, U32 - 1))
+    cases.search(kind, analysis, allowance, search(analysis, allowance))
+    records = gases.random_records(draw)
+    cases.split(kind, analysis, len(records), records, rate_split(analysis, len(records), records))
+    room = draw.pick((0, ref.LONGEST))
+    cases.write(kind, analysis, len(records), records, room, room)
+
+
+def fault_cases(cases, seed):
+    """Two to five codes at fault at once, and 15 alone, above which there is none."""
+    draw = gases.Draw(seed + 6)
+    for kind, lowest, others in fault_kinds():
+        for _ in range(EACH_WAY):
+            count = draw.between(len(others), 4)
+            codes = [1, *some_of(draw, gases.CODES[1:], count)] if lowest == ABSENT \
+                else some_of(draw, gases.CODES, 1 + count)
+            between = [draw.pick(others) for _ in range(count - 2)]
+            ways = [lowest, others[0], *between, others[-1]][:1 + count]
+            faulty_sheet_cases(cases, kind, faulty_sheet(draw, dict(zip(codes, ways))), codes[0])
+    for code in gases.CODES:
+        for _ in range(EACH_CODE):
+            above = some_of(draw, [c for c in gases.CODES if c > code], draw.between(1, 4))
+            stands = {c: draw.pick((AT_0, OUT)) for c in (code, *above)}
+            if code == 1 and draw.one_in(2):
+                stands[code] = ABSENT
+            faulty_sheet_cases(cases, 'at fault in a sheet: code %d' % code, faulty_sheet(draw, stands), code)
+    for code in range(CODES):
+        for i in range(EACH_CODE):
+            above = some_of(draw, [c for c in range(CODES) if c > code], draw.between(1, 4))
+            without = [c for c in NO_CODE if c > code]
+            if without and i % 2:           # one of these at least
+                above[-1] = draw.pick(without)
+            a = list(gases.any_gas(draw))
+            for c in (code, *above):
+                a[c] = wrong_amount(draw, c)
+            kind = 'at fault in an analysis: code %d' % code
+            if code == 1 and i < EACH_CODE // 2:
+                a[1], kind = 0, kind + ', absent'
+            if code == 0 and i < EACH_CODE // 2:            # 0 goes before an absent methane
+                a[1] = 0
+            faulty_analysis_cases(cases, draw, kind, tuple(a), code)
+
+
 def at_no_code(draw, analysis):
     a = list(wide(analysis))
     a[draw.pick(NO_CODE)] = draw.pick((1, 100, U32 - 1))
@@ -634,7 +698,8 @@ def run(driver, lines, *options, under=()):
         given.write(''.join(line + '\n' for line in lines).encode())
         given.seek(0)
         try:
-            got = subprocess.run([*under, driver, *options], stdin=given, stdout=subprocess.PIPE, text=True, timeout=SECONDS)
+            got = subprocess.run([*under, driver, *options], stdin=given, stdout=subprocess.PIPE, text=True,
+                                 timeout=SECONDS)
         except subprocess.TimeoutExpired:
             raise Difference('the driver has not ended after %d seconds' % SECONDS) from None
     return got.returncode, got.stdout.split('\n')[:-1]
@@ -651,9 +716,9 @@ def compare(driver, cases, tally, *options, under=()):
         for one in expected:
             if at >= len(printed):
                 raise Difference('%s ended with status %s at this case (%s):\n  %s' % (driver, status, kind, line))
-            if not one.agrees(printed[at]):
+            if one.line != printed[at]:
                 raise Difference('%s differs (%s)\n  case      %s\n  reference %s\n  driver    %s'
-                                 % (kind, driver, line, one, printed[at]))
+                                 % (kind, driver, line, one.line, printed[at]))
             tally[kind, one.number] = tally.get((kind, one.number), 0) + 1
             at += 1
     if at != len(printed) or status != 0:
@@ -670,6 +735,7 @@ def part_cases(seed, sheets, first):
     seldom_cases(cases, exact, seed)
     lean_cases(cases, exact, seed)
     blend_cases(cases, exact, seed)
+    fault_cases(cases, seed)
     call_cases(cases, seed, sheets)
     for kind, sheet in itertools.islice(gases.sheets(seed, SEARCH_ONE_IN), sheets):
         sheet_cases(cases, exact, kind, sheet)
@@ -706,7 +772,7 @@ def show(tally):
 NO_SYSTEMS = 0, 9, 10, 11, 19, 21, U32 - 1
 
 # Of DEFAULT_SHEETS sheets: for each kind the numbers (0 for an answer) and how often at least, about half of what the
-# seed gives; of the ends of shares and of the cases kept in tests/data all.
+# seed gives; of several codes at fault, of the ends of shares and of the cases kept in tests/data all.
 LEAST = {
     # sheets without a split
     'search even_gas': {0: 300, 11: 5},
@@ -772,6 +838,16 @@ LEAST = {
     '188 bytes': {7: 10},
     '189 bytes': {1: 10},
     '13 components': {1: 10},
+    # several codes at fault: in a sheet how the lowest of them stands, and the others; the lowest; in an analysis
+    **{'at fault: ' + ways: {5: 320} for ways in (
+        'absent, at 0', 'absent, out of range', 'absent, at 0, out of range', 'absent, out of range, at 0',
+        'at 0, at 0', 'at 0, out of range', 'at 0, at 0, out of range', 'at 0, out of range, at 0',
+        'out of range, at 0', 'out of range, out of range', 'out of range, at 0, out of range',
+        'out of range, out of range, at 0')},
+    **{'at fault in a sheet: code %d' % code: {5: 160} for code in (*range(1, 9), 10, 11, 12, 15)},
+    **{'at fault in an analysis: code %d' % code: {5: 240} for code in (0, *range(2, 16))},
+    'at fault in an analysis: code 1': {5: 120},
+    'at fault in an analysis: code 1, absent': {5: 120},
     # sheets with a split
     'split absent-held': {8: 800},
     'split alone': {16: 800},
@@ -864,7 +940,7 @@ LEAST = {
     'kept: would-empty': {11: 24},
 }
 # Each number, of all kinds together; and ratings compared with the exact fraction.
-LEAST_NUMBERS = {0: 90000, 1: 20000, 2: 4500, 3: 5000, 4: 9000, 5: 14000, 6: 6300, 7: 11000, 8: 9000, 9: 1500,
+LEAST_NUMBERS = {0: 90000, 1: 20000, 2: 4500, 3: 5000, 4: 9000, 5: 19000, 6: 6300, 7: 11000, 8: 9000, 9: 1500,
                  10: 6000, 11: 1000, 12: 2000, 13: 1000, 14: 10000, 16: 2500, 17: 700}
 LEAST_EXACT = 4000
 
@@ -909,8 +985,8 @@ def main():
     missed = list(too_few(tally, compared)) if sheets >= DEFAULT_SHEETS else []
     if missed:
         sys.exit('differential: cases that occurred too seldom\n  ' + '\n  '.join(missed))
-    print('differential: %d sheets of seed %d, %d calls in all of each of %d drivers, no difference; %d ratings at most '
-          '%.2f units from exact; %.0f s'
+    print('differential: %d sheets of seed %d, %d calls in all of each of %d drivers, no difference; %d ratings at '
+          'most %.2f units from exact; %.0f s'
           % (sheets, seed, sum(tally.values()), len(options.drivers), compared, farthest, time.time() - begin))
 
 

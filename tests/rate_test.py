@@ -105,6 +105,12 @@ def refused():
         'nitrogen 0 % is outside 0.005 to 15 % (leave it out where it is absent)'
     yield components((2, 150000)), 5, 'methane is absent'
     yield components((2, 5)), 5, 'methane is absent; ethane 0.0005 % is outside 0.01 to 15 %'
+    yield components((1, 970000), (2, 99), (6, 0), (7, 20001)), 5, \
+        'ethane 0.0099 % is outside 0.01 to 15 %; neo-pentane 0 % is outside 0.001 to 0.05 % (leave it out where it ' \
+        'is absent); i-pentane 2.0001 % is outside 0.001 to 2 %'
+    yield components((3, 0), (6, 501)), 5, \
+        'methane is absent; propane 0 % is outside 0.01 to 6 % (leave it out where it is absent); neo-pentane ' \
+        '0.0501 % is outside 0.001 to 0.05 %'
     yield bytes(2), 5, 'methane is absent'
     yield changed(c1=970697), 6, 'the total is 99.9899 %, outside 99.99 to 100.01 %'
     yield changed(c1=970899), 6, 'the total is 100.0101 %, outside 99.99 to 100.01 %'
@@ -352,6 +358,19 @@ def without_python(place):
     expect('no Python, help', place.run('--help', path=place.bare)[0] == 0, '')
 
 
+def at_fault(sheet):
+    """All codes at fault of a sheet that 5 turns away, rising."""
+    listed = {sheet[at]: int.from_bytes(sheet[at + 1:at + 5], 'big') for at in range(1, 1 + 5 * sheet[0], 5)}
+    return [code for code, (least, greatest) in sorted(ref.RANGE.items())
+            if (not least <= listed[code] <= greatest if code in listed else code in ref.REQUIRED)]
+
+
+def named(part):
+    """The code of the component whose name a part of the words begins with."""
+    codes = [c.code for c in gas.COMPONENTS if part.startswith(c.name + ' ')]
+    return codes[0] if len(codes) == 1 else None
+
+
 def words(place):
     """Both ways to the words of a rating, the script's and Python's, at figures that no gas has; other programs."""
     for units, number in ((0, '0.0000'), (499, '0.0000'), (500, '0.0001'), (1499, '0.0001'), (1500, '0.0002'),
@@ -373,8 +392,8 @@ def words(place):
         place.script(place.program, text)
         for got in (place.run(given=TABLE), place.run('table-a1.sheet')):
             expect(text, got[:2] == (2, b'') and 'the display program ended with status' in got[2], got)
-    # Whatever the number and the bytes, words come, and begin with the number.
-    draw = random.Random(4)
+    # Whatever the number and the bytes, words come, and begin with the number; those of 5 name all at fault.
+    draw, several = random.Random(4), 0
     cases = [sheet for sheet, _, _ in refused()]
     for _ in range(3000):
         sheet = bytearray(draw.choice(cases))
@@ -393,9 +412,11 @@ def words(place):
             if answer.number in (2, 3, 4):
                 expect('the place', detail.startswith('record %d ' % (answer.at + 1)), (answer, detail))
             if answer.number == 5:
-                at_fault = {c.code for c in gas.COMPONENTS if any(
-                    part.startswith(c.name + ' ') for part in detail.split('; '))}
-                expect('the codes', at_fault == answer.at, (answer, detail))
+                codes = [named(part) for part in detail.split('; ')]
+                expect('the codes', codes == at_fault(sheet), (answer, detail))
+                expect('the lowest code', codes[:1] == [answer.at], (answer, detail))
+                several += len(codes) > 1
+    expect('several codes', several >= 200, several)
 
 
 def building(path, program):

@@ -1,5 +1,5 @@
 #!/usr/bin/env python3
-"""Cases for reading and writing sheets, with the answers that document 01 and requests Five and Seven fix.
+"""Cases for reading and writing sheets, with the answers that document 01 and requests Four, Five and Seven fix.
 
 sheet_cases.py           writes crates/sheet_cases/data/ and crates/sheet_cases/stdout
 sheet_cases.py --check   compares those files with what is made here
@@ -8,21 +8,20 @@ The reader below is written from document 01 ("The register and the sheet",
 "What is turned away") and these requests, apart from the program that is tested.
 
 A data file is a count of cases in two bytes and the cases, all numbers high
-byte first. A case is a length in two bytes, the codes at fault in two bytes
-(bit k for code k) and so many bytes: a sheet to read, or in `writings` 16
-amounts of four bytes, a split count, 21 split records and the sheet that is
-to be written. One line is printed for each:
+byte first. A case is a length in two bytes and so many bytes: a sheet to read,
+or in `writings` 16 amounts of four bytes, a split count, 21 split records, the
+lowest code at fault (255 where none is) and the sheet that is to be written.
+One line is printed for each:
 
   READ      16 amounts (indexed by code), SPLIT, split count, three fields a
             record, WRITE and its counts
-  REFUSED   number, and for 2 to 4 the place, for 5 FAULT where the code that
-            came with it is at fault
+  REFUSED   number, and for 2 to 4 the place, for 5 the code
 
 The counts after WRITE are over buffers of 0 to 189 bytes: refused 1, refused 5
-with a code at fault, refused 6, refused 14, written, and anything else. A refusal
-counts only where the buffer is unchanged; a writing only where the length is
-the sheet's, the sheet's bytes stand first and the bytes after them are
-unchanged.
+with the lowest code at fault, refused 6, refused 14, written, and anything else.
+A refusal counts only where the buffer is unchanged, and 1, 6 and 14 only with
+code 0; a writing only where the length is the sheet's, the sheet's bytes stand
+first and the bytes after them are unchanged.
 """
 import os
 import sys
@@ -42,6 +41,7 @@ MOST_RECORDS = 21
 SPLIT_COUNTS = (0, *range(6, MOST_RECORDS + 1, 3))
 COMPONENT_SIZE, SPLIT_SIZE = 5, 6
 LARGEST_BUFFER = 189
+NO_FAULT = 255
 U32 = (1 << 32) - 1
 
 
@@ -62,26 +62,23 @@ def sections(data):
     return found if at == len(data) else None
 
 
-def faults(amounts, listed):
-    """The codes at fault: an amount outside its range, or methane absent."""
-    wrong = {c for c in REQUIRED if c not in listed}
-    for c in listed:
-        if c not in RANGE or not RANGE[c][0] <= amounts[c] <= RANGE[c][1]:
-            wrong.add(c)
-    return wrong
+def at_fault(code, amount, listed):
+    """Is it listed with an amount outside its range, or absent and may not be?"""
+    if not listed:
+        return code in REQUIRED
+    return code not in RANGE or not RANGE[code][0] <= amount <= RANGE[code][1]
 
 
 def checked(amounts, listed):
-    """(number, codes at fault), number 0 where the analysis is in range."""
-    wrong = faults(amounts, listed)
-    if wrong:
-        return 5, wrong
-    total = sum(amounts)
-    return (0 if LEAST_TOTAL <= total <= GREATEST_TOTAL else 6), set()
+    """(5, the lowest code at fault), (6, None), or (0, None) where the analysis is in range."""
+    for code in range(CODES):
+        if at_fault(code, amounts[code], code in listed):
+            return 5, code
+    return (0 if LEAST_TOTAL <= sum(amounts) <= GREATEST_TOTAL else 6), None
 
 
 def read(data):
-    """('READ', amounts, split), or ('REFUSED', number, place or codes at fault)."""
+    """('READ', amounts, split), or ('REFUSED', number, place or code or None)."""
     found = sections(data)
     if found is None:
         return 'REFUSED', 1, None
@@ -96,9 +93,9 @@ def read(data):
         if code <= before:
             return 'REFUSED', 4, place
         before, amounts[code] = code, number(record[1:])
-    refused, wrong = checked(amounts, [record[0] for record in components])
+    refused, code = checked(amounts, [record[0] for record in components])
     if refused:
-        return 'REFUSED', refused, wrong or None
+        return 'REFUSED', refused, code
     return 'READ', amounts, [(r[0], r[1], number(r[2:])) for r in records]
 
 
@@ -123,19 +120,20 @@ def line(data):
     if answer[0] == 'READ':
         _, amounts, split = answer
         fields = ['READ', *amounts, 'SPLIT', len(split), *(x for r in split for x in r), 'WRITE', *written(len(data))]
-    elif answer[1] == 5:
-        fields = ['REFUSED', 5, 'FAULT']
     else:
         fields = [x for x in answer if x is not None]
     return ' '.join(map(str, fields))
 
 
 # The gas of 001 Table A.1, and its starting split.
-GAS = [(1, 970797), (2, 16658), (3, 2417), (4, 346), (5, 245), (6, 11), (7, 73), (8, 125), (10, 84), (11, 528), (12, 8715)]
-START = [(4, 1, 326410), (4, 2, 8402), (4, 3, 1219), (7, 1, 326410), (7, 3, 1219), (7, 14, 765), (8, 1, 326409), (8, 2, 8401), (8, 14, 765)]
+GAS = [(1, 970797), (2, 16658), (3, 2417), (4, 346), (5, 245), (6, 11), (7, 73), (8, 125), (10, 84), (11, 528),
+       (12, 8715)]
+START = [(4, 1, 326410), (4, 2, 8402), (4, 3, 1219), (7, 1, 326410), (7, 3, 1219), (7, 14, 765), (8, 1, 326409),
+         (8, 2, 8401), (8, 14, 765)]
 # Five components, and records that no split should have.
 FIVE = [(1, 900000), (2, 60000), (3, 30000), (4, 5000), (5, 5000)]
-ODD = [(0, 0, 0), (255, 255, U32), (20, 9, 1), (7, 13, 256), (7, 3, 65536), (7, 3, 16777216), (2, 14, 100), (1, 2, 3), (9, 9, 9)]
+ODD = [(0, 0, 0), (255, 255, U32), (20, 9, 1), (7, 13, 256), (7, 3, 65536), (7, 3, 16777216), (2, 14, 100), (1, 2, 3),
+       (9, 9, 9)]
 
 # Methane and ethane, and its starting split; methane alone.
 LEAN = [(1, 970000), (2, 10000), (11, 20000)]
@@ -190,7 +188,8 @@ def counts():
             whole = sheet(base, [(4, 1, n)] * n)
             yield from (whole, whole[:-1], whole + b'\0')
     # Counts with another one's records.
-    for split, n in ((LEAN_START, 9), (START, 6), (BLEND_SPLIT, 12), (BLEND_SPLIT, 18), (BLEND_SPLIT[:12], 15), (MOST, 18)):
+    for split, n in ((LEAN_START, 9), (START, 6), (BLEND_SPLIT, 12), (BLEND_SPLIT, 18), (BLEND_SPLIT[:12], 15),
+                     (MOST, 18)):
         for base in (LEAN, BLEND):
             whole = sheet(base, split)
             at = 1 + COMPONENT_SIZE * len(base)
@@ -204,7 +203,8 @@ def counts():
 
 def put(records, place, code=None, amount=None):
     old = records[place]
-    return records[:place] + [(old[0] if code is None else code, old[1] if amount is None else amount)] + records[place + 1:]
+    new = (old[0] if code is None else code, old[1] if amount is None else amount)
+    return records[:place] + [new] + records[place + 1:]
 
 
 def codes():
@@ -226,7 +226,8 @@ def codes():
     for first in (0, 9, 13, 14, 1, 15, 16):
         for second in (0, 9, 13, 14, 1, 15, 16):
             both = put(put(GAS, 4, first), 7, second)
-            yield from (sheet(both), sheet(both) + b'\0', sheet(put(both, 0, None, 0)), sheet(put(both, 10, None, U32), START))
+            yield from (sheet(both), sheet(both) + b'\0', sheet(put(both, 0, None, 0)))
+            yield sheet(put(both, 10, None, U32), START)
     # The code before counts also where its amount is out of range, and a retired code below it stays retired.
     yield sheet([(12, 8715), (9, 100)])
     yield sheet([(12, 8715), (11, 528)])
@@ -245,7 +246,8 @@ def amounts():
     for base, place in [(GAS, place) for place in range(len(GAS))] + [(BLEND, 1), (BLEND, 11), (HYDROGEN, 1)]:
         code = base[place][0]
         least, greatest = RANGE[code]
-        for amount in (0, 1, 49, 50, 99, 100, least - 1, least, least + 1, greatest - 1, greatest, greatest + 1, 1 << 24, 1 << 31, U32):
+        for amount in (0, 1, 49, 50, 99, 100, least - 1, least, least + 1, greatest - 1, greatest, greatest + 1,
+                       1 << 24, 1 << 31, U32):
             if not 0 <= amount <= U32:
                 continue
             changed = put(base, place, None, amount)
@@ -268,19 +270,48 @@ def amounts():
     # Methane with one other, and alone.
     yield from (sheet(LEAN), sheet(LEAN, LEAN_START), sheet(LEAN, START), sheet(ALONE), sheet(ALONE, LEAN_START))
     yield from (sheet([(1, 999700), (12, 300)]), sheet([(1, 999700), (3, 300)]), sheet([(1, 999700), (6, 300)]))
-    yield from (sheet([(1, 999690), (4, 10), (12, 300)]), sheet([(1, 999691), (4, 9), (12, 300)]), sheet([(1, 1000000)]))
+    yield from (sheet([(1, 999690), (4, 10), (12, 300)]), sheet([(1, 999691), (4, 9), (12, 300)]))
+    yield sheet([(1, 1000000)])
     # Methane at its ends.
     yield sheet([(1, 999700), (2, 100), (3, 100), (4, 50), (5, 50)])
     yield sheet([(1, 999701), (2, 100), (3, 100), (4, 50), (5, 49)])
-    yield sheet([(1, 400000), (2, 150000), (3, 60000), (4, 40000), (5, 40000), (7, 20000), (8, 20000), (10, 15000), (11, 100000), (12, 150000)])
-    yield sheet([(1, 405000), (2, 150000), (3, 60000), (4, 40000), (5, 40000), (7, 20000), (8, 20000), (10, 15000), (11, 100000), (12, 150000)])
-    yield sheet([(1, 399999), (2, 150000), (3, 60000), (4, 40000), (5, 40000), (7, 20000), (8, 20000), (10, 20000), (11, 100000), (12, 150000)])
+    for methane, hexanes in ((400000, 15000), (405000, 15000), (399999, 20000)):
+        yield sheet([(1, methane), (2, 150000), (3, 60000), (4, 40000), (5, 40000), (7, 20000), (8, 20000),
+                     (10, hexanes), (11, 100000), (12, 150000)])
     # Ethane 99 and 100.
     yield sheet([(1, 969901), (2, 99), (3, 20000), (4, 5000), (5, 5000)])
     yield sheet([(1, 969900), (2, 100), (3, 20000), (4, 5000), (5, 5000)])
     # 5 before 6, one code at fault or two.
     yield sheet(put(put(GAS, 1, None, 99), 0, None, 400000))
     yield sheet(put(put(GAS, 1, None, 150001), 9, None, 100001))
+
+
+def faults():
+    """Several codes at fault, in the sheet that lists every code."""
+    def wrong(amounts, absent=()):
+        """BLEND with other amounts {code: amount}, and without some codes."""
+        return sheet([(c, amounts.get(c, x)) for c, x in BLEND if c not in absent])
+
+    # Listed at 0 beside an amount out of range, on either side; methane absent as well, or listed at 0.
+    for others in ({6: 0, 7: 20001}, {2: 99, 6: 0}, {2: 150001, 6: 0, 7: 9}, {6: 9, 7: 0, 8: 20001},
+                   {6: 0, 7: 9, 8: 0}):
+        yield from (wrong(others), wrong(others, [1]), wrong({1: 0, **others}), wrong({1: 399999, **others}))
+        yield wrong(others, [c for c, _ in BLEND if c not in others and c != 1])
+        yield wrong(others, [c for c, _ in BLEND if c not in others])
+    # Every two codes, each out of range or listed at 0; the first absent, which is a fault of methane alone; and the
+    # first with all from the second on.
+    for i, (first, _) in enumerate(BLEND):
+        for second, _ in BLEND[i + 1:]:
+            low, high = RANGE[first][0] - 1, RANGE[second][1] + 1
+            yield from (wrong({first: low, second: high}), wrong({first: low, second: 0}))
+            yield from (wrong({first: 0, second: high}), wrong({first: 0, second: 0}))
+            yield from (wrong({second: high}, [first]), wrong({second: 0}, [first]))
+            later = {c: RANGE[c][1] + 1 if c % 2 else 0 for c, _ in BLEND if c >= second}
+            yield from (wrong({first: low, **later}), wrong({first: 0, **later}))
+    # All of them at 0, from each code on; without methane too.
+    for place in range(len(BLEND)):
+        zeros = {c: 0 for c, _ in BLEND[place:]}
+        yield from (wrong(zeros), wrong(zeros, [1]))
 
 
 def totals():
@@ -298,6 +329,7 @@ def fields():
     yield from counts()
     yield from codes()
     yield from amounts()
+    yield from faults()
     yield from totals()
 
 
@@ -323,31 +355,41 @@ def writings():
     # Counts that are not allowed, before 5 and 6.
     for n in (*range(1, 25), 127, 128, 255):
         for split in ([(4, 1, n)] * n, (MOST * 13)[:n]):
-            yield from ((gas, split), (lean, split), (alone, split), ([0] * CODES, split), ([0, 900000] + gas[2:], split))
-            yield blend, split
+            yield from ((gas, split), (lean, split), (alone, split), (blend, split))
+            yield from (([0] * CODES, split), ([0, 900000] + gas[2:], split))
+    # Several codes at fault, those without a range among them: every two, and all from each on; methane absent.
+    def wrong(code):
+        return RANGE[code][1] + 1 if code in RANGE else 1
+    for first in range(CODES):
+        for second in range(first + 1, CODES):
+            yield [wrong(c) if c in (first, second) else x for c, x in enumerate(blend)], []
+            yield [0 if c == 1 else wrong(c) if c in (first, second) else x for c, x in enumerate(gas)], START
+        yield [wrong(c) if c >= first else x for c, x in enumerate(gas)], []
+        yield [0 if c == 1 else wrong(c) if c >= first else x for c, x in enumerate(blend)], BLEND_SPLIT
 
 
 def write_case(analysis, split):
     """The case's bytes, and its line."""
-    refused, wrong = checked(analysis, [c for c in range(CODES) if analysis[c]])
+    refused, code = checked(analysis, [c for c in range(CODES) if analysis[c]])
     if len(split) not in SPLIT_COUNTS:
-        refused, wrong = 1, set()
+        refused, code = 1, None
     records = (split + [(0, 0, 0)] * MOST_RECORDS)[:MOST_RECORDS]
     body = b''.join(a.to_bytes(4, 'big') for a in analysis) + bytes([len(split)])
     body += b''.join(bytes([s, c]) + a.to_bytes(4, 'big') for s, c, a in records)
+    body += bytes([NO_FAULT if code is None else code])
     if refused:
         counted = [LARGEST_BUFFER + 1 if number == refused else 0 for number in (1, 5, 6, 14)] + [0, 0]
     else:
         out = sheet([(c, analysis[c]) for c in range(CODES) if analysis[c]], split)
         counted, body = written(len(out)), body + out
-    return body, wrong, ' '.join(map(str, ['WRITE', *counted]))
+    return body, ' '.join(map(str, ['WRITE', *counted]))
 
 
 def packed(cases):
-    """A data file of (bytes, codes at fault)."""
+    """A data file."""
     out = len(cases).to_bytes(2, 'big')
-    for data, wrong in cases:
-        out += len(data).to_bytes(2, 'big') + sum(1 << c for c in wrong).to_bytes(2, 'big') + data
+    for data in cases:
+        out += len(data).to_bytes(2, 'big') + data
     return out
 
 
@@ -360,12 +402,11 @@ def files():
     made, out = {}, []
     for topic in (truncations, extensions, flips, fields):
         cases = once(topic())
-        answers = [read(data) for data in cases]
-        made['data/' + topic.__name__] = packed([(d, a[2] if a[:2] == ('REFUSED', 5) else ()) for d, a in zip(cases, answers)])
+        made['data/' + topic.__name__] = packed(cases)
         out += [topic.__name__] + [line(data) for data in cases]
-    cases = [write_case(a, s) for a, s in writings()]
-    made['data/writings'] = packed([(data, wrong) for data, wrong, _ in cases])
-    out += ['writings'] + [text for _, _, text in cases]
+    cases = once(write_case(a, s) for a, s in writings())
+    made['data/writings'] = packed([data for data, _ in cases])
+    out += ['writings'] + [text for _, text in cases]
     made['stdout'] = ('\n'.join(out) + '\n').encode()
     return made
 
@@ -377,12 +418,21 @@ def self_test():
     rest = sum(x for c, x in GAS if c != 1)
     for total, answer in ((999899, 'REFUSED 6'), (999900, 'READ'), (1000100, 'READ'), (1000101, 'REFUSED 6')):
         assert line(sheet(put(GAS, 0, None, total - rest))).startswith(answer)
-    assert line(sheet([(1, 969901), (2, 99), (3, 20000), (4, 5000), (5, 5000)])) == 'REFUSED 5 FAULT'
+    assert line(sheet([(1, 969901), (2, 99), (3, 20000), (4, 5000), (5, 5000)])) == 'REFUSED 5 2'
     assert line(sheet([(1, 969900), (2, 100), (3, 20000), (4, 5000), (5, 5000)])).startswith('READ')
+    # and request Four
+    for records, code in (([(1, 970000), (6, 0), (7, 20001)], 6), ([(6, 0), (7, 20001)], 1),
+                          ([(1, 970000), (2, 99), (6, 0)], 2), ([(1, 970000), (3, 60001), (6, 0), (8, 9)], 3),
+                          ([(1, 970000), (8, 0), (15, 0)], 8), ([(1, 0), (2, 0)], 1), ([(2, 99), (6, 0)], 1)):
+        assert line(sheet(records)) == 'REFUSED 5 %d' % code
+    for amounts, code in (({0: 1, 1: 0, 2: 99}, 0), ({1: 0, 9: 1}, 1), ({9: 1, 10: 9}, 9), ({12: 49, 13: 1}, 12),
+                          ({13: 1, 14: 1}, 13), ({14: 1, 15: 9}, 14)):
+        analysis = [amounts.get(c, dict(GAS).get(c, 0)) for c in range(CODES)]
+        assert checked(analysis, [c for c in range(CODES) if analysis[c]]) == (5, code)
     # and request Five
     assert line(sheet(LEAN, LEAN_START)).startswith('READ') and line(sheet(ALONE)).startswith('READ')
     assert line(sheet(GAS, START[:3])) == line(sheet(LEAN, START + START[:1])) == 'REFUSED 1'
-    assert line(sheet(GAS[1:])) == line(sheet(LEAN[:2] + [(3, 0)] + LEAN[2:])) == 'REFUSED 5 FAULT'
+    assert line(sheet(GAS[1:])) == 'REFUSED 5 1' and line(sheet(LEAN[:2] + [(3, 0)] + LEAN[2:])) == 'REFUSED 5 3'
     # and request Seven
     assert sum(x for _, x in BLEND) == sum(x for _, x in HYDROGEN) == 1000000
     assert len(sheet(BLEND, MOST)) == 188 == LARGEST_BUFFER - 1 and len(BLEND) == MOST_COMPONENTS

@@ -17,6 +17,7 @@ def methane_number(units):
 
 
 def out_of_range(sheet):
+    """All that is at fault, in the order of the codes: the first is the code that the C interface gives."""
     wrong = []
     components = dict(gas.listed(sheet))
     if gas.REQUIRED not in components:

@@ -53,11 +53,14 @@ static int in_range(int code, uint32_t amount)
     return ranges[code].least <= amount && amount <= ranges[code].greatest;
 }
 
-static saugrinte_answer check(const uint32_t amounts[CODES])
+/* Refusal 5 with the lowest code at fault, then 6. An amount of 0 is at fault where the code is required, or is listed
+   all the same: zeros has a bit for each code that a sheet lists at 0. */
+static saugrinte_answer check(const uint32_t amounts[CODES], uint32_t zeros)
 {
     uint64_t total = 0;
     for (int code = 0; code < CODES; code++) {
-        if (amounts[code] == 0 ? ranges[code].required : !in_range(code, amounts[code]))
+        int listed_at_0 = zeros >> code & 1;
+        if (amounts[code] == 0 ? ranges[code].required || listed_at_0 : !in_range(code, amounts[code]))
             return refused(OUT_OF_RANGE, code);
         total += amounts[code];
     }
@@ -660,7 +663,8 @@ static saugrinte_answer parse(const uint8_t *sheet, size_t length, contents *out
     out->count = second[0];
     if (!allowed(out->count) || length != 2 + 5 * components + 6 * out->count)
         return refused(TORN, 0);
-    int before = 0, at_fault = 0;
+    int before = 0;
+    uint32_t zeros = 0;
     for (size_t r = 0; r < components; r++) {
         const uint8_t *record = sheet + 1 + 5 * r;
         int code = record[0];
@@ -672,12 +676,10 @@ static saugrinte_answer parse(const uint8_t *sheet, size_t length, contents *out
             return refused(OUT_OF_ORDER, r);
         out->amounts[code] = four_bytes(record + 1);
         if (out->amounts[code] == 0)
-            at_fault = code;
+            zeros |= 1u << code;
         before = code;
     }
-    if (at_fault)
-        return refused(OUT_OF_RANGE, at_fault);
-    saugrinte_answer checked = check(out->amounts);
+    saugrinte_answer checked = check(out->amounts, zeros);
     if (checked.number)
         return checked;
     for (size_t r = 0; r < out->count; r++) {
@@ -732,7 +734,7 @@ saugrinte_answer saugrinte_search(const uint32_t amounts[CODES], uint32_t allowa
                                   size_t *count, uint8_t systems[ROOM], uint8_t codes[ROOM], uint32_t parts[ROOM])
 {
     split found;
-    saugrinte_answer answer = check(amounts);
+    saugrinte_answer answer = check(amounts, 0);
     if (answer.number)
         return answer;
     answer = find(amounts, allowance < ROUNDS ? allowance : ROUNDS, figures, &found);
@@ -744,7 +746,7 @@ saugrinte_answer saugrinte_search(const uint32_t amounts[CODES], uint32_t allowa
 saugrinte_answer saugrinte_rate_split(const uint32_t amounts[CODES], size_t count, const uint8_t systems[ROOM],
                                       const uint8_t codes[ROOM], const uint32_t parts[ROOM], saugrinte_figures *figures)
 {
-    saugrinte_answer answer = check(amounts);
+    saugrinte_answer answer = check(amounts, 0);
     if (answer.number)
         return answer;
     return rate_records(amounts, count, systems, codes, parts, figures);
@@ -785,7 +787,7 @@ saugrinte_answer saugrinte_write(const uint32_t amounts[CODES], size_t count, co
 {
     if (!allowed(count))
         return refused(TORN, 0);
-    saugrinte_answer answer = check(amounts);
+    saugrinte_answer answer = check(amounts, 0);
     if (answer.number)
         return answer;
     size_t components = 0;

@@ -725,7 +725,7 @@ def sheets(seed, search_one_in=16):
 
 class Answer(NamedTuple):
     number: int         # 0 when rated
-    at: object          # place for 2 to 4, set of codes for 5, else None
+    at: object          # place for 2 to 4, lowest code for 5, else None
     rating: object
     whole: object
     spread: object

@@ -223,8 +223,7 @@ def show_gases():
         systems = ",".join(map(str, systems))
         if isinstance(got, ref.Refusal):
             assert REFUSED.get(name) == got.number, name
-            at = "" if got.at is None else " code " + \
-                ",".join(map(str, sorted(got.at)))
+            at = " code %d" % got.at if got.number == 5 else ""
             print("%-16s %11s   REFUSED %d%s; choice %s"
                   % (name, number, got.number, at, systems))
             continue

@@ -1,12 +1,12 @@
 """Reference program for the methane number rating, written from document 01,
-for lean gases from request Five of document 02, for single systems from its
-request Six and for hydrogen blends from its request Seven, alone.  Whole
-numbers and exact fractions only.
+for the code with refusal 5 from request Four of document 02, for lean gases
+from its request Five, for single systems from its request Six and for hydrogen
+blends from its request Seven, alone.  Whole numbers and exact fractions only.
 
 An analysis is a tuple of 16 amounts in parts, indexed by code; 0 is absent,
-and places 0, 9, 13 and 14 are always 0.  A split is three records (system,
-code, amount) for each system chosen.  A refusal is Refusal(number, at): `at` is the
-record's place for 2 to 4, the set of all codes at fault for 5, else None.
+and no amount is legal at 0, 9, 13 and 14.  A split is three records (system,
+code, amount) for each system chosen.  A refusal is Refusal(number, at): `at`
+is the record's place for 2 to 4, the lowest code at fault for 5, else None.
 
 Command line: reads a sheet on standard input, prints the display line.
 """
@@ -282,21 +282,27 @@ def read(sheet):
     return tuple(listed.get(c, 0) for c in range(CODES)), split
 
 
+def in_range(code, amount):
+    """Never for a code that no analysis has."""
+    least, greatest = RANGE.get(code, (1, 0))
+    return least <= amount <= greatest
+
+
 def check_listed(listed):
-    """5 or 6 for {code: amount} as listed, else None."""
+    """5 or 6 for {code: amount} as listed, else None.  At fault are the codes
+    that must be there and aren't, and those listed with an amount outside
+    their range, 0 too; 5 carries the lowest of them all."""
     fault = {c for c in REQUIRED if c not in listed}
-    for code, amount in listed.items():
-        least, greatest = RANGE[code]
-        if not least <= amount <= greatest:
-            fault.add(code)
+    fault |= {c for c, amount in listed.items() if not in_range(c, amount)}
     if fault:
-        return Refusal(5, frozenset(fault))
+        return Refusal(5, min(fault))
     if not LEAST_TOTAL <= sum(listed.values()) <= GREATEST_TOTAL:
         return Refusal(6)
     return None
 
 
 def check(analysis):
+    """5 or 6 for an analysis, else None."""
     return check_listed({c: a for c, a in enumerate(analysis) if a})
 
 

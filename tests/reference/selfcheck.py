@@ -1,8 +1,8 @@
 """Checks the reference against document 01: the figures given there, the
 limits of 19 and 40 units, found splits put back, and sums; and against the
-requests Five, Six and Seven of document 02: lean gases, the choice for each
-set of components present; the systems, their rule and their ranges; hydrogen
-blends.
+requests Four to Seven of document 02: the lowest code at fault; lean gases, the
+choice for each set of components present; the systems, their rule and their
+ranges; hydrogen blends.
 
 selfcheck.py [SEED [GASES]]     default 1 and 300
 """
@@ -69,7 +69,7 @@ def compared_figures():
     assert not isinstance(ref.read(sheet(c1=970797 + 101)), Refusal)
     assert ref.read(sheet(c1=970797 + 102)) == Refusal(6)
     rest = 970797 + 16658
-    assert ref.read(sheet(c2=99, c1=rest - 99)) == Refusal(5, frozenset([2]))
+    assert ref.read(sheet(c2=99, c1=rest - 99)) == Refusal(5, 2)
     assert not isinstance(ref.read(sheet(c2=100, c1=rest - 100)), Refusal)
     assert ref.choose(ref.simplify(EXAMPLE_1)) == (4, 7, 8)
     assert ref.choose(ref.simplify(EXAMPLE_2)) == (4, 7, 8)
@@ -87,7 +87,7 @@ def refusals():
     assert ref.read(good + b"\0") == Refusal(1)
     assert ref.read(bytes([13]) + bytes(200)) == Refusal(1)
     assert ref.read(bytes([0, 1]) + bytes(6)) == Refusal(1)
-    assert ref.read(bytes(2)) == Refusal(5, frozenset([1]))
+    assert ref.read(bytes(2)) == Refusal(5, 1)
 
     def listed(*records):
         return ref.read(gases.sheet_of(records, ()))
@@ -99,8 +99,7 @@ def refusals():
     assert listed((1, 0), (2, 0), (2, 0)) == Refusal(4, 2)
     assert listed((2, 0), (1, 0), (0, 0)) == Refusal(4, 1)
     assert listed(*((c, ref.RANGE[c][0] if c < 6 else 0)
-                    for c in sorted(ref.RANGE))).at == \
-        frozenset([6, 7, 8, 10, 11, 12, 15])
+                    for c in sorted(ref.RANGE))) == Refusal(5, 6)
 
     def split(*changes):
         records = [list(r) for r in found.split]
@@ -140,9 +139,132 @@ def refusals():
                 assert buffer == sheet + b"\xA5" * (room - len(sheet))
         assert ref.read(sheet) == (A1, split)
     thin = (0, 970797, 99, *A1[3:])
-    assert ref.write(thin, None, bytearray()) == Refusal(5, frozenset([2]))
+    assert ref.write(thin, None, bytearray()) == Refusal(5, 2)
     light = (0, 900000, *A1[2:])
     assert ref.write(light, None, bytearray()) == Refusal(6)
+
+
+# How a code can stand in an analysis or a sheet.
+ABSENT, AT_0, BELOW, WITHIN, ABOVE = "absent", "at 0", "below", "within", "above"
+NO_CODE = (0, 9, 13, 14)
+
+
+def amount_of(code, how):
+    """Within is the least, so that no total is in range; a code that no
+    analysis has is above at once."""
+    least, greatest = ref.RANGE.get(code, (0, 0))
+    return {ABSENT: 0, AT_0: 0, BELOW: least - 1, WITHIN: least,
+            ABOVE: greatest + 1}[how]
+
+
+def first_fault(stands):
+    """Going up the codes, 5 with the first that is at fault, or 6."""
+    for code in sorted(stands):
+        if stands[code] in (AT_0, BELOW, ABOVE) or \
+                stands[code] == ABSENT and code == 1:
+            return Refusal(5, code)
+    return Refusal(6)
+
+
+def sheet_fault(stands):
+    """What reading and rating give for a sheet whose codes stand so."""
+    sheet = gases.sheet_of([(c, amount_of(c, stands[c])) for c in sorted(stands)
+                            if stands[c] != ABSENT], ())
+    got = ref.read(sheet)
+    assert ref.rate(sheet) == got
+    return got
+
+
+def analysis_fault(stands):
+    """What each call gives for an analysis whose codes stand so."""
+    analysis = tuple(amount_of(c, stands.get(c, ABSENT))
+                     for c in range(ref.CODES))
+    got = ref.check(analysis)
+    assert ref.search(analysis, 0) == got
+    assert ref.rate_split(analysis, ()) == got
+    assert ref.write(analysis, None, bytearray()) == got
+    return got
+
+
+def lowest_code(seed, count):
+    """Request Four: of several codes at fault 5 carries the lowest, an absent
+    one included, and in a sheet one listed at 0."""
+    def listed(*records):
+        return ref.read(gases.sheet_of(records, ()))
+
+    def analysis(**amounts):
+        return ref.check(tuple(amounts.get("c%d" % c, A1[c])
+                               for c in range(ref.CODES)))
+    # Listed at 0 below, between and above others; twice; methane absent, or
+    # listed at 0; all at once.
+    methane = (1, 970000)
+    assert listed(methane, (6, 0), (7, 20001)) == Refusal(5, 6)
+    assert listed((6, 0), (7, 20001)) == Refusal(5, 1)
+    assert listed(methane, (2, 99), (6, 0)) == Refusal(5, 2)
+    assert listed(methane, (2, 150001), (6, 0), (7, 9)) == Refusal(5, 2)
+    assert listed(methane, (3, 0), (6, 501), (8, 0)) == Refusal(5, 3)
+    assert listed(methane, (3, 60001), (6, 0), (8, 0)) == Refusal(5, 3)
+    assert listed(methane, (8, 0), (12, 0), (15, 0)) == Refusal(5, 8)
+    assert listed((1, 0), (2, 99), (3, 0)) == Refusal(5, 1)
+    assert listed((1, 399999), (2, 0)) == Refusal(5, 1)
+    assert listed((2, 0), (15, 0)) == listed((2, 99)) == Refusal(5, 1)
+    assert listed(*((c, 0) for c in sorted(ref.RANGE))) == Refusal(5, 1)
+    assert listed(*((c, 0) for c in sorted(ref.RANGE) if c > 1)) == \
+        Refusal(5, 1)
+    # An amount at 0, 9, 13 or 14 of an analysis.
+    assert analysis(c0=1) == analysis(c0=1, c1=0, c2=99) == Refusal(5, 0)
+    assert analysis(c1=0, c9=1, c14=1) == Refusal(5, 1)
+    assert analysis(c9=1, c10=15001) == analysis(c9=1, c13=1) == Refusal(5, 9)
+    assert analysis(c8=9, c9=1) == Refusal(5, 8)
+    assert analysis(c12=49, c13=1, c14=1) == Refusal(5, 12)
+    assert analysis(c13=1, c14=1, c15=9) == Refusal(5, 13)
+    assert analysis(c14=2 ** 32 - 1, c15=100001) == Refusal(5, 14)
+    assert analysis(c15=100001) == Refusal(5, 15)
+
+    # Every two codes in every way, the others within or absent; then any.
+    codes = sorted(ref.RANGE)
+    within = dict.fromkeys(codes, WITHIN)
+    alone = {**dict.fromkeys(codes, ABSENT), 1: WITHIN}
+    in_sheet = (ABSENT, AT_0, BELOW, WITHIN, ABOVE)
+    in_analysis = (ABSENT, BELOW, WITHIN, ABOVE)
+    no_code = (ABSENT, ABOVE)
+    cases = 0
+    for base in (within, alone):
+        for first, second in itertools.combinations(codes, 2):
+            for how in itertools.product(in_sheet, repeat=2):
+                stands = {**base, first: how[0], second: how[1]}
+                assert sheet_fault(stands) == first_fault(stands), stands
+                cases += 1
+        for first, second in itertools.combinations(range(ref.CODES), 2):
+            for how in itertools.product(*(
+                    no_code if c in NO_CODE else in_analysis
+                    for c in (first, second))):
+                stands = {**base, first: how[0], second: how[1]}
+                assert analysis_fault(stands) == first_fault(stands), stands
+                cases += 1
+    draw = gases.Draw(seed)
+    seen = set()
+    for _ in range(count):
+        fine = draw.pick((1, 4, 16))
+
+        def any_way(ways):
+            return draw.pick(ways) if draw.one_in(fine) else ways[0]
+        stands = {c: any_way((WITHIN, *in_sheet)) for c in codes}
+        fault = sheet_fault(stands)
+        assert fault == first_fault(stands), stands
+        seen.add(("sheet", fault))
+        stands = {c: any_way(no_code if c in NO_CODE else
+                             (WITHIN, *in_analysis))
+                  for c in range(ref.CODES)}
+        fault = analysis_fault(stands)
+        assert fault == first_fault(stands), stands
+        seen.add(("analysis", fault))
+        cases += 2
+    assert {fault.at for kind, fault in seen if kind == "sheet"} == \
+        {None, *codes}
+    assert {fault.at for kind, fault in seen if kind == "analysis"} == \
+        {None, *range(ref.CODES)}
+    return cases
 
 
 def lean():
@@ -156,12 +278,12 @@ def lean():
     # Absent is no fault, listed at 0 is; methane must be there.
     assert isinstance(ref.rate(ref.layout(biomethane, None)), Rating)
     assert listed((1, 970000), (2, 10000), (3, 0), (11, 20000)) == \
-        Refusal(5, frozenset([3]))
-    assert listed((2, 10000), (11, 20000)) == Refusal(5, frozenset([1]))
+        Refusal(5, 3)
+    assert listed((2, 10000), (11, 20000)) == Refusal(5, 1)
     # 16 after 5 and 6, before 7 and 11; reading and writing don't test it.
     assert listed((1, 980000), (11, 20000)) == Refusal(16)
     assert listed((1, 980000), (11, 20101)) == Refusal(6)
-    assert listed((1, 980000), (11, 49)) == Refusal(5, frozenset([11]))
+    assert listed((1, 980000), (11, 49)) == Refusal(5, 11)
     assert ref.search(alone, 0) == ref.search(alone) == Refusal(16)
     for count in (0, 1, 6, 9, 12, 21):
         assert ref.rate_split(alone, ((4, 1, 0),) * count) == Refusal(16)
@@ -236,7 +358,7 @@ def blends():
     for amount, wanted in ((0, 5), (9, 5), (10, 0), (100000, 0), (100001, 5)):
         got = ref.read(gases.sheet_of(
             ((1, rest - amount), (2, 20010), (15, amount)), ()))
-        assert (got == Refusal(5, frozenset([15]))) == (wanted == 5), amount
+        assert (got == Refusal(5, 15)) == (wanted == 5), amount
         assert isinstance(got, Refusal) == (wanted == 5)
         if amount:
             gas = (0, rest - amount, 20010, *[0] * 12, amount)
@@ -710,15 +832,16 @@ def main(arguments):
     marked_figures()
     compared_figures()
     refusals()
+    faults = lowest_code(seed, 20 * count)
     lean()
     blends()
     sets = choices(seed, 20 * count)
     table_a2()
     ranges()
     spread_limit()
-    print("figures and refusals of document 01, lean gases, hydrogen blends, the "
-          "choice for %d sets of components, Table A.2's rule and ranges: as "
-          "written" % sets)
+    print("figures and refusals of document 01, the lowest code of %d analyses and "
+          "sheets, lean gases, hydrogen blends, the choice for %d sets of "
+          "components, Table A.2's rule and ranges: as written" % (faults, sets))
     cases, worst = partial_limits(seed, 10 * count)
     print("partial numbers: %d of %d systems, farthest from exact %.3f units"
           % (cases, len(ref.SHARES), worst))

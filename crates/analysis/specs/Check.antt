@@ -1,15 +1,12 @@
--- The check of an analysis (document 01, "The register and the sheet", "What is turned away", 5 and 6). An analysis is
--- its list of amounts, that of code k at index k. Assumes nothing.
-use mathlib.Core.Path.{_≡_}
+-- The check of an analysis (document 01, "The register and the sheet", "What is turned away", 5 and 6; document 02,
+-- Four). An analysis is its list of amounts, that of code k at index k. Assumes nothing.
 use mathlib.Core.List.{List, [], _∷_}
 use mathlib.Core.Bool.{Bool, true, false, not, _&&_, cond}
 use Prim.Native.Nat.{ℕ, suc, _+_}
-use lib.ListN.{getD}
 use lib.Dec.{leb, eqb}
 use Rattle.refusal.specs.Register.{OUT_OF_RANGE, TOTAL, carried}
 use Rattle.analysis.specs.declared.Checked.{Checked}
 use Rattle.analysis.specs.declared.Checked.the-variants.{InRange, Refused}
-use Rattle.analysis.specs.CheckedCases.{numberOf, faultOf}
 use Rattle.analysis.specs.Register.{Status, live, retired, splitsOnly, unknown, statusOf}
 
 -- the least and the greatest amount of a code of a status; 1 and 0, which leave no amount, where it is not live
@@ -82,15 +79,16 @@ refusalByTests true true = 0
 unfoldable pub analysisRefusal : List ℕ → ℕ
 analysisRefusal a = refusalByTests (allInRange 0 a) (totalFits (totalOf a))
 
--- is `code` at fault, its amount outside its range or absent where it may not be?
-abbrev pub AtFault : List ℕ → ℕ → Type 0
-AtFault a code = inRange code (getD a code 0) ≡ false
+-- the lowest code at fault, its amount outside its range or absent where it may not be (document 02, Four), the first
+-- amount being that of `code`; the code after the last where none is
+abbrev pub lowestFault : ℕ → List ℕ → ℕ
+lowestFault code [] = code
+lowestFault code (x ∷ xs) = cond (inRange code x) (lowestFault (suc code) xs) code
 
--- the answer with the number `n`; 5 carries `code`, and 6 none
-abbrev pub checkedOf : ℕ → ℕ → Checked
-checkedOf n code = cond (eqb n 0) InRange (Refused n (carried n code 0))
+-- the answer by its number; 5 carries `code`, and 6 none
+abbrev pub answerBy : ℕ → ℕ → Checked
+answerBy number code = cond (eqb number 0) InRange (Refused number (carried number code 0))
 
--- the promise of the check: the answer is fixed but for the code of 5, and that is a code at fault
-pub record Checking (a : List ℕ) (r : Checked) : Type 0 where
-  pub answer : r ≡ checkedOf (analysisRefusal a) (faultOf r)
-  pub code : numberOf r ≡ OUT_OF_RANGE → AtFault a (faultOf r)
+-- the answer to an analysis; 5 carries the lowest code at fault
+unfoldable pub checkedOf : List ℕ → Checked
+checkedOf a = answerBy (analysisRefusal a) (lowestFault 0 a)

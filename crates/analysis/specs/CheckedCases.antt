@@ -1,5 +1,5 @@
 -- What each case of `Checked` is (document 01, "What is turned away"): a refusal's number, 0 where there is none, and
--- the code at fault that 5 carries, else 0. Assumes nothing.
+-- the lowest code at fault, which 5 carries, else 0. Assumes nothing.
 use Prim.Native.Nat.{ℕ}
 use Rattle.analysis.specs.declared.Checked.{Checked}
 use Rattle.analysis.specs.declared.Checked.the-variants.{InRange, Refused}

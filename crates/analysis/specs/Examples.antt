@@ -1,10 +1,11 @@
--- Worked examples (document 01, "Gases and their figures": run and compared). Assumes nothing.
+-- Worked examples (document 01, "Gases and their figures": run and compared; document 02, Four). Assumes nothing.
 use mathlib.Core.Path.{_≡_, refl}
 use mathlib.Core.List.{List, [], _∷_, _++_}
 use Prim.Native.Nat.{ℕ, _-_}
 use lib.ListN.{replicate}
 use Rattle.analysis.specs.Register.{CODES, statusOf}
-use Rattle.analysis.specs.Check.{inRange, totalFits, analysisRefusal}
+use Rattle.analysis.specs.declared.Checked.the-variants.{Refused}
+use Rattle.analysis.specs.Check.{inRange, totalFits, analysisRefusal, checkedOf}
 
 -- a gas of methane and ethane as given, and 10000 parts of propane, 1000 of each butane
 abbrev gas : ℕ → ℕ → List ℕ
@@ -61,3 +62,13 @@ hydrogen-ends : (analysisRefusal (blend 999700 10) ≡ 6) × (analysisRefusal (b
     × (analysisRefusal (blend 999700 9) ≡ 5) × (analysisRefusal (blend 899999 100001) ≡ 5)
 unfolding analysisRefusal inRange totalFits statusOf
 hydrogen-ends = (refl, refl, refl, refl)
+
+-- of several codes at fault 5 carries the lowest: ethane, 2, with 1 part beside 5 parts of code 9, which is
+-- retired; with methane absent as well 1; and an amount at 0, which is no code, goes before all
+abbrev faulty : ℕ → ℕ → List ℕ
+faulty none methane = none ∷ methane ∷ 1 ∷ replicate 6 0 ++ (5 ∷ replicate (CODES - 10) 0)
+
+lowest-first : (checkedOf (faulty 0 900000) ≡ Refused 5 2) × (checkedOf (faulty 0 0) ≡ Refused 5 1)
+    × (checkedOf (faulty 7 0) ≡ Refused 5 0)
+unfolding checkedOf analysisRefusal inRange statusOf
+lowest-first = (refl, refl, refl)

@@ -1,7 +1,7 @@
 -- The check by a register in which more codes must be present. Before document 02's Five these were 2 to 5
 -- (document 01, "The register and the sheet": "1 to 5 may not"). Assumes nothing.
 use mathlib.Core.List.{List, [], _∷_}
-use mathlib.Core.Bool.{Bool, true, _&&_, _||_}
+use mathlib.Core.Bool.{Bool, true, _&&_, _||_, cond}
 use Prim.Native.Nat.{ℕ, suc}
 use Rattle.refusal.specs.Keys.{isIn}
 use Rattle.analysis.specs.Register.{Status, live, retired, splitsOnly, unknown, Entry, statusIn}
@@ -28,6 +28,12 @@ inRangeBy status amount = fitsRange (leastBy status) (greatestBy status) (requir
 abbrev pub allInRangeIn : List Entry → ℕ → List ℕ → Bool
 allInRangeIn entries code [] = true
 allInRangeIn entries code (x ∷ xs) = inRangeBy (statusIn entries code) x && allInRangeIn entries (suc code) xs
+
+-- the lowest code at fault by a register, the first amount being that of `code`; the code after the last where none is
+abbrev pub lowestFaultIn : List Entry → ℕ → List ℕ → ℕ
+lowestFaultIn entries code [] = code
+lowestFaultIn entries code (x ∷ xs) =
+    cond (inRangeBy (statusIn entries code) x) (lowestFaultIn entries (suc code) xs) code
 
 -- the number with which an analysis is refused by a register; 0 where it is in range
 unfoldable pub refusalIn : List Entry → List ℕ → ℕ

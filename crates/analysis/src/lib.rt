@@ -7,7 +7,9 @@ ghost use lib.Dec.{eqb};
 ghost use lib.ListN.{getD};
 ghost use Rattle.analysis.specs.Register.{CODES};
 ghost use Rattle.analysis.specs.Check.{leastOf, greatestOf, inRange, totalFits, refusalByTests};
-ghost use Rattle.analysis.specs.Check.{checkedOf, Checking};
+ghost use Rattle.refusal.specs.Register.{carried};
+ghost use Rattle.analysis.specs.Check.{analysisRefusal, lowestFault, answerBy, checkedOf};
+ghost use Rattle.analysis.specs.CheckedCases.{numberOf, faultOf};
 use refusal::OUT_OF_RANGE;
 use refusal::TOTAL;
 
@@ -19,7 +21,7 @@ pub struct Analysis {
     pub amounts: [u32; CODES],
 }
 
-// In range, or refused 5 with a code at fault, or 6 with code 0.
+// In range, or refused 5 with the lowest code at fault, or 6 with code 0.
 pub enum Checked {
     InRange,
     Refused { number: u32, code: u32 },
@@ -102,10 +104,10 @@ fn refusal(fault: usize, sum: u64) -> u32
     TOTAL
 }
 
-// The answer: 5 carries the code at fault, 6 none.
+// The answer: 5 carries the lowest code at fault, 6 none.
 fn answer(fault: usize, sum: u64) -> Checked
     requires { ⌜ fault ≤ CODES ⌝ }
-    ensures { λ r. ⌜ r ≡ checkedOf (refusalByTests (eqb fault CODES) (totalFits sum)) fault ⌝ }
+    ensures { λ r. ⌜ r ≡ answerBy (refusalByTests (eqb fault CODES) (totalFits sum)) fault ⌝ }
 {
     let number = refusal(fault, sum);
     if number == 0 {
@@ -123,7 +125,9 @@ fn answer(fault: usize, sum: u64) -> Checked
 // Is the analysis in range, or with which number is it refused? One walk from the last code to the first finds the
 // lowest code at fault, CODES where there is none, and the total.
 pub fn check(analysis: Analysis) -> Checked
-    ensures { λ r. ⌜ Checking (analysis .amounts) r ⌝ }
+    ensures { λ r. ⌜ r ≡ checkedOf (analysis .amounts) ⌝ }
+    ensures { λ r. ⌜ (numberOf r ≡ analysisRefusal (analysis .amounts))
+        × (faultOf r ≡ carried (analysisRefusal (analysis .amounts)) (lowestFault 0 (analysis .amounts)) 0) ⌝ }
 {
     let amounts = analysis.amounts;
     let ranges = RANGES;

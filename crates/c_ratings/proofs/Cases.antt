@@ -1,5 +1,5 @@
 -- What the ratings for C meet: an answer as number and place, and what stands in each buffer. Assumes nothing.
-use mathlib.Core.Path.{_≡_, refl, sym, ap, _∙_, subst}
+use mathlib.Core.Path.{_≡_, sym, ap, _∙_, subst}
 use mathlib.Core.List.{List, [], _∷_}
 use Prim.Native.Nat.{ℕ, _<_}
 use native.Mathlib.Omega.{arith}
@@ -10,10 +10,10 @@ use mir.ValLaws.{toZ-ofZ}
 use Rattle.integer.specs.Laws.Ring.{mag-le}
 use Rattle.split.specs.declared.Answer.{Answer}
 use Rattle.split.specs.declared.Answer.the-variants.{Rated, Refused}
-use Rattle.split.specs.AnswerCases.{numberOf, faultOf, figuresOf, bufferOf}
+use Rattle.split.specs.AnswerCases.{figuresOf, bufferOf}
 use Rattle.outcome.specs.declared.Outcome.{Outcome}
 use Rattle.demand.specs.Small.{SmallFigures}
-use Rattle.c_reply.specs.Interface.{codeIn, replyOf}
+use Rattle.c_reply.specs.Interface.{replyOf}
 use Rattle.c_reply.specs.declared.Reply.{Reply}
 
 -- ---- the figures of a rating
@@ -40,31 +40,8 @@ module _ (x : Answer) (number place : ℕ) (e : x ≡ Refused number place) wher
   pub figures-left : (l : List ℤ) → l ≡ figuresOf x l
   figures-left l = sym (ap (λ (y : Answer). figuresOf y l) e)
 
--- ---- number and place tell the code that 5 carries
+-- ---- the reply and each buffer after a call, beside what it held
 
-code-kept : (x : Answer) → codeIn (replyOf x) ≡ faultOf x
-code-kept (Rated w s r) = refl
-code-kept (Refused number place) = refl
-
-same-code : (x : Answer) (r : Reply) → r ≡ replyOf x → codeIn r ≡ faultOf x
-same-code x r e = ap codeIn e ∙ code-kept x
-
-pub fault-at : (x : Answer) (r : Reply) → r ≡ replyOf x → (P : ℕ → Type 0) → (numberOf x ≡ 5 → P (faultOf x))
-    → r .number ≡ 5 → P (codeIn r)
-fault-at x r e P p z = subst P (sym (same-code x r e)) (p (sym (ap (λ (y : Reply). y .number) e) ∙ z))
-
--- `f` gives the answer for a code with 5
-module _ (f : ℕ → Answer) (x : Answer) (h : x ≡ f (faultOf x)) (r : Reply) (e : r ≡ replyOf x) where
-  answered : x ≡ f (codeIn r)
-  answered = h ∙ ap f (sym (same-code x r e))
-
-  pub reply-is : r ≡ replyOf (f (codeIn r))
-  reply-is = e ∙ ap replyOf answered
-
-  pub figures-are : (after before : List ℤ) → after ≡ figuresOf x before → after ≡ figuresOf (f (codeIn r)) before
-  figures-are after before g = g ∙ ap (λ (y : Answer). figuresOf y before) answered
-
--- the same with a split: the reply and each buffer after a call, beside what it held
 abbrev Put : Outcome → Reply → (figures₀ figures : List ℤ) (count₀ count : ℕ)
     (systems₀ systems codes₀ codes parts₀ parts : List ℕ)
     → Type 0
@@ -76,10 +53,12 @@ Put x r figures₀ figures count₀ count systems₀ systems codes₀ codes part
     × (codes ≡ bufferOf (x .answer) (x .split .codes) codes₀)
     × (parts ≡ bufferOf (x .answer) (x .split .amounts) parts₀)
 
-module _ (f : ℕ → Outcome) (x : Outcome) (h : x ≡ f (faultOf (x .answer))) (r : Reply) (figures₀ figures : List ℤ)
+pub figures-are : (x y : Answer) → x ≡ y → (after before : List ℤ) → after ≡ figuresOf x before
+    → after ≡ figuresOf y before
+figures-are x y h after before e = e ∙ ap (λ (z : Answer). figuresOf z before) h
+
+module _ (x y : Outcome) (h : x ≡ y) (r : Reply) (figures₀ figures : List ℤ)
     (count₀ count : ℕ) (systems₀ systems codes₀ codes parts₀ parts : List ℕ)
     (p : Put x r figures₀ figures count₀ count systems₀ systems codes₀ codes parts₀ parts) where
-  pub put-is : Put (f (codeIn r)) r figures₀ figures count₀ count systems₀ systems codes₀ codes parts₀ parts
-  put-is =
-      subst (λ (y : Outcome). Put y r figures₀ figures count₀ count systems₀ systems codes₀ codes parts₀ parts)
-      (h ∙ ap f (sym (same-code (x .answer) r (p .0)))) p
+  pub put-is : Put y r figures₀ figures count₀ count systems₀ systems codes₀ codes parts₀ parts
+  put-is = subst (λ (z : Outcome). Put z r figures₀ figures count₀ count systems₀ systems codes₀ codes parts₀ parts) h p

@@ -3,12 +3,10 @@
 //
 // No public function has a `requires`.
 ghost use mathlib.Core.Path.{_≡_};
-ghost use Rattle.analysis.specs.Check.{AtFault};
-ghost use Rattle.sheet.specs.Read.{FaultInSheet};
-ghost use Rattle.split.specs.AnswerCases.{numberOf, faultOf, figuresOf, bufferOf};
+ghost use Rattle.split.specs.AnswerCases.{figuresOf, bufferOf};
 ghost use Rattle.outcome.specs.Rate.{splitAnswer, searchOutcome, sheetOutcome};
 ghost use Rattle.demand.specs.Small.{SmallFigures};
-ghost use Rattle.c_reply.specs.Interface.{codeIn, replyOf, splitFrom};
+ghost use Rattle.c_reply.specs.Interface.{replyOf, splitFrom};
 use analysis::Analysis;
 use analysis::CODES;
 use c_reply::Reply;
@@ -25,8 +23,7 @@ pub const FIGURES: usize = 3;
 
 // The rating of a sheet, with figures that fit.
 fn rated(sheet: &[u8]) -> Outcome
-    ensures { λ r. let answer = r .answer in ⌜ (r ≡ sheetOutcome (now (sheet .entry)) (faultOf answer))
-        × (numberOf answer ≡ 5 → FaultInSheet (now (sheet .entry)) (faultOf answer)) × SmallFigures answer ⌝ }
+    ensures { λ r. ⌜ (r ≡ sheetOutcome (now (sheet .entry))) × SmallFigures (r .answer) ⌝ }
 {
     rating::rate_sheet(sheet)
 }
@@ -34,16 +31,14 @@ fn rated(sheet: &[u8]) -> Outcome
 // The rating by the search, with figures that fit. A lent array is copied to a value first, which tells the proof its
 // length.
 fn searched(amounts: [u32; CODES], allowance: u32) -> Outcome
-    ensures { λ r. let answer = r .answer in ⌜ (r ≡ searchOutcome amounts allowance (faultOf answer))
-        × (numberOf answer ≡ 5 → AtFault amounts (faultOf answer)) × SmallFigures answer ⌝ }
+    ensures { λ r. ⌜ (r ≡ searchOutcome amounts allowance) × SmallFigures (r .answer) ⌝ }
 {
     rating::rate_by_search(Analysis { amounts }, allowance)
 }
 
 // The rating of a proposed split, with figures that fit.
 fn proposed(amounts: [u32; CODES], split: Split) -> Answer
-    ensures { λ r. ⌜ (r ≡ splitAnswer amounts split (faultOf r))
-        × (numberOf r ≡ 5 → AtFault amounts (faultOf r)) × SmallFigures r ⌝ }
+    ensures { λ r. ⌜ (r ≡ splitAnswer amounts split) × SmallFigures r ⌝ }
 {
     rating::rate_split(Analysis { amounts }, split)
 }
@@ -97,14 +92,13 @@ pub fn rate_sheet(
     codes: &mut [u8; RECORDS],
     parts: &mut [u32; RECORDS],
 ) -> Reply
-    ensures { λ r. let x = sheetOutcome (now (sheet .entry)) (codeIn r) in
+    ensures { λ r. let x = sheetOutcome (now (sheet .entry)) in
         let answer = x .answer in let split = x .split in ⌜ (r ≡ replyOf answer)
         × (now (figures .exit) ≡ figuresOf answer (now (figures .entry)))
         × (now (count .exit) ≡ bufferOf answer (split .count) (now (count .entry)))
         × (now (systems .exit) ≡ bufferOf answer (split .systems) (now (systems .entry)))
         × (now (codes .exit) ≡ bufferOf answer (split .codes) (now (codes .entry)))
         × (now (parts .exit) ≡ bufferOf answer (split .amounts) (now (parts .entry))) ⌝ }
-    ensures { λ r. ⌜ (r .number ≡ 5 → FaultInSheet (now (sheet .entry)) (codeIn r)) ⌝ }
 {
     let outcome = rated(sheet);
     put_outcome(outcome, figures, count, systems, codes, parts)
@@ -120,14 +114,13 @@ pub fn rate_by_search(
     codes: &mut [u8; RECORDS],
     parts: &mut [u32; RECORDS],
 ) -> Reply
-    ensures { λ r. let x = searchOutcome (now (amounts .entry)) allowance (codeIn r) in
+    ensures { λ r. let x = searchOutcome (now (amounts .entry)) allowance in
         let answer = x .answer in let split = x .split in ⌜ (r ≡ replyOf answer)
         × (now (figures .exit) ≡ figuresOf answer (now (figures .entry)))
         × (now (count .exit) ≡ bufferOf answer (split .count) (now (count .entry)))
         × (now (systems .exit) ≡ bufferOf answer (split .systems) (now (systems .entry)))
         × (now (codes .exit) ≡ bufferOf answer (split .codes) (now (codes .entry)))
         × (now (parts .exit) ≡ bufferOf answer (split .amounts) (now (parts .entry))) ⌝ }
-    ensures { λ r. ⌜ (r .number ≡ 5 → AtFault (now (amounts .entry)) (codeIn r)) ⌝ }
 {
     let gas = *amounts;
     let found = searched(gas, allowance);
@@ -144,9 +137,8 @@ pub fn rate_split(
     figures: &mut [i64; FIGURES],
 ) -> Reply
     ensures { λ r. let p = splitFrom count (now (systems .entry)) (now (codes .entry)) (now (parts .entry)) in
-        let x = splitAnswer (now (amounts .entry)) p (codeIn r) in ⌜ (r ≡ replyOf x)
+        let x = splitAnswer (now (amounts .entry)) p in ⌜ (r ≡ replyOf x)
         × (now (figures .exit) ≡ figuresOf x (now (figures .entry))) ⌝ }
-    ensures { λ r. ⌜ (r .number ≡ 5 → AtFault (now (amounts .entry)) (codeIn r)) ⌝ }
 {
     let split = split_from(count, systems, codes, parts);
     let gas = *amounts;

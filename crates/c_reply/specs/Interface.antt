@@ -7,7 +7,6 @@ use mathlib.Core.List.{List}
 use Prim.Native.Nat.{ℕ}
 use lib.ListN.{length}
 use lib.IntN.{ℤ}
-use Rattle.refusal.specs.Register.{carried}
 use Rattle.ternary.specs.declared.Partial.{Partial}
 use Rattle.ternary.specs.PartialCases as partial
 use Rattle.sheet.specs.declared.Split.{Split}
@@ -19,16 +18,12 @@ use Rattle.split.specs.AnswerCases as answer
 use Rattle.split.specs.declared.Answer.{Answer}
 use Rattle.c_reply.specs.declared.Reply.{Reply}
 
--- the version, 1.3.0: 10000, 100 and 1 times its three figures
+-- the version, 1.4.0: 10000, 100 and 1 times its three figures
 abbrev pub VERSION : ℕ
-VERSION = 10300
+VERSION = 10400
 
 abbrev pub reply : ℕ → ℕ → Reply
 reply number place = record { number = number; place = place }
-
--- the code that a refusal 5 carries, else 0
-abbrev pub codeIn : Reply → ℕ
-codeIn r = carried (r .number) (r .place) 0
 
 -- ---- a rating
 

@@ -3,10 +3,9 @@
 //
 // No public function has a `requires`.
 ghost use mathlib.Core.Path.{_≡_};
-ghost use Rattle.analysis.specs.Check.{AtFault};
-ghost use Rattle.sheet.specs.Read.{readOf, FaultInSheet};
+ghost use Rattle.sheet.specs.Read.{readOf};
 ghost use Rattle.sheet.specs.Write.{writtenOf, leftOf};
-ghost use Rattle.c_reply.specs.Interface.{codeIn, splitFrom, bytesIn, readReply, readOr, writtenReply, writtenLength};
+ghost use Rattle.c_reply.specs.Interface.{splitFrom, bytesIn, readReply, readOr, writtenReply, writtenLength};
 use analysis::Analysis;
 use analysis::CODES;
 use c_reply::Reply;
@@ -26,14 +25,13 @@ pub fn read_sheet(
     codes: &mut [u8; RECORDS],
     parts: &mut [u32; RECORDS],
 ) -> Reply
-    ensures { λ r. let x = readOf (now (sheet .entry)) (codeIn r) in
+    ensures { λ r. let x = readOf (now (sheet .entry)) in
         let answer = x .answer in let split = x .split in ⌜ (r ≡ readReply answer)
         × (now (amounts .exit) ≡ readOr answer (x .analysis .amounts) (now (amounts .entry)))
         × (now (count .exit) ≡ readOr answer (split .count) (now (count .entry)))
         × (now (systems .exit) ≡ readOr answer (split .systems) (now (systems .entry)))
         × (now (codes .exit) ≡ readOr answer (split .codes) (now (codes .entry)))
         × (now (parts .exit) ≡ readOr answer (split .amounts) (now (parts .entry))) ⌝ }
-    ensures { λ r. ⌜ (r .number ≡ 5 → FaultInSheet (now (sheet .entry)) (codeIn r)) ⌝ }
 {
     let read = reader::read(sheet);
     let answer = read.answer;
@@ -70,10 +68,9 @@ pub fn write_sheet(
     length: &mut usize,
 ) -> Reply
     ensures { λ r. let p = splitFrom count (now (systems .entry)) (now (codes .entry)) (now (parts .entry)) in
-        let x = writtenOf (now (amounts .entry)) p (bytesIn (now (buffer .entry))) (codeIn r) in ⌜ (r ≡ writtenReply x)
+        let x = writtenOf (now (amounts .entry)) p (bytesIn (now (buffer .entry))) in ⌜ (r ≡ writtenReply x)
         × (now (buffer .exit) ≡ leftOf (now (amounts .entry)) p (now (buffer .entry)))
         × (now (length .exit) ≡ writtenLength x (now (length .entry))) ⌝ }
-    ensures { λ r. ⌜ (r .number ≡ 5 → AtFault (now (amounts .entry)) (codeIn r)) ⌝ }
 {
     let given = split_from(count, systems, codes, parts);
     let written = writer::write(Analysis { amounts: *amounts }, given, buffer);

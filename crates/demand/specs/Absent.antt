@@ -88,35 +88,35 @@ module _ (analysis : List ℕ) (on : RatedOn analysis) (p : Split) (i j : ℕ) (
       )
 
 -- a split that is rated has none,
-pub absent-record : (analysis : List ℕ) (p : Split) (code : ℕ) (w : ℤ) (s r : ℕ)
-    → splitAnswer analysis p code ≡ Rated w s r
+pub absent-record : (analysis : List ℕ) (p : Split) (w : ℤ) (s r : ℕ)
+    → splitAnswer analysis p ≡ Rated w s r
     → (i j : ℕ) → i < countFor analysis → j < 3 → getD (mixOf analysis) (recordComponent analysis i j) 0 ≡ 0
     → getD (p .amounts) (3 * i + j) 0 ≡ 0
-absent-record analysis p code w s r is i j h l e =
-    let (on, rated) = split-rated analysis p code w s r is in
+absent-record analysis p w s r is i j h l e =
+    let (on, rated) = split-rated analysis p w s r is in
     let fit = rated-fit LIMIT (systemsFor analysis) (countFor analysis) (mixOf analysis)
     (cellsFor analysis (p .amounts)) (inertFirst analysis) (subst IsRated (sym rated) tt) in
     resummed-none analysis on p i j h l (fit .sums) e
 
 -- so has a split that the search found,
-pub found-absent-record : (analysis : List ℕ) → length analysis ≡ CODES → (allowance code : ℕ) (w : ℤ) (s r : ℕ)
-    → searchOutcome analysis allowance code .answer ≡ Rated w s r
+pub found-absent-record : (analysis : List ℕ) → length analysis ≡ CODES → (allowance : ℕ) (w : ℤ) (s r : ℕ)
+    → searchOutcome analysis allowance .answer ≡ Rated w s r
     → (i j : ℕ) → i < countFor analysis → j < 3 → getD (mixOf analysis) (recordComponent analysis i j) 0 ≡ 0
-    → getD (searchOutcome analysis allowance code .split .amounts) (3 * i + j) 0 ≡ 0
-found-absent-record analysis long allowance code w s r is =
-    absent-record analysis (searchOutcome analysis allowance code .split) code w s 0
-    (put-back analysis long allowance code code w s r is)
+    → getD (searchOutcome analysis allowance .split .amounts) (3 * i + j) 0 ≡ 0
+found-absent-record analysis long allowance w s r is =
+    absent-record analysis (searchOutcome analysis allowance .split) w s 0
+    (put-back analysis long allowance w s r is)
 
 -- and any other amount in the records expected is 8
-pub absent-unsummed : (analysis : List ℕ) → RatedOn analysis → (p : Split) (code : ℕ) → Expected analysis p
+pub absent-unsummed : (analysis : List ℕ) → RatedOn analysis → (p : Split) → Expected analysis p
     → (i j : ℕ) → i < countFor analysis → j < 3 → getD (mixOf analysis) (recordComponent analysis i j) 0 ≡ 0
-    → 0 < getD (p .amounts) (3 * i + j) 0 → splitAnswer analysis p code ≡ Refused 8 0
-absent-unsummed analysis on p code x i j h l e some =
+    → 0 < getD (p .amounts) (3 * i + j) 0 → splitAnswer analysis p ≡ Refused 8 0
+absent-unsummed analysis on p x i j h l e some =
     let fits = expected-fits _ _ _ (p .systems) (p .codes) (x .many) (x .systems) (x .codes) in
     let refused =
     refused-8-exactly-when LIMIT (systemsFor analysis) (countFor analysis) (mixOf analysis)
     (cellsFor analysis (p .amounts)) (inertFirst analysis) .1 in
-    split-by-records analysis p code true on fits
+    split-by-records analysis p true on fits
     ∙ refused (λ sums. let z = resummed-none analysis on p i j h l sums e in omega arith)
 
 -- ---- a component is present after simplification exactly where it is in the analysis
@@ -230,10 +230,10 @@ unfolding worked coefficientRows horner coefs sumAbs placeIn keepsRule isSystem 
     weightedOf meanOf inertNumber ratingOf resums someEmpty proposedOf isIn
 six-rated = refl
 
-pub two-rated : splitAnswer methaneEthane (proposal methaneEthane sixAmounts) 0 ≡ Rated (pos 974058216) 129517 0
+pub two-rated : splitAnswer methaneEthane (proposal methaneEthane sixAmounts) ≡ Rated (pos 974058216) 129517 0
 unfolding methaneShare tenthsOf
 two-rated =
-    split-fits methaneEthane (proposal methaneEthane sixAmounts) 0 two-on refl refl refl
+    split-fits methaneEthane (proposal methaneEthane sixAmounts) two-on refl refl refl
     ∙ ap (λ (m : List ℕ). proposedOf LIMIT (paddedOf (chooseOf m)) (length (chooseOf m)) m
     (cellsOf (paddedOf (chooseOf m)) (length (chooseOf m)) sixAmounts) 980000) methane-ethane
     ∙ ap (λ (l : List ℕ). proposedOf LIMIT (paddedOf l) (length l) (989796 ∷ 10204 ∷ 0 ∷ 0 ∷ 0 ∷ [])

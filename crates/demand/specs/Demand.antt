@@ -13,8 +13,7 @@
 -- The public functions `rate_split`, `rate_by_search` and `rate_sheet` promise `splitAnswer`, `searchOutcome` and
 -- `sheetOutcome`, of which these theorems speak. An analysis is its 16 amounts, that of code k at index k. It is in
 -- range when neither 5 nor 6 turns it away: `InRange`; it is rated on when 16 lets it pass as well: `RatedOn`. A split
--- is rated when the answer to it is a rating, with its spread, and no refusal: `IsRated`. `code` is the code that
--- refusal 5 carries: any code at fault.
+-- is rated when the answer to it is a rating, with its spread, and no refusal: `IsRated`.
 use mathlib.Core.Path.{_≡_, refl, sym, ap, _∙_, subst}
 use mathlib.Core.Bool.{Bool, true, false, _&&_}
 use mathlib.Core.Logic.{_↔_, _⊎_}
@@ -71,11 +70,11 @@ pub rated-on-exactly-when : (analysis : List ℕ) → RatedOn analysis
 rated-on-exactly-when analysis = on-exactly-when analysis
 
 -- 16 is the answer to an analysis in range exactly where they are fewer: to every proposed split, and by the search
-pub few-exactly-when : (analysis : List ℕ) → InRange analysis → (p : Split) (allowance code : ℕ)
-    → ((splitAnswer analysis p code ≡ Refused 16 0) ↔ (presentCount (simplifiedOf analysis) < 2))
-    × ((searchOutcome analysis allowance code .answer ≡ Refused 16 0) ↔ (presentCount (simplifiedOf analysis) < 2))
-few-exactly-when analysis h p allowance code =
-    (split-few-exactly-when analysis code h p, search-few-exactly-when analysis code h allowance)
+pub few-exactly-when : (analysis : List ℕ) → InRange analysis → (p : Split) (allowance : ℕ)
+    → ((splitAnswer analysis p ≡ Refused 16 0) ↔ (presentCount (simplifiedOf analysis) < 2))
+    × ((searchOutcome analysis allowance .answer ≡ Refused 16 0) ↔ (presentCount (simplifiedOf analysis) < 2))
+few-exactly-when analysis h p allowance =
+    (split-few-exactly-when analysis h p, search-few-exactly-when analysis h allowance)
 
 -- rated on, two components present have two chosen systems, three or four have three, and five have four or five
 pub two-to-five : (analysis : List ℕ) → length analysis ≡ CODES → RatedOn analysis
@@ -205,11 +204,11 @@ fit-is analysis amounts f = (f .sums, f .some, f .near)
 
 -- ---- (1) any amounts at all, proposed for an analysis that is rated on, are rated exactly when: the three
 
-pub rated-exactly-when : (analysis : List ℕ) → RatedOn analysis → (amounts : List ℕ) (code : ℕ)
-    → IsRated (splitAnswer analysis (proposal analysis amounts) code)
+pub rated-exactly-when : (analysis : List ℕ) → RatedOn analysis → (amounts : List ℕ)
+    → IsRated (splitAnswer analysis (proposal analysis amounts))
     ↔ (ReSums analysis amounts × NoneEmpty analysis amounts × AllNear analysis amounts)
-rated-exactly-when analysis on amounts code =
-    let e = split-fits analysis (proposal analysis amounts) code on refl refl refl in
+rated-exactly-when analysis on amounts =
+    let e = split-fits analysis (proposal analysis amounts) on refl refl refl in
     let fitted = fit-rated LIMIT (systemsFor analysis) (countFor analysis) (mixOf analysis) (cellsFor analysis amounts)
     (inertFirst analysis) in
     let only = rated-fit LIMIT (systemsFor analysis) (countFor analysis) (mixOf analysis) (cellsFor analysis amounts)
@@ -219,13 +218,13 @@ rated-exactly-when analysis on amounts code =
     )
 
 --     and then with the formulas' rating and spread, which is within the limit
-pub rated-with : (analysis : List ℕ) → RatedOn analysis → (amounts : List ℕ) (code : ℕ)
+pub rated-with : (analysis : List ℕ) → RatedOn analysis → (amounts : List ℕ)
     → ReSums analysis amounts × NoneEmpty analysis amounts × AllNear analysis amounts
-    → (splitAnswer analysis (proposal analysis amounts) code ≡ Rated (ratingAt analysis amounts)
+    → (splitAnswer analysis (proposal analysis amounts) ≡ Rated (ratingAt analysis amounts)
     (spreadAt analysis amounts) 0) × (spreadAt analysis amounts ≤ LIMIT)
 unfolding rowNumber
-rated-with analysis on amounts code h =
-    let e = split-fits analysis (proposal analysis amounts) code on refl refl refl in
+rated-with analysis on amounts h =
+    let e = split-fits analysis (proposal analysis amounts) on refl refl refl in
     let fitted = fit-rated LIMIT (systemsFor analysis) (countFor analysis) (mixOf analysis) (cellsFor analysis amounts)
     (inertFirst analysis) (is-fit analysis amounts h) in
     (e ∙ fitted, near-spread LIMIT (number analysis amounts) (countFor analysis) (h .2))
@@ -243,17 +242,17 @@ fit-expected analysis p e =
     record { many = x .0; systems = x .1; codes = x .2 }
 
 --     a split in any records at all is answered as those amounts are where the records are those expected,
-pub expected-same : (analysis : List ℕ) → RatedOn analysis → (p : Split) (code : ℕ) → Expected analysis p
-    → splitAnswer analysis p code ≡ splitAnswer analysis (proposal analysis (p .amounts)) code
-expected-same analysis on p code x =
-    split-by-records analysis p code true on (expected-fit analysis p x)
-    ∙ sym (split-fits analysis (proposal analysis (p .amounts)) code on refl refl refl)
+pub expected-same : (analysis : List ℕ) → RatedOn analysis → (p : Split) → Expected analysis p
+    → splitAnswer analysis p ≡ splitAnswer analysis (proposal analysis (p .amounts))
+expected-same analysis on p x =
+    split-by-records analysis p true on (expected-fit analysis p x)
+    ∙ sym (split-fits analysis (proposal analysis (p .amounts)) on refl refl refl)
 
 --     is refused 7 exactly where they are not,
-pub misfit-exactly-when : (analysis : List ℕ) → RatedOn analysis → (p : Split) (code : ℕ)
-    → (splitAnswer analysis p code ≡ Refused 7 0) ↔ (Expected analysis p → ⊥)
-misfit-exactly-when analysis on p code =
-    let same = split-passed analysis p code on in
+pub misfit-exactly-when : (analysis : List ℕ) → RatedOn analysis → (p : Split)
+    → (splitAnswer analysis p ≡ Refused 7 0) ↔ (Expected analysis p → ⊥)
+misfit-exactly-when analysis on p =
+    let same = split-passed analysis p on in
     let (misfit, seven) =
     refused-7-exactly-when (systemsFor analysis) (countFor analysis) (mixOf analysis) (inertFirst analysis) p in (
       λ h x. absurd (subst T (sym (expected-fit analysis p x) ∙ misfit (sym same ∙ h)) tt),
@@ -265,107 +264,107 @@ misfit-exactly-when analysis on p code =
     go n false e = e
 
 --     and is rated exactly when they are, and the amounts keep the three
-pub records-rated-exactly-when : (analysis : List ℕ) → RatedOn analysis → (p : Split) (code : ℕ)
-    → IsRated (splitAnswer analysis p code)
+pub records-rated-exactly-when : (analysis : List ℕ) → RatedOn analysis → (p : Split)
+    → IsRated (splitAnswer analysis p)
     ↔ (Expected analysis p × ReSums analysis (p .amounts) × NoneEmpty analysis (p .amounts)
     × AllNear analysis (p .amounts))
-records-rated-exactly-when analysis on p code =
-    let (only, when) = rated-exactly-when analysis on (p .amounts) code in (
+records-rated-exactly-when analysis on p =
+    let (only, when) = rated-exactly-when analysis on (p .amounts) in (
       λ r.
           let x = expected r in
-          let h = only (subst IsRated (expected-same analysis on p code x) r) in
+          let h = only (subst IsRated (expected-same analysis on p x) r) in
           (x, h .0, h .1, h .2),
-      λ h. subst IsRated (sym (expected-same analysis on p code (h .0))) (when (h .1, h .2, h .3)),
+      λ h. subst IsRated (sym (expected-same analysis on p (h .0))) (when (h .1, h .2, h .3)),
     )
   where
-    expected : IsRated (splitAnswer analysis p code) → Expected analysis p
+    expected : IsRated (splitAnswer analysis p) → Expected analysis p
     expected r = go (fits analysis p) refl
       where
         go : (b : Bool) → fits analysis p ≡ b → Expected analysis p
         go true e = fit-expected analysis p e
-        go false e = absurd (subst IsRated (split-by-records analysis p code false on e) r)
+        go false e = absurd (subst IsRated (split-by-records analysis p false on e) r)
 
 -- ---- (2) a found split, put back as a proposal for the same analysis, gets the same rating and the same spread
 
-pub put-back : (analysis : List ℕ) → length analysis ≡ CODES → (allowance code code′ : ℕ) (w : ℤ) (s r : ℕ)
-    → searchOutcome analysis allowance code .answer ≡ Rated w s r
-    → splitAnswer analysis (searchOutcome analysis allowance code .split) code′ ≡ Rated w s 0
-put-back analysis long allowance code code′ w s r is = found-back analysis long allowance code code′ w s r is
+pub put-back : (analysis : List ℕ) → length analysis ≡ CODES → (allowance : ℕ) (w : ℤ) (s r : ℕ)
+    → searchOutcome analysis allowance .answer ≡ Rated w s r
+    → splitAnswer analysis (searchOutcome analysis allowance .split) ≡ Rated w s 0
+put-back analysis long allowance w s r is = found-back analysis long allowance w s r is
 
 -- ---- (3) each rating, of a proposed split and of a found one, is less than 40 units from the exact fraction
 
-pub proposed-within : (analysis : List ℕ) → length analysis ≡ CODES → (p : Split) (code : ℕ) (w : ℤ) (s r : ℕ)
-    → splitAnswer analysis p code ≡ Rated w s r → Within w (exactAt analysis (p .amounts)) 40
-proposed-within analysis long p code w s r is =
-    let (on, e) = split-rated analysis p code w s r is in
+pub proposed-within : (analysis : List ℕ) → length analysis ≡ CODES → (p : Split) (w : ℤ) (s r : ℕ)
+    → splitAnswer analysis p ≡ Rated w s r → Within w (exactAt analysis (p .amounts)) 40
+proposed-within analysis long p w s r is =
+    let (on, e) = split-rated analysis p w s r is in
     rated-within (systemsFor analysis) (countFor analysis) (mixOf analysis) (cellsFor analysis (p .amounts))
     (chosen analysis on) LIMIT (inertFirst analysis)
     w s r e (omega (arith, million analysis long on)) (inert-million analysis long on)
 
-pub found-within : (analysis : List ℕ) → length analysis ≡ CODES → (allowance code : ℕ) (w : ℤ) (s r : ℕ)
-    → searchOutcome analysis allowance code .answer ≡ Rated w s r
-    → Within w (exactAt analysis (searchOutcome analysis allowance code .split .amounts)) 40
-found-within analysis long allowance code w s r is =
-    let back = put-back analysis long allowance code code w s r is in
-    proposed-within analysis long (searchOutcome analysis allowance code .split) code w s 0 back
+pub found-within : (analysis : List ℕ) → length analysis ≡ CODES → (allowance : ℕ) (w : ℤ) (s r : ℕ)
+    → searchOutcome analysis allowance .answer ≡ Rated w s r
+    → Within w (exactAt analysis (searchOutcome analysis allowance .split .amounts)) 40
+found-within analysis long allowance w s r is =
+    let back = put-back analysis long allowance w s r is in
+    proposed-within analysis long (searchOutcome analysis allowance .split) w s 0 back
 
 --     and of a sheet, whichever it has: the amounts are those of the split that was rated
-pub sheet-within : (s : List ℕ) (code : ℕ) (w : ℤ) (d r : ℕ) → sheetOutcome s code .answer ≡ Rated w d r
-    → Within w (exactAt (analysisIn s code) (splitRated s code .amounts)) 40
-sheet-within s code w d r is =
-    let (long, e) = sheet-split s code w d r is in
-    proposed-within (analysisIn s code) long (splitRated s code) code w d 0 e
+pub sheet-within : (s : List ℕ) (w : ℤ) (d r : ℕ) → sheetOutcome s .answer ≡ Rated w d r
+    → Within w (exactAt (analysisIn s) (splitRated s .amounts)) 40
+sheet-within s w d r is =
+    let (long, e) = sheet-split s w d r is in
+    proposed-within (analysisIn s) long (splitRated s) w d 0 e
 
 --     its found split, put back, gets the same rating and the same spread
-pub sheet-put-back : (s : List ℕ) (code : ℕ) (w : ℤ) (d r : ℕ) → sheetOutcome s code .answer ≡ Rated w d r
-    → splitAnswer (analysisIn s code) (splitRated s code) code ≡ Rated w d 0
-sheet-put-back s code w d r is = sheet-split s code w d r is .1
+pub sheet-put-back : (s : List ℕ) (w : ℤ) (d r : ℕ) → sheetOutcome s .answer ≡ Rated w d r
+    → splitAnswer (analysisIn s) (splitRated s) ≡ Rated w d 0
+sheet-put-back s w d r is = sheet-split s w d r is .1
 
 -- ---- (4) how a sheet ends
 
 -- every sheet that is read, is rated on and has no split ends in a rating or in 11
-pub accepted-sheet-ends : (s : List ℕ) (code : ℕ) → readOf s code .answer ≡ Read → RatedOn (analysisIn s code)
-    → readOf s code .split .count ≡ 0
-    → IsRated (sheetOutcome s code .answer) ⊎ (sheetOutcome s code .answer ≡ Refused 11 0)
-accepted-sheet-ends s code h on e = accepted-ends s code h on e
+pub accepted-sheet-ends : (s : List ℕ) → readOf s .answer ≡ Read → RatedOn (analysisIn s)
+    → readOf s .split .count ≡ 0
+    → IsRated (sheetOutcome s .answer) ⊎ (sheetOutcome s .answer ≡ Refused 11 0)
+accepted-sheet-ends s h on e = accepted-ends s h on e
 
 -- one that has its own is answered as that split is, proposed for the sheet's analysis: with the same rating and spread
-pub own-split-answered : (s : List ℕ) (code : ℕ) → readOf s code .answer ≡ Read → (readOf s code .split .count ≡ 0 → ⊥)
-    → sheetOutcome s code .answer ≡ splitAnswer (analysisIn s code) (readOf s code .split) code
-own-split-answered s code h n = ap (λ (x : Outcome). x .answer) (read-own s code h n)
+pub own-split-answered : (s : List ℕ) → readOf s .answer ≡ Read → (readOf s .split .count ≡ 0 → ⊥)
+    → sheetOutcome s .answer ≡ splitAnswer (analysisIn s) (readOf s .split)
+own-split-answered s h n = ap (λ (x : Outcome). x .answer) (read-own s h n)
 
 -- so, rated on, it ends in a rating or in one of 7 to 10, and never in 11,
-pub own-split-ends : (s : List ℕ) (code : ℕ) → readOf s code .answer ≡ Read → RatedOn (analysisIn s code)
-    → (readOf s code .split .count ≡ 0 → ⊥)
-    → let answer = sheetOutcome s code .answer in
+pub own-split-ends : (s : List ℕ) → readOf s .answer ≡ Read → RatedOn (analysisIn s)
+    → (readOf s .split .count ≡ 0 → ⊥)
+    → let answer = sheetOutcome s .answer in
     IsRated answer ⊎ ((7 ≤ numberOf answer) × (numberOf answer ≤ 10))
-own-split-ends s code h on n =
-    subst (λ (x : Answer). IsRated x ⊎ ((7 ≤ numberOf x) × (numberOf x ≤ 10))) (sym (own-split-answered s code h n))
-    (split-ends (analysisIn s code) (readOf s code .split) code on)
+own-split-ends s h on n =
+    subst (λ (x : Answer). IsRated x ⊎ ((7 ≤ numberOf x) × (numberOf x ≤ 10))) (sym (own-split-answered s h n))
+    (split-ends (analysisIn s) (readOf s .split) on)
 
 -- and is rated exactly when its records are those expected and the amounts in them keep the three
-pub own-split-rated-exactly-when : (s : List ℕ) (code : ℕ)
-    → readOf s code .answer ≡ Read → RatedOn (analysisIn s code) → (readOf s code .split .count ≡ 0 → ⊥)
-    → let analysis = analysisIn s code in
-    let p = readOf s code .split in
-    IsRated (sheetOutcome s code .answer)
+pub own-split-rated-exactly-when : (s : List ℕ)
+    → readOf s .answer ≡ Read → RatedOn (analysisIn s) → (readOf s .split .count ≡ 0 → ⊥)
+    → let analysis = analysisIn s in
+    let p = readOf s .split in
+    IsRated (sheetOutcome s .answer)
     ↔ (Expected analysis p × ReSums analysis (p .amounts) × NoneEmpty analysis (p .amounts)
     × AllNear analysis (p .amounts))
-own-split-rated-exactly-when s code h on n =
-    let (only, when) = records-rated-exactly-when (analysisIn s code) on (readOf s code .split) code in
-    let same = own-split-answered s code h n in
+own-split-rated-exactly-when s h on n =
+    let (only, when) = records-rated-exactly-when (analysisIn s) on (readOf s .split) in
+    let same = own-split-answered s h n in
     (λ r. only (subst IsRated same r), λ x. subst IsRated (sym same) (when x))
 
 -- what is read is in range; with fewer than two components present it is refused 16, whatever split it has
-pub read-in-range : (s : List ℕ) (code : ℕ) → readOf s code .answer ≡ Read → InRange (analysisIn s code)
-read-in-range s code h = read-passed s code h
+pub read-in-range : (s : List ℕ) → readOf s .answer ≡ Read → InRange (analysisIn s)
+read-in-range s h = read-passed s h
 
-pub few-refused : (s : List ℕ) (code : ℕ) → readOf s code .answer ≡ Read
-    → presentCount (simplifiedOf (analysisIn s code)) < 2 → sheetOutcome s code ≡ outcome (Refused 16 0) noSplit
-few-refused s code h l = read-few s code h (too-few (analysisIn s code) (read-passed s code h) l)
+pub few-refused : (s : List ℕ) → readOf s .answer ≡ Read
+    → presentCount (simplifiedOf (analysisIn s)) < 2 → sheetOutcome s ≡ outcome (Refused 16 0) noSplit
+few-refused s h l = read-few s h (too-few (analysisIn s) (read-passed s h) l)
 
 -- and every sheet at all ends in a rating, in one of 1 to 11 or in 16
-pub every-sheet-ends : (s : List ℕ) (code : ℕ)
-    → let answer = sheetOutcome s code .answer in
+pub every-sheet-ends : (s : List ℕ)
+    → let answer = sheetOutcome s .answer in
     (IsRated answer ⊎ ((1 ≤ numberOf answer) × (numberOf answer ≤ 11))) ⊎ (answer ≡ Refused 16 0)
-every-sheet-ends s code = sheet-ends s code
+every-sheet-ends s = sheet-ends s

@@ -34,11 +34,11 @@ same-found analysis long passed few many le s r is =
     (ap (λ (f : Found). f .search) (sym u) ∙ is)
     ∙ sym u
 
-pub larger-allowance : (analysis : List ℕ) → length analysis ≡ CODES → (few many code : ℕ) → few ≤ many
-    → (w : ℤ) (s r : ℕ) → searchOutcome analysis few code .answer ≡ Rated w s r
-    → searchOutcome analysis many code ≡ searchOutcome analysis few code
+pub larger-allowance : (analysis : List ℕ) → length analysis ≡ CODES → (few many : ℕ) → few ≤ many
+    → (w : ℤ) (s r : ℕ) → searchOutcome analysis few .answer ≡ Rated w s r
+    → searchOutcome analysis many ≡ searchOutcome analysis few
 unfolding searchOutcome
-larger-allowance analysis long few many code le w s r is =
-    let (passed, x, e, f) = search-rated analysis few code w s r is in
+larger-allowance analysis long few many le w s r is =
+    let (passed, x, e, f) = search-rated analysis few w s r is in
     let same = same-found analysis long passed few many le s r x in
     rw (passed, same)

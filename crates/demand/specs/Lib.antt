@@ -5,4 +5,5 @@ pub mod Lasting
 pub mod Small
 pub mod Recorded
 pub mod Marked
+pub mod FirstCode
 pub mod Laws

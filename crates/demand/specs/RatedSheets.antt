@@ -8,8 +8,8 @@ use Rattle.sheet.specs.Read.{readOf}
 use Rattle.sheet.specs.declared.Split.{Split}
 use Rattle.outcome.specs.Rate.{sheetOutcome}
 
-abbrev pub analysisIn : List ℕ → ℕ → List ℕ
-analysisIn s code = readOf s code .analysis .amounts
+abbrev pub analysisIn : List ℕ → List ℕ
+analysisIn s = readOf s .analysis .amounts
 
-abbrev pub splitRated : List ℕ → ℕ → Split
-splitRated s code = cond (eqb (readOf s code .split .count) 0) (sheetOutcome s code .split) (readOf s code .split)
+abbrev pub splitRated : List ℕ → Split
+splitRated s = cond (eqb (readOf s .split .count) 0) (sheetOutcome s .split) (readOf s .split)

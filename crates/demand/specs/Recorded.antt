@@ -7,7 +7,7 @@
 -- `div binary64 d tenMillion`, where the double d is the rating exactly (it has no fraction, and turned back into a
 -- whole number it is the rating) and tenMillion is 10000000 exactly; so it is the fraction rating / 10000000, rounded
 -- once. The same holds of the spread. `DividedOnce` says so of a field; `controller::record` and `saugrinte_controller`
--- promise `recordOf`. `code` is the code that refusal 5 carries.
+-- promise `recordOf`.
 use mathlib.Core.Path.{_≡_}
 use mathlib.Core.List.{List}
 use Prim.Native.Nat.{ℕ}
@@ -37,13 +37,13 @@ small-recorded (Refused number place) h = tt
 
 -- every rating: of a proposed split, by the search, of a sheet
 pub every-rating-recorded :
-    ((analysis : List ℕ) → length analysis ≡ CODES → (p : Split) (code : ℕ) → Recorded (splitAnswer analysis p code))
-    × ((analysis : List ℕ) → length analysis ≡ CODES → (allowance code : ℕ)
-    → Recorded (searchOutcome analysis allowance code .answer))
-    × ((s : List ℕ) (code : ℕ) → Recorded (sheetOutcome s code .answer))
+    ((analysis : List ℕ) → length analysis ≡ CODES → (p : Split) → Recorded (splitAnswer analysis p))
+    × ((analysis : List ℕ) → length analysis ≡ CODES → (allowance : ℕ)
+    → Recorded (searchOutcome analysis allowance .answer))
+    × ((s : List ℕ) → Recorded (sheetOutcome s .answer))
 every-rating-recorded = (
-  λ analysis long p code. small-recorded (splitAnswer analysis p code) (split-small analysis long p code),
-  λ analysis long allowance code. small-recorded (searchOutcome analysis allowance code .answer)
-      (search-small analysis long allowance code),
-  λ s code. small-recorded (sheetOutcome s code .answer) (sheet-small s code),
+  λ analysis long p. small-recorded (splitAnswer analysis p) (split-small analysis long p),
+  λ analysis long allowance. small-recorded (searchOutcome analysis allowance .answer)
+      (search-small analysis long allowance),
+  λ s. small-recorded (sheetOutcome s .answer) (sheet-small s),
 )

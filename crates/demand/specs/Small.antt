@@ -41,11 +41,11 @@ rated-small (Rated w s r) h = h w s r refl
 rated-small (Refused number place) h = tt
 
 -- of a proposed split, and of the one that the search found
-proposed-small : (analysis : List ℕ) → length analysis ≡ CODES → (p : Split) (code : ℕ) (w : ℤ) (s r : ℕ)
-    → splitAnswer analysis p code ≡ Rated w s r
+proposed-small : (analysis : List ℕ) → length analysis ≡ CODES → (p : Split) (w : ℤ) (s r : ℕ)
+    → splitAnswer analysis p ≡ Rated w s r
     → BelowDouble w s
-proposed-small analysis long p code w s r is =
-    let (on, e) = split-rated analysis p code w s r is in
+proposed-small analysis long p w s r is =
+    let (on, e) = split-rated analysis p w s r is in
     let mix = mixOf analysis in
     let systems = systemsFor analysis in
     let count = countFor analysis in
@@ -56,38 +56,38 @@ proposed-small analysis long p code w s r is =
       accuracy.rated-spread-small systems count mix cells known LIMIT (inertFirst analysis) w s r e,
     )
 
-found-small : (analysis : List ℕ) → length analysis ≡ CODES → (allowance code : ℕ) (w : ℤ) (s r : ℕ)
-    → searchOutcome analysis allowance code .answer ≡ Rated w s r
+found-small : (analysis : List ℕ) → length analysis ≡ CODES → (allowance : ℕ) (w : ℤ) (s r : ℕ)
+    → searchOutcome analysis allowance .answer ≡ Rated w s r
     → BelowDouble w s
-found-small analysis long allowance code w s r is =
-    proposed-small analysis long (searchOutcome analysis allowance code .split) code w s 0
-    (found-back analysis long allowance code code w s r is)
+found-small analysis long allowance w s r is =
+    proposed-small analysis long (searchOutcome analysis allowance .split) w s 0
+    (found-back analysis long allowance w s r is)
 
-pub split-small : (analysis : List ℕ) → length analysis ≡ CODES → (p : Split) (code : ℕ)
-    → SmallFigures (splitAnswer analysis p code)
-split-small analysis long p code =
-    rated-small (splitAnswer analysis p code) (λ w s r is. proposed-small analysis long p code w s r is)
+pub split-small : (analysis : List ℕ) → length analysis ≡ CODES → (p : Split)
+    → SmallFigures (splitAnswer analysis p)
+split-small analysis long p =
+    rated-small (splitAnswer analysis p) (λ w s r is. proposed-small analysis long p w s r is)
 
-pub search-small : (analysis : List ℕ) → length analysis ≡ CODES → (allowance code : ℕ)
-    → SmallFigures (searchOutcome analysis allowance code .answer)
-search-small analysis long allowance code =
-    rated-small (searchOutcome analysis allowance code .answer)
-    (λ w s r is. found-small analysis long allowance code w s r is)
+pub search-small : (analysis : List ℕ) → length analysis ≡ CODES → (allowance : ℕ)
+    → SmallFigures (searchOutcome analysis allowance .answer)
+search-small analysis long allowance =
+    rated-small (searchOutcome analysis allowance .answer)
+    (λ w s r is. found-small analysis long allowance w s r is)
 
 -- of a sheet
-by-split : (none : Bool) (analysis : List ℕ) → length analysis ≡ CODES → (p : Split) (code : ℕ)
+by-split : (none : Bool) (analysis : List ℕ) → length analysis ≡ CODES → (p : Split)
     → SmallFigures
-    (cond none (searchOutcome analysis ROUNDS code) (outcome (splitAnswer analysis p code) noSplit) .answer)
-by-split true analysis long p code = search-small analysis long ROUNDS code
-by-split false analysis long p code = split-small analysis long p code
+    (cond none (searchOutcome analysis ROUNDS) (outcome (splitAnswer analysis p) noSplit) .answer)
+by-split true analysis long p = search-small analysis long ROUNDS
+by-split false analysis long p = split-small analysis long p
 
-read-small : (x : Reading) (analysis : List ℕ) → (x ≡ reading.Read → length analysis ≡ CODES) → (p : Split) (code : ℕ)
-    → SmallFigures (sheetOutcomeBy x analysis p code .answer)
-read-small (reading.Refused number place code′) analysis long p code = tt
-read-small reading.Read analysis long p code = by-split (eqb (p .count) 0) analysis (long refl) p code
+read-small : (x : Reading) (analysis : List ℕ) → (x ≡ reading.Read → length analysis ≡ CODES) → (p : Split)
+    → SmallFigures (sheetOutcomeBy x analysis p .answer)
+read-small (reading.Refused number place code) analysis long p = tt
+read-small reading.Read analysis long p = by-split (eqb (p .count) 0) analysis (long refl) p
 
-pub sheet-small : (s : List ℕ) (code : ℕ) → SmallFigures (sheetOutcome s code .answer)
+pub sheet-small : (s : List ℕ) → SmallFigures (sheetOutcome s .answer)
 unfolding sheetOutcome
-sheet-small s code =
-    let x = readOf s code in
-    read-small (x .answer) (x .analysis .amounts) (λ h. read-long s code h) (x .split) code
+sheet-small s =
+    let x = readOf s in
+    read-small (x .answer) (x .analysis .amounts) (λ h. read-long s h) (x .split)

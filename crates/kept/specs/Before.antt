@@ -9,7 +9,7 @@ use lib.Dec.{eqb, ltb}
 use lib.ListN.{getD}
 use Rattle.split.specs.Rating.{LIMIT}
 use Rattle.refusal.specs.Register.{MISFIT, UNBALANCED, TOO_FEW, carried}
-use Rattle.analysis.specs.Required.{refusalIn}
+use Rattle.analysis.specs.Required.{refusalIn, lowestFaultIn}
 use Rattle.sheet.specs.Split.{noSplit}
 use Rattle.sheet.specs.declared.Split.{Split}
 use Rattle.systems.specs.Choice.{presentTo, choiceFrom}
@@ -47,7 +47,8 @@ unfoldable pub fitsBefore : List ℕ → ℕ → ℕ → List ℕ → List ℕ �
 fitsBefore systems count records named codes =
     eqb records (3 * count) && allTo (matchesBefore systems count named codes) records
 
--- ---- the answers, of a refusal's number (0: rated on), a choice of systems, a mixture and its inert part
+-- ---- the answers, of a refusal's number (0: rated on) and the code that 5 carries, a choice of systems, a mixture and
+-- its inert part
 
 unfoldable pub splitWith : List ℕ → ℕ → List ℕ → ℕ → Split → Answer
 splitWith systems count mix n1 split =
@@ -55,8 +56,8 @@ splitWith systems count mix n1 split =
     (proposedIn BEFORE LIMIT systems count mix (cellsIn BEFORE systems count (split .amounts)) n1)
     (Refused MISFIT 0)
 
-abbrev pub splitAnswerWith : ℕ → Choice → List ℕ → ℕ → Split → ℕ → Answer
-splitAnswerWith number choice mix n1 split code =
+abbrev pub splitAnswerWith : ℕ → ℕ → Choice → List ℕ → ℕ → Split → Answer
+splitAnswerWith number code choice mix n1 split =
     checkedBy number code (splitWith (choice .systems) (choice .count) mix n1 split)
 
 abbrev pub recordsBefore : List ℕ → ℕ → List ℕ → Split
@@ -82,8 +83,8 @@ searchedWith choice mix allowance =
     searchIn BEFORE (choice .systems) (choice .count) LIMIT FIRST_LEVEL (min allowance ROUNDS)
     (startIn BEFORE mix (choice .systems) (choice .count))
 
-abbrev pub searchOutcomeWith : ℕ → Choice → List ℕ → ℕ → ℕ → ℕ → Outcome
-searchOutcomeWith number choice mix n1 allowance code =
+abbrev pub searchOutcomeWith : ℕ → ℕ → Choice → List ℕ → ℕ → ℕ → Outcome
+searchOutcomeWith number code choice mix n1 allowance =
     cond (eqb number 0)
     (foundOutcomeWith (choice .systems) (choice .count) n1 (searchedWith choice mix allowance))
     (outcome (Refused number (carried number code 0)) noSplit)
@@ -100,12 +101,16 @@ refusalBefore analysis =
     (cond (ltb (ones (presentTo HYDROCARBONS (simplifiedBefore analysis))) FEWEST) TOO_FEW 0)
     (refusalIn registerBefore analysis)
 
-unfoldable pub splitBefore : List ℕ → Split → ℕ → Answer
-splitBefore analysis split code =
-    splitAnswerWith (refusalBefore analysis) (choiceBefore (simplifiedBefore analysis)) (simplifiedBefore analysis)
-    (inertBefore analysis) split code
+-- 5 carries the lowest code at fault by that register
+abbrev pub faultBefore : List ℕ → ℕ
+faultBefore analysis = lowestFaultIn registerBefore 0 analysis
 
-unfoldable pub searchBefore : List ℕ → ℕ → ℕ → Outcome
-searchBefore analysis allowance code =
-    searchOutcomeWith (refusalBefore analysis) (choiceBefore (simplifiedBefore analysis)) (simplifiedBefore analysis)
-    (inertBefore analysis) allowance code
+unfoldable pub splitBefore : List ℕ → Split → Answer
+splitBefore analysis split =
+    splitAnswerWith (refusalBefore analysis) (faultBefore analysis) (choiceBefore (simplifiedBefore analysis))
+    (simplifiedBefore analysis) (inertBefore analysis) split
+
+unfoldable pub searchBefore : List ℕ → ℕ → Outcome
+searchBefore analysis allowance =
+    searchOutcomeWith (refusalBefore analysis) (faultBefore analysis) (choiceBefore (simplifiedBefore analysis))
+    (simplifiedBefore analysis) (inertBefore analysis) allowance

@@ -4,8 +4,7 @@
 -- hydrogen. `splitBeforeFive` and `searchBeforeFive` are the answers of four components (`Before.splitAnswerWith` and
 -- `searchOutcomeWith`) at that refusal and that choice. For every analysis that 5 and 6 let pass then, all four
 -- components are present, the choice by presence and fitness is the choice by fitness alone, and the answers are the
--- same: to every proposed split, and by the search with every allowance, rating, spread, rounds and split. `code` is
--- the code that refusal 5 carries.
+-- same: to every proposed split, and by the search with every allowance, rating, spread, rounds and split.
 use mathlib.Core.Path.{_≡_, refl, sym, ap, _∙_, subst}
 use mathlib.Core.Bool.{Bool, true, false, cond}
 use mathlib.Core.Logic.{_↔_}
@@ -21,13 +20,13 @@ use Rattle.refusal.specs.Register.{carried}
 use Rattle.refusal.specs.Laws.Keys.{each-passes}
 use Rattle.analysis.specs.Register.{CODES, statusIn, hydrogenCode}
 use Rattle.analysis.specs.Check.{requiredBy, totalFits}
-use Rattle.analysis.specs.Required.{requiring, refusalIn}
+use Rattle.analysis.specs.Required.{requiring, refusalIn, lowestFaultIn}
 use Rattle.analysis.specs.Laws.Required.{requiring-exactly-when}
 use Rattle.sheet.specs.Split.{noSplit}
 use Rattle.sheet.specs.Components.{codesReading, zeroListed}
 use Rattle.sheet.specs.Sheet.{sectionsOf}
 use Rattle.sheet.specs.Read.{readAmounts, contentOf, readOf}
-use Rattle.sheet.specs.Laws.Cases.{read-good, amounts-checked}
+use Rattle.sheet.specs.Laws.Cases.{amounts-long, read-good, amounts-checked}
 use Rattle.sheet.specs.declared.Sections.the-variants.{Both}
 use Rattle.sheet.specs.declared.Reading.the-variants.{Read}
 use Rattle.sheet.specs.declared.Split.{Split}
@@ -48,7 +47,7 @@ use Rattle.split.specs.declared.Answer.the-variants.{Rated, Refused}
 use Rattle.outcome.specs.Rate.{ROUNDS, mixOf, checkedBy, splitAnswer, outcome, searchOutcome, sheetOutcome}
 use Rattle.outcome.specs.RatedOn.{InRange, RatedOn}
 use Rattle.outcome.specs.Laws.RatedOn.{enough-on}
-use Rattle.outcome.specs.Laws.Ends.{amounts-long, read-long}
+use Rattle.outcome.specs.Laws.Ends.{read-long}
 use Rattle.outcome.specs.declared.Outcome.{Outcome}
 use Rattle.demand.specs.Laws.Sheets.{read-searched, read-own}
 use Rattle.demand.specs.RatedSheets.{analysisIn}
@@ -97,15 +96,19 @@ before-exactly-when analysis long = (
 abbrev pub choiceBeforeFive : List ℕ → Choice
 choiceBeforeFive mix = choiceFrom (chooseBy (fitnessOf mix) hydrocarbonSystems hydrocarbonOrder)
 
-unfoldable pub splitBeforeFive : List ℕ → Split → ℕ → Answer
-splitBeforeFive analysis p code =
-    splitAnswerWith (refusalBeforeFive analysis) (choiceBeforeFive (simplifiedBefore analysis))
-    (simplifiedBefore analysis) (inertBefore analysis) p code
+-- 5 carries the lowest code at fault by that register
+abbrev pub faultBeforeFive : List ℕ → ℕ
+faultBeforeFive analysis = lowestFaultIn (requiring requiredBefore registerBefore) 0 analysis
 
-unfoldable pub searchBeforeFive : List ℕ → ℕ → ℕ → Outcome
-searchBeforeFive analysis allowance code =
-    searchOutcomeWith (refusalBeforeFive analysis) (choiceBeforeFive (simplifiedBefore analysis))
-    (simplifiedBefore analysis) (inertBefore analysis) allowance code
+unfoldable pub splitBeforeFive : List ℕ → Split → Answer
+splitBeforeFive analysis p =
+    splitAnswerWith (refusalBeforeFive analysis) (faultBeforeFive analysis)
+    (choiceBeforeFive (simplifiedBefore analysis)) (simplifiedBefore analysis) (inertBefore analysis) p
+
+unfoldable pub searchBeforeFive : List ℕ → ℕ → Outcome
+searchBeforeFive analysis allowance =
+    searchOutcomeWith (refusalBeforeFive analysis) (faultBeforeFive analysis)
+    (choiceBeforeFive (simplifiedBefore analysis)) (simplifiedBefore analysis) (inertBefore analysis) allowance
 
 -- the gas of 001 Table A.1 passed; one of methane and ethane alone was refused 5
 pub passed-before : (refusalBeforeFive tableA1 ≡ 0) × (refusalBeforeFive methaneEthane ≡ 5)
@@ -155,23 +158,23 @@ module _ (analysis : List ℕ) (long : length analysis ≡ CODES) (before : refu
       hydrocarbonOrder))
 
   -- the answers are those from before: to every proposed split,
-  pub split-kept : (p : Split) (code : ℕ) → splitAnswer analysis p code ≡ splitBeforeFive analysis p code
+  pub split-kept : (p : Split) → splitAnswer analysis p ≡ splitBeforeFive analysis p
   unfolding splitBefore splitBeforeFive
-  split-kept p code =
-      seven.split-kept analysis none p code
+  split-kept p =
+      seven.split-kept analysis none p
       ∙ rw (sym (seven.refusal-kept analysis none), rated-on, before)
-      (ap (λ (choice : Choice). splitAnswerWith 0 choice (simplifiedBefore analysis) (inertBefore analysis) p code)
+      (ap (λ (choice : Choice). splitAnswerWith 0 0 choice (simplifiedBefore analysis) (inertBefore analysis) p)
       choice-kept)
 
   -- and by the search with every allowance
-  pub search-kept : (allowance code : ℕ)
-      → searchOutcome analysis allowance code ≡ searchBeforeFive analysis allowance code
+  pub search-kept : (allowance : ℕ)
+      → searchOutcome analysis allowance ≡ searchBeforeFive analysis allowance
   unfolding searchBefore searchBeforeFive
-  search-kept allowance code =
-      seven.search-kept-all analysis none allowance code
+  search-kept allowance =
+      seven.search-kept-all analysis none allowance
       ∙ rw (sym (seven.refusal-kept analysis none), rated-on, before)
-      (ap (λ (choice : Choice). searchOutcomeWith 0 choice (simplifiedBefore analysis)
-      (inertBefore analysis) allowance code) choice-kept)
+      (ap (λ (choice : Choice). searchOutcomeWith 0 0 choice (simplifiedBefore analysis)
+      (inertBefore analysis) allowance) choice-kept)
 
 -- ---- what was rated before
 
@@ -183,51 +186,52 @@ not-refused n code x h = go (eqb n 0) refl h
     go false e h = absurd h
 
 -- a split rated before gets the same rating and the same spread
-pub split-rated-before : (analysis : List ℕ) → length analysis ≡ CODES → (p : Split) (code : ℕ) (w : ℤ) (s r : ℕ)
-    → splitBeforeFive analysis p code ≡ Rated w s r → splitAnswer analysis p code ≡ Rated w s r
+pub split-rated-before : (analysis : List ℕ) → length analysis ≡ CODES → (p : Split) (w : ℤ) (s r : ℕ)
+    → splitBeforeFive analysis p ≡ Rated w s r → splitAnswer analysis p ≡ Rated w s r
 unfolding splitBeforeFive
-split-rated-before analysis long p code w s r is =
-    let passed = not-refused (refusalBeforeFive analysis) code _ (subst IsRated (sym is) tt) in
-    split-kept analysis long passed p code ∙ is
+split-rated-before analysis long p w s r is =
+    let passed = not-refused (refusalBeforeFive analysis) (faultBeforeFive analysis) _ (subst IsRated (sym is) tt) in
+    split-kept analysis long passed p ∙ is
 
 -- a gas rated by the search gets the same rating, spread, rounds and split
-pub search-rated-before : (analysis : List ℕ) → length analysis ≡ CODES → (allowance code : ℕ)
-    → IsRated (searchBeforeFive analysis allowance code .answer)
-    → searchOutcome analysis allowance code ≡ searchBeforeFive analysis allowance code
+pub search-rated-before : (analysis : List ℕ) → length analysis ≡ CODES → (allowance : ℕ)
+    → IsRated (searchBeforeFive analysis allowance .answer)
+    → searchOutcome analysis allowance ≡ searchBeforeFive analysis allowance
 unfolding searchBeforeFive
-search-rated-before analysis long allowance code is = go (eqb (refusalBeforeFive analysis) 0) refl is
+search-rated-before analysis long allowance is = go (eqb (refusalBeforeFive analysis) 0) refl is
   where
     go : (b : Bool) → eqb (refusalBeforeFive analysis) 0 ≡ b
-        → IsRated (cond b (searchOutcomeWith 0 (choiceBeforeFive (simplifiedBefore analysis))
-        (simplifiedBefore analysis) (inertBefore analysis) allowance code)
-        (outcome (Refused (refusalBeforeFive analysis) (carried (refusalBeforeFive analysis) code 0)) noSplit) .answer)
-        → searchOutcome analysis allowance code ≡ searchBeforeFive analysis allowance code
-    go true e h = search-kept analysis long (eqb-true (refusalBeforeFive analysis) 0 e) allowance code
+        → IsRated (cond b (searchOutcomeWith 0 0 (choiceBeforeFive (simplifiedBefore analysis))
+        (simplifiedBefore analysis) (inertBefore analysis) allowance)
+        (outcome (Refused (refusalBeforeFive analysis)
+        (carried (refusalBeforeFive analysis) (faultBeforeFive analysis) 0)) noSplit) .answer)
+        → searchOutcome analysis allowance ≡ searchBeforeFive analysis allowance
+    go true e h = search-kept analysis long (eqb-true (refusalBeforeFive analysis) 0 e) allowance
     go false e h = absurd h
 
 -- ---- a sheet
 
 -- one with two sections of counts that are allowed, as those from before are (`Pinned.counts-kept`), with codes in
 -- order, none listed at 0, and with an analysis that 5 and 6 let pass then, is read, with these contents
-pub sheet-read-kept : (s : List ℕ) (code n m first : ℕ) → sectionsOf s ≡ Both n m first
+pub sheet-read-kept : (s : List ℕ) (n m first : ℕ) → sectionsOf s ≡ Both n m first
     → codesReading n s 1 0 0 ≡ Read → zeroListed n s 1 ≡ false → refusalBeforeFive (readAmounts n s) ≡ 0
-    → readOf s code ≡ contentOf n m first s
-sheet-read-kept s code n m first sections codes none before =
-    read-good s code n m first sections codes
+    → readOf s ≡ contentOf n m first s
+sheet-read-kept s n m first sections codes none before =
+    read-good s n m first sections codes
     (amounts-checked n s none ∙ passes (readAmounts n s) (amounts-long n s 1 _) before)
 
 -- and answered as before: by the search, or by its own split
 
-module _ (s : List ℕ) (code : ℕ) (h : readOf s code .answer ≡ Read)
-    (before : refusalBeforeFive (analysisIn s code) ≡ 0) where
-  pub sheet-search-kept : readOf s code .split .count ≡ 0
-      → sheetOutcome s code ≡ searchBeforeFive (analysisIn s code) ROUNDS code
+module _ (s : List ℕ) (h : readOf s .answer ≡ Read)
+    (before : refusalBeforeFive (analysisIn s) ≡ 0) where
+  pub sheet-search-kept : readOf s .split .count ≡ 0
+      → sheetOutcome s ≡ searchBeforeFive (analysisIn s) ROUNDS
   sheet-search-kept e =
-      read-searched s code h e ∙ search-kept (analysisIn s code) (read-long s code h) before ROUNDS code
+      read-searched s h e ∙ search-kept (analysisIn s) (read-long s h) before ROUNDS
 
-  pub sheet-split-kept : (readOf s code .split .count ≡ 0 → ⊥)
-      → sheetOutcome s code ≡ outcome (splitBeforeFive (analysisIn s code) (readOf s code .split) code) noSplit
+  pub sheet-split-kept : (readOf s .split .count ≡ 0 → ⊥)
+      → sheetOutcome s ≡ outcome (splitBeforeFive (analysisIn s) (readOf s .split)) noSplit
   sheet-split-kept n =
-      read-own s code h n
+      read-own s h n
       ∙ ap (λ (x : Answer). outcome x noSplit)
-      (split-kept (analysisIn s code) (read-long s code h) before (readOf s code .split) code)
+      (split-kept (analysisIn s) (read-long s h) before (readOf s .split))

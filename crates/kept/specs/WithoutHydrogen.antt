@@ -3,7 +3,7 @@
 -- The answers from before are `Before.splitBefore` and `searchBefore`: the register without code 15, four components,
 -- the choice among 2, 4, 7 and 8, splits and search in rows of four cells. An analysis without hydrogen is answered
 -- as it was, to every proposed split, and by the search with every allowance: rating, spread, rounds, split and
--- refusal. `code` is the code that refusal 5 carries.
+-- refusal. Of 5, which carried any code at fault then, the lowest is taken, by the register of that day.
 use mathlib.Core.Path.{_≡_, refl, sym, ap, ap₂, _∙_}
 use mathlib.Core.Bool.{Bool, true, false, not, cond, _&&_}
 use mathlib.Core.List.{List}
@@ -17,12 +17,13 @@ use Rattle.analysis.specs.Register.{hydrogenCode}
 use Rattle.split.specs.Rating.{LIMIT}
 use Rattle.refusal.specs.Keys.{isIn}
 use Rattle.refusal.specs.Register.{carried}
+use Rattle.analysis.specs.Check.{lowestFault}
 use Rattle.analysis.specs.Required.{refusalIn}
 use Rattle.sheet.specs.Split.{noSplit}
 use Rattle.sheet.specs.Components.{codesReading, zeroListed}
 use Rattle.sheet.specs.Sheet.{sectionsOf}
 use Rattle.sheet.specs.Read.{readAmounts, contentOf, readOf}
-use Rattle.sheet.specs.Laws.Cases.{read-good, amounts-checked}
+use Rattle.sheet.specs.Laws.Cases.{amounts-long, read-good, amounts-checked}
 use Rattle.sheet.specs.declared.Sections.the-variants.{Both}
 use Rattle.sheet.specs.declared.Split.{Split}
 use Rattle.sheet.specs.declared.Reading.the-variants.{Read}
@@ -47,13 +48,12 @@ use Rattle.outcome.specs.Rate.{sheetOutcome}
 use Rattle.outcome.specs.LeftOut.{mixture-number}
 use Rattle.outcome.specs.RatedOn.{RatedOn}
 use Rattle.outcome.specs.Laws.Ready.{choosable, chosen}
-use Rattle.outcome.specs.Laws.Ends.{amounts-long}
 use Rattle.outcome.specs.declared.Outcome.{Outcome}
 use Rattle.demand.specs.Laws.Sheets.{read-searched, read-own}
 use Rattle.demand.specs.RatedSheets.{analysisIn}
 use Rattle.kept.specs.Laws.BeforeCheck as check
 use Rattle.kept.specs.BeforeCheck.{registerBefore}
-use Rattle.kept.specs.Laws.BeforeCheck.{without-kept}
+use Rattle.kept.specs.Laws.BeforeCheck.{without-kept, lowest-kept}
 use Rattle.kept.specs.BeforeMixture.{simplifiedBefore}
 use Rattle.kept.specs.Laws.BeforeMixture.{mixture-same, no-hydrogen, inert-kept}
 use Rattle.kept.specs.Widths.{BEFORE}
@@ -62,6 +62,7 @@ use Rattle.kept.specs.Laws.Alike.{Without}
 use Rattle.kept.specs.Laws.WidthKept.{NoHydrogen, component-kept, proposed-kept, search-kept, KeptSearch}
 use Rattle.kept.specs.Before.{codeBefore, codesBefore, matchesBefore, fitsBefore, splitWith, recordsBefore}
 use Rattle.kept.specs.Before.{foundWith, foundOutcomeWith, searchOutcomeWith, choiceBefore, refusalBefore}
+use Rattle.kept.specs.Before.{faultBefore}
 use Rattle.kept.specs.Before.{splitBefore, searchBefore}
 
 -- ---- chosen systems without hydrogen: the records are the same
@@ -134,6 +135,10 @@ module _ (analysis : List ℕ) (none : getD analysis hydrogenCode 0 ≡ 0) where
   unfolding ratingRefusal
   refusal-kept = rw (without-kept analysis none, mixture-number (mixOf analysis), count-same)
 
+  -- with the same code,
+  pub fault-kept : lowestFault 0 analysis ≡ faultBefore analysis
+  fault-kept = sym (lowest-kept analysis none)
+
   -- and the same choice
   pub choice-kept : choiceOf (mixOf analysis) ≡ choiceBefore (simplifiedBefore analysis)
   choice-kept =
@@ -158,44 +163,45 @@ module _ (analysis : List ℕ) (none : getD analysis hydrogenCode 0 ≡ 0) where
           (sym (sym four ∙ offered) ∙ hydrocarbons-are system (chosen analysis on .known s h))
 
   -- so it is answered as it was: to every proposed split,
-  pub split-kept : (p : Split) (code : ℕ) → splitAnswer analysis p code ≡ splitBefore analysis p code
+  pub split-kept : (p : Split) → splitAnswer analysis p ≡ splitBefore analysis p
   unfolding splitAnswer splitBefore
-  split-kept p code =
+  split-kept p =
       go (eqb (ratingRefusal analysis) 0) refl
-      ∙ (λ j. checkedBy (refusal-kept j) code
+      ∙ (λ j. checkedBy (refusal-kept j) (fault-kept j)
       (splitWith (choice-kept j .systems) (choice-kept j .count) (simplifiedBefore analysis)
       (inert-kept analysis none j) p))
     where
       go : (b : Bool) → eqb (ratingRefusal analysis) 0 ≡ b
           → let systems = systemsFor analysis in
           let count = countFor analysis in
-          let checked = checkedBy (ratingRefusal analysis) code in
+          let checked = checkedBy (ratingRefusal analysis) (lowestFault 0 analysis) in
           checked (splitBy systems count (mixOf analysis) (inertFirst analysis) p)
           ≡ checked (splitWith systems count (simplifiedBefore analysis) (inertFirst analysis) p)
       go true e =
           let on = eqb-true (ratingRefusal analysis) 0 e in
-          ap (checkedBy (ratingRefusal analysis) code)
+          ap (checkedBy (ratingRefusal analysis) (lowestFault 0 analysis))
           (sym (split-same (systemsFor analysis) (countFor analysis) (without on) (simplifiedBefore analysis)
           (mixOf analysis) no (inertFirst analysis) p))
       go false e = rw e
 
   -- and by the search with every allowance
-  pub search-kept-all : (allowance code : ℕ)
-      → searchOutcome analysis allowance code ≡ searchBefore analysis allowance code
+  pub search-kept-all : (allowance : ℕ)
+      → searchOutcome analysis allowance ≡ searchBefore analysis allowance
   unfolding searchOutcome searchBefore
-  search-kept-all allowance code =
+  search-kept-all allowance =
       go (eqb (ratingRefusal analysis) 0) refl
-      ∙ (λ j. searchOutcomeWith (refusal-kept j) (choice-kept j) (simplifiedBefore analysis)
-      (inert-kept analysis none j) allowance code)
+      ∙ (λ j. searchOutcomeWith (refusal-kept j) (fault-kept j) (choice-kept j) (simplifiedBefore analysis)
+      (inert-kept analysis none j) allowance)
     where
       go : (b : Bool) → eqb (ratingRefusal analysis) 0 ≡ b
-          → searchOutcomeBy (ratingRefusal analysis) (choiceOf (mixOf analysis)) analysis allowance code
-          ≡ searchOutcomeWith (ratingRefusal analysis) (choiceOf (mixOf analysis)) (simplifiedBefore analysis)
-          (inertFirst analysis) allowance code
+          → searchOutcomeBy (ratingRefusal analysis) (choiceOf (mixOf analysis)) analysis allowance
+          ≡ searchOutcomeWith (ratingRefusal analysis) (lowestFault 0 analysis) (choiceOf (mixOf analysis))
+          (simplifiedBefore analysis) (inertFirst analysis) allowance
       go true e =
           let on = eqb-true (ratingRefusal analysis) 0 e in
           ap (λ (x : Outcome). cond (eqb (ratingRefusal analysis) 0) x
-          (outcome (Refused (ratingRefusal analysis) (carried (ratingRefusal analysis) code 0)) noSplit))
+          (outcome (Refused (ratingRefusal analysis)
+          (carried (ratingRefusal analysis) (lowestFault 0 analysis) 0)) noSplit))
           (sym (found-same (systemsFor analysis) (countFor analysis) (without on) (simplifiedBefore analysis)
           (mixOf analysis) no (inertFirst analysis) _ _
           (search-kept (systemsFor analysis) (countFor analysis) (without on) (simplifiedBefore analysis)
@@ -206,23 +212,23 @@ module _ (analysis : List ℕ) (none : getD analysis hydrogenCode 0 ≡ 0) where
 
 -- one with two sections of counts that are allowed, as those from before are (`Pinned.counts-kept`), with codes in
 -- order, none listed at 0, and with an analysis that 5 and 6 let pass then, is read, with these contents
-pub sheet-read-kept : (s : List ℕ) (code n m first : ℕ) → sectionsOf s ≡ Both n m first
+pub sheet-read-kept : (s : List ℕ) (n m first : ℕ) → sectionsOf s ≡ Both n m first
     → codesReading n s 1 0 0 ≡ Read → zeroListed n s 1 ≡ false
     → refusalIn registerBefore (readAmounts n s) ≡ 0
-    → readOf s code ≡ contentOf n m first s
-sheet-read-kept s code n m first sections codes none before =
-    read-good s code n m first sections codes
+    → readOf s ≡ contentOf n m first s
+sheet-read-kept s n m first sections codes none before =
+    read-good s n m first sections codes
     (amounts-checked n s none ∙ check.before-exactly-when (readAmounts n s) (amounts-long n s 1 _) .0 before .0)
 
 -- and answered as it was: by the search, or by its own split
-module _ (s : List ℕ) (code : ℕ) (h : readOf s code .answer ≡ Read)
-    (none : getD (analysisIn s code) hydrogenCode 0 ≡ 0) where
-  pub sheet-search-kept : readOf s code .split .count ≡ 0
-      → sheetOutcome s code ≡ searchBefore (analysisIn s code) ROUNDS code
-  sheet-search-kept e = read-searched s code h e ∙ search-kept-all (analysisIn s code) none ROUNDS code
+module _ (s : List ℕ) (h : readOf s .answer ≡ Read)
+    (none : getD (analysisIn s) hydrogenCode 0 ≡ 0) where
+  pub sheet-search-kept : readOf s .split .count ≡ 0
+      → sheetOutcome s ≡ searchBefore (analysisIn s) ROUNDS
+  sheet-search-kept e = read-searched s h e ∙ search-kept-all (analysisIn s) none ROUNDS
 
-  pub sheet-split-kept : (readOf s code .split .count ≡ 0 → ⊥)
-      → sheetOutcome s code ≡ outcome (splitBefore (analysisIn s code) (readOf s code .split) code) noSplit
+  pub sheet-split-kept : (readOf s .split .count ≡ 0 → ⊥)
+      → sheetOutcome s ≡ outcome (splitBefore (analysisIn s) (readOf s .split)) noSplit
   sheet-split-kept n =
-      read-own s code h n
-      ∙ ap (λ (x : Answer). outcome x noSplit) (split-kept (analysisIn s code) none (readOf s code .split) code)
+      read-own s h n
+      ∙ ap (λ (x : Answer). outcome x noSplit) (split-kept (analysisIn s) none (readOf s .split))

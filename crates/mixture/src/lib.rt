@@ -7,7 +7,7 @@ ghost use mathlib.Core.Path.{_≡_};
 ghost use Prim.Native.Nat.{_+_, _*_, _<_, _≤_};
 ghost use lib.ListN.{length, replicate};
 ghost use Rattle.integer.specs.Figures.{MILLION};
-ghost use Rattle.analysis.specs.Check.{totalOf, Checking};
+ghost use Rattle.analysis.specs.Check.{totalOf, checkedOf};
 ghost use Rattle.mixture.specs.Scaling.{quotientOf, remainderOf, greatestPlace, distributed, scaledOf};
 ghost use Rattle.mixture.specs.Simplification.{COMPONENTS, butaneOf, tenthsOf, tenthsTotal, simplifiedOf};
 ghost use Rattle.mixture.specs.Inner.Limits.{MOST_PARTS, Limited};
@@ -40,7 +40,7 @@ pub struct Simplified {
 // The simplified mixture and the inert mixture of an analysis in range, else its refusal beside zeros. Nitrogen does
 // not enter.
 pub fn simplify(analysis: Analysis) -> Simplified
-    ensures { λ r. ⌜ Checking (analysis .amounts) (r .answer) ⌝ }
+    ensures { λ r. ⌜ r .answer ≡ checkedOf (analysis .amounts) ⌝ }
     ensures { λ r. ⌜ r .mixture .amounts ≡ mixtureOf (analysis .amounts) ⌝ }
     ensures { λ r. ⌜ r .inert ≡ inertN1 (analysis .amounts) ⌝ }
 {

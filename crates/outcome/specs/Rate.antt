@@ -7,7 +7,7 @@ use lib.Dec.{eqb, ltb}
 use Rattle.refusal.specs.Keys.{each}
 use Rattle.refusal.specs.Register.{MISFIT, NO_SYSTEM, TOO_FEW, carried}
 use Rattle.formula.specs.Coefficients.{isSystem}
-use Rattle.analysis.specs.Check.{analysisRefusal}
+use Rattle.analysis.specs.Check.{analysisRefusal, lowestFault}
 use Rattle.sheet.specs.Split.{noSplit}
 use Rattle.sheet.specs.Read.{readOf}
 use Rattle.sheet.specs.ReadingCases as read
@@ -46,7 +46,7 @@ systemsFor analysis = choiceOf (simplifiedOf analysis) .systems
 abbrev pub countFor : List ℕ → ℕ
 countFor analysis = choiceOf (simplifiedOf analysis) .count
 
--- ---- a refusal of the analysis comes first; 5 carries `code`, and the others none
+-- ---- a refusal of the analysis comes first; 5 carries the lowest code at fault, and the others none
 
 -- the fewest components present that a mixture is rated with
 abbrev pub FEWEST : ℕ
@@ -63,6 +63,7 @@ unfoldable pub ratingRefusal : List ℕ → ℕ
 ratingRefusal analysis =
     cond (eqb (analysisRefusal analysis) 0) (mixtureRefusal (mixOf analysis)) (analysisRefusal analysis)
 
+-- the answer by that number; 5 carries `code`
 abbrev pub checkedBy : ℕ → ℕ → Answer → Answer
 checkedBy number code rated = cond (eqb number 0) rated (Refused number (carried number code 0))
 
@@ -77,13 +78,14 @@ splitBy systems count mix n1 split =
     (Refused MISFIT 0)
 
 -- of an analysis that is refused with a number (0: rated on) and has some choice of systems
-abbrev pub splitAnswerBy : ℕ → Choice → List ℕ → Split → ℕ → Answer
-splitAnswerBy number choice analysis split code =
-    checkedBy number code (splitBy (choice .systems) (choice .count) (mixOf analysis) (inertFirst analysis) split)
+abbrev pub splitAnswerBy : ℕ → Choice → List ℕ → Split → Answer
+splitAnswerBy number choice analysis split =
+    checkedBy number (lowestFault 0 analysis)
+    (splitBy (choice .systems) (choice .count) (mixOf analysis) (inertFirst analysis) split)
 
 -- of an analysis
-unfoldable pub splitAnswer : List ℕ → Split → ℕ → Answer
-splitAnswer analysis split code = splitAnswerBy (ratingRefusal analysis) (choiceOf (mixOf analysis)) analysis split code
+unfoldable pub splitAnswer : List ℕ → Split → Answer
+splitAnswer analysis split = splitAnswerBy (ratingRefusal analysis) (choiceOf (mixOf analysis)) analysis split
 
 -- ---- the search
 
@@ -108,25 +110,25 @@ searchedBy choice analysis allowance =
     (startOf (mixOf analysis) (choice .systems) (choice .count))
 
 -- of an analysis that is refused with a number (0: rated on) and has some choice of systems
-abbrev pub searchOutcomeBy : ℕ → Choice → List ℕ → ℕ → ℕ → Outcome
-searchOutcomeBy number choice analysis allowance code =
+abbrev pub searchOutcomeBy : ℕ → Choice → List ℕ → ℕ → Outcome
+searchOutcomeBy number choice analysis allowance =
     cond (eqb number 0)
     (foundOutcome (choice .systems) (choice .count) (inertFirst analysis) (searchedBy choice analysis allowance))
-    (outcome (Refused number (carried number code 0)) noSplit)
+    (outcome (Refused number (carried number (lowestFault 0 analysis) 0)) noSplit)
 
 -- of an analysis
-unfoldable pub searchOutcome : List ℕ → ℕ → ℕ → Outcome
-searchOutcome analysis allowance code =
-    searchOutcomeBy (ratingRefusal analysis) (choiceOf (mixOf analysis)) analysis allowance code
+unfoldable pub searchOutcome : List ℕ → ℕ → Outcome
+searchOutcome analysis allowance =
+    searchOutcomeBy (ratingRefusal analysis) (choiceOf (mixOf analysis)) analysis allowance
 
 -- ---- a sheet: its refusal, else its split, else the search with the most rounds
 
-abbrev pub sheetOutcomeBy : Reading → List ℕ → Split → ℕ → Outcome
-sheetOutcomeBy (reading.Refused number place code′) analysis split code =
-    outcome (Refused number (read.placeOf (reading.Refused number place code′))) noSplit
-sheetOutcomeBy reading.Read analysis split code =
-    cond (eqb (split .count) 0) (searchOutcome analysis ROUNDS code) (outcome (splitAnswer analysis split code) noSplit)
+abbrev pub sheetOutcomeBy : Reading → List ℕ → Split → Outcome
+sheetOutcomeBy (reading.Refused number place code) analysis split =
+    outcome (Refused number (read.placeOf (reading.Refused number place code))) noSplit
+sheetOutcomeBy reading.Read analysis split =
+    cond (eqb (split .count) 0) (searchOutcome analysis ROUNDS) (outcome (splitAnswer analysis split) noSplit)
 
-unfoldable pub sheetOutcome : List ℕ → ℕ → Outcome
-sheetOutcome sheet code =
-    sheetOutcomeBy (readOf sheet code .answer) (readOf sheet code .analysis .amounts) (readOf sheet code .split) code
+unfoldable pub sheetOutcome : List ℕ → Outcome
+sheetOutcome sheet =
+    sheetOutcomeBy (readOf sheet .answer) (readOf sheet .analysis .amounts) (readOf sheet .split)

@@ -1,9 +1,8 @@
 -- What the public calls meet: the check's answer, the values of an analysis in range, a proposed split's records and
 -- the answer to its cells, what the search found. Assumes nothing.
-use mathlib.Core.Path.{_≡_, refl, sym, ap, ap₂, _∙_, subst}
+use mathlib.Core.Path.{_≡_, sym, ap, ap₂, _∙_, subst}
 use mathlib.Core.Bool.{Bool, true, false, not, cond, _&&_}
 use mathlib.Core.List.{List}
-use mathlib.Core.Logic.{_⊎_, inl, inr}
 use Prim.Native.Nat.{ℕ, _*_, _^_, _≤_, _<_, min}
 use native.Mathlib.Omega.{arith}
 use lib.Dec.{eqb, leb, lit<}
@@ -13,13 +12,12 @@ use lib.Signed.{mag}
 use mir.Syntax.{w64}
 use mir.Val.{toZ, ofZ}
 use lib.ListN.{length, replicate}
-use borrow.Author.Tests.{eq-eqb, le-leb, not-true, not-false}
+use borrow.Author.Tests.{ne-eqb, le-leb, not-true, not-false}
 use Rattle.integer.specs.Laws.Ring.{mag-le}
 use Rattle.refusal.specs.Register.{TOO_FEW, carried}
 use Rattle.analysis.specs.Register.{CODES}
-use Rattle.analysis.specs.CheckedCases as check
-use Rattle.analysis.specs.Laws.Ranges.{checked-number}
-use Rattle.analysis.specs.Check.{analysisRefusal, AtFault, Checking}
+use Rattle.analysis.specs.Check.{analysisRefusal, lowestFault, checkedOf}
+use Rattle.analysis.specs.Laws.Answers.{checked-in-range, checked-refused}
 use Rattle.analysis.specs.declared.Checked.{Checked}
 use Rattle.analysis.specs.declared.Checked.the-variants as checked
 use Rattle.sheet.specs.Split.{noSplit}
@@ -29,12 +27,11 @@ use Rattle.mixture.specs.Inert.{inertFirst}
 use Rattle.mixture.specs.Answers.{mixtureOf, inertN1}
 use Rattle.systems.specs.Choice.{presentCount, choiceOf}
 use Rattle.systems.specs.declared.Choice.{Choice}
-use Rattle.split.specs.Laws.Members.{differ}
 use Rattle.split.specs.Refused.{wider}
 use Rattle.split.specs.Split.{RECORDS, cellsOf, rowNumber}
 use Rattle.split.specs.Rating.{spreadOf, ratingOf, proposedOf, LIMIT}
 use Rattle.split.specs.Fits.{Fit}
-use Rattle.split.specs.AnswerCases.{numberOf, faultOf, IsRated}
+use Rattle.split.specs.AnswerCases.{IsRated}
 use Rattle.split.specs.Rated.{fit-rated}
 use Rattle.split.specs.Inner.Proposed.{Proposal}
 use Rattle.split.specs.Proposed.{proposedAnswer}
@@ -56,81 +53,52 @@ use Rattle.split.specs.Laws.Fits.{balance-fit}
 use Rattle.split.specs.Laws.Size.{rating-small}
 use Rattle.rating.specs.Inner.Given.{FoundFit}
 use Rattle.outcome.specs.RatedOn.{InRange, RatedOn}
-use Rattle.outcome.specs.Laws.RatedOn.{range-first, enough-on, too-few, on-or-few}
+use Rattle.outcome.specs.Laws.RatedOn.{range-first, enough-on, too-few}
 use Rattle.outcome.specs.Laws.Ready.{chosen, room, million, inert-million, shared, input}
-use Rattle.outcome.specs.Laws.Ends.{searched, never-unfit, split-in-range, search-in-range, not-five}
+use Rattle.outcome.specs.Laws.Ends.{searched, never-unfit}
 use Rattle.outcome.specs.declared.Outcome.{Outcome}
 use Rattle.integer.specs.Laws.Bits.{read-back}
 
 -- ---- the check's answer
 
-abbrev isIn : Checked → Bool
-isIn checked.InRange = true
-isIn (checked.Refused number code) = false
-
--- an analysis that is turned away: the refusal is its own, and 5 carries a code at fault
+-- an analysis that is turned away: the refusal is its own, with what it carries
 pub record TurnedAway (a : List ℕ) (number code : ℕ) : Type 0 where
   pub some : eqb (ratingRefusal a) 0 ≡ false
-  pub same : Refused number code ≡ Refused (ratingRefusal a)
-      (carried (ratingRefusal a) (faultOf (Refused number code)) 0)
-  pub fault : number ≡ 5 → AtFault a (faultOf (Refused number code))
+  pub same : Refused number code ≡ Refused (ratingRefusal a) (carried (ratingRefusal a) (lowestFault 0 a) 0)
 
-module _ (a : List ℕ) (x : Checked) (h : Checking a x) where
+module _ (a : List ℕ) (x : Checked) (h : x ≡ checkedOf a) where
   pub in-range : x ≡ checked.InRange → analysisRefusal a ≡ 0
-  in-range e = sym (checked-number a x h) ∙ ap check.numberOf e
+  in-range e = checked-in-range a (sym h ∙ e)
 
   pub turned-away : (number code : ℕ) → x ≡ checked.Refused number code → TurnedAway a number code
-  turned-away number code e = go (eqb (analysisRefusal a) 0) refl (h .answer)
-    where
-      code-is : check.faultOf x ≡ code
-      code-is = ap check.faultOf e
-
-      by : (f : Bool) → eqb (analysisRefusal a) 5 ≡ f → number ≡ analysisRefusal a → code ≡ cond f (check.faultOf x) 0
-          → Refused number code ≡ Refused (analysisRefusal a)
-          (carried (analysisRefusal a) (faultOf (Refused number code)) 0)
-      by true q n c =
-          let five : eqb number 5 ≡ true = ap (λ (k : ℕ). eqb k 5) n ∙ q in
-          ap (λ (k : ℕ). Refused k code) n ∙ rw (q, five)
-      by false q n c = ap₂ Refused n c ∙ rw q
-
-      go : (b : Bool) → eqb (analysisRefusal a) 0 ≡ b
-          → x ≡ cond b checked.InRange (checked.Refused (analysisRefusal a)
-          (carried (analysisRefusal a) (check.faultOf x) 0)) → TurnedAway a number code
-      go true q r = absurd (differ (isIn x) (ap isIn r) (ap isIn e))
-      go false q r =
-          let same : checked.Refused number code ≡ checked.Refused (analysisRefusal a)
-          (carried (analysisRefusal a) (check.faultOf x) 0) = sym e ∙ r in
-          let n : number ≡ analysisRefusal a = cc in
-          let c : code ≡ carried (analysisRefusal a) (check.faultOf x) 0 = cc in
-          let f = range-first a q in
-          record {
-            some = rw f q;
-            same = rw f (by (eqb (analysisRefusal a) 5) refl n c);
-            fault = λ z. rw (eq-eqb number 5 z) (subst (AtFault a) code-is (h .code (ap check.numberOf e ∙ z)));
-          }
+  turned-away number code e =
+      let (n, c, z) = checked-refused a number code (sym h ∙ e) in
+      let q = ne-eqb (analysisRefusal a) 0 z in
+      let f = range-first a q in
+      record { some = rw f q; same = rw f (ap₂ Refused (sym n) c) }
 
 -- so is one with fewer than two components present
 pub few-away : (a : List ℕ) → InRange a → presentCount (mixOf a) < FEWEST → TurnedAway a TOO_FEW 0
 few-away a h l =
     let f = too-few a h l in
-    record { some = rw f; same = rw f; fault = λ z. absurd (omega arith) }
+    record { some = rw f; same = rw f }
 
 pub split-away : (a : List ℕ) (p : Split) (number code : ℕ) → TurnedAway a number code
-    → Refused number code ≡ splitAnswer a p (faultOf (Refused number code))
+    → Refused number code ≡ splitAnswer a p
 unfolding splitAnswer
 split-away a p number code t =
     t .same
     ∙ sym (ap (λ (b : Bool). cond b (splitBy (systemsFor a) (countFor a) (mixOf a) (inertFirst a) p)
-    (Refused (ratingRefusal a) (carried (ratingRefusal a) (faultOf (Refused number code)) 0))) (t .some))
+    (Refused (ratingRefusal a) (carried (ratingRefusal a) (lowestFault 0 a) 0))) (t .some))
 
-pub search-away : (a : List ℕ) (allowance number code : ℕ) → TurnedAway a number code
-    → outcome (Refused number code) noSplit ≡ searchOutcome a allowance (faultOf (Refused number code))
+pub search-away : (a : List ℕ) (allowance number code : ℕ) (r : Outcome) → TurnedAway a number code
+    → r ≡ outcome (Refused number code) noSplit → r ≡ searchOutcome a allowance
 unfolding searchOutcome
-search-away a allowance number code t =
-    ap (λ (x : Answer). outcome x noSplit) (t .same)
+search-away a allowance number code r t e =
+    e
+    ∙ ap (λ (x : Answer). outcome x noSplit) (t .same)
     ∙ sym (ap (λ (b : Bool). cond b (foundOutcome (systemsFor a) (countFor a) (inertFirst a) (searched a allowance))
-    (outcome (Refused (ratingRefusal a) (carried (ratingRefusal a) (faultOf (Refused number code)) 0)) noSplit))
-    (t .some))
+    (outcome (Refused (ratingRefusal a) (carried (ratingRefusal a) (lowestFault 0 a) 0)) noSplit)) (t .some))
 
 -- ---- an analysis in range
 
@@ -169,7 +137,7 @@ module _ (a : List ℕ) (long : length a ≡ CODES) (passed : analysisRefusal a 
     given-room = rw choice-is (room a on)
 
     pub split-in : (p : Split) (r : Answer) → r ≡ splitBy (choice .systems) (choice .count) mix n1 p
-        → r ≡ splitAnswer a p (faultOf r)
+        → r ≡ splitAnswer a p
     unfolding splitAnswer
     split-in p r e = e ∙ rw (choice-is, mix-is, inert-is, on)
 
@@ -199,17 +167,9 @@ module _ (a : List ℕ) (long : length a ≡ CODES) (passed : analysisRefusal a 
           }
 
       pub search-in : (r : Outcome) → r ≡ foundOutcome (choice .systems) (choice .count) n1 found
-          → r ≡ searchOutcome a allowance (faultOf (r .answer))
+          → r ≡ searchOutcome a allowance
       unfolding searchOutcome
       search-in r e = e ∙ rw (choice-is, inert-is, found-is, on)
-
-  -- neither is refused 5
-  pub split-not-five : (p : Split) (code : ℕ) (x : Answer) → x ≡ splitAnswer a p code → numberOf x ≡ 5 → ⊥
-  split-not-five p code x e h = not-five x (rw e (split-in-range a code passed p)) h
-
-  pub search-not-five : (allowance code : ℕ) (x : Outcome) → x ≡ searchOutcome a allowance code
-      → numberOf (x .answer) ≡ 5 → ⊥
-  search-not-five allowance code x e h = not-five (x .answer) (rw e (search-in-range a code passed allowance)) h
 
 -- ---- inner functions
 
@@ -276,34 +236,7 @@ pub found-some : (ch : List ℕ) (k n1 : ℕ) (f : Found) (s r : ℕ) → f .sea
 unfolding foundOutcome
 found-some ch k n1 f s r e = sym (ap (foundBy ch k n1 (f .cells)) e)
 
--- ---- an analysis in range is answered whatever the code of 5
-
-pub split-any : (a : List ℕ) (p : Split) (c d : ℕ) → InRange a → splitAnswer a p c ≡ splitAnswer a p d
-unfolding splitAnswer
-split-any a p c d h = go (on-or-few a h)
-  where
-    go : RatedOn a ⊎ (ratingRefusal a ≡ TOO_FEW) → splitAnswer a p c ≡ splitAnswer a p d
-    go (inl e) = rw e
-    go (inr e) = rw e
-
-pub search-any : (a : List ℕ) (n c d : ℕ) → InRange a → searchOutcome a n c ≡ searchOutcome a n d
-unfolding searchOutcome
-search-any a n c d h = go (on-or-few a h)
-  where
-    go : RatedOn a ⊎ (ratingRefusal a ≡ TOO_FEW) → searchOutcome a n c ≡ searchOutcome a n d
-    go (inl e) = rw e
-    go (inr e) = rw e
-
 -- ---- the same of a call's result
-
-pub search-away-is : (a : List ℕ) (allowance number code : ℕ) (r : Outcome) → TurnedAway a number code
-    → r ≡ outcome (Refused number code) noSplit
-    → (r ≡ searchOutcome a allowance (faultOf (r .answer)))
-    × (numberOf (r .answer) ≡ 5 → AtFault a (faultOf (r .answer)))
-search-away-is a allowance number code r t e =
-    subst (λ (o : Outcome). (o ≡ searchOutcome a allowance (faultOf (o .answer)))
-    × (numberOf (o .answer) ≡ 5 → AtFault a (faultOf (o .answer)))) (sym e)
-    (search-away a allowance number code t, t .fault)
 
 pub found-is-some : (ch : List ℕ) (k n1 : ℕ) (f : Found) (s r : ℕ) (w w′ : ℤ) (p : Split) → f .search ≡ Balanced s r
     → 3 * k ≤ RECORDS → w′ ≡ w → w ≡ ratingOf ch k (f .cells) n1 → p ≡ recordsOf ch (min k MOST_SYSTEMS) (f .cells)

@@ -4,12 +4,9 @@
 // which is proved of those promises, is in crate `demand`, specs/Demand.antt.
 ghost use mathlib.Core.Path.{_≡_};
 ghost use Prim.Native.Nat.{_*_, _≤_, min};
-ghost use Rattle.analysis.specs.Check.{analysisRefusal, AtFault};
 ghost use Rattle.sheet.specs.Split.{noSplit};
-ghost use Rattle.sheet.specs.Read.{FaultInSheet};
 ghost use Rattle.sheet.specs.declared.Reading.the-variants.{Read};
 ghost use Rattle.split.specs.Split.{RECORDS};
-ghost use Rattle.split.specs.AnswerCases.{numberOf, faultOf};
 ghost use Rattle.split.specs.Rating.{ratingOf, LIMIT};
 ghost use Rattle.split.specs.Inner.Proposed.{Proposal};
 ghost use Rattle.split.specs.Fits.{Fit};
@@ -48,8 +45,7 @@ const FEWEST: u32 = 2;
 
 // The rating of a proposed split of an analysis: 5, 6, 16, then 7 to 10, else its rating and its spread.
 pub fn rate_split(analysis: Analysis, split: Split) -> Answer
-    ensures { λ r. ⌜ r ≡ splitAnswer (analysis .amounts) split (faultOf r) ⌝ }
-    ensures { λ r. ⌜ (numberOf r ≡ 5 → AtFault (analysis .amounts) (faultOf r)) ⌝ }
+    ensures { λ r. ⌜ r ≡ splitAnswer (analysis .amounts) split ⌝ }
 {
     let simplified = mixture::simplify(analysis);
     let answer = simplified.answer;
@@ -76,8 +72,7 @@ pub fn rate_split(analysis: Analysis, split: Split) -> Answer
 // The rating of an analysis by the search, with its split: 5, 6, 16 or 11, else rating, spread and rounds. An allowance
 // above the most rounds counts as those.
 pub fn rate_by_search(analysis: Analysis, allowance: u32) -> Outcome
-    ensures { λ r. ⌜ r ≡ searchOutcome (analysis .amounts) allowance (faultOf (r .answer)) ⌝ }
-    ensures { λ r. ⌜ (numberOf (r .answer) ≡ 5 → AtFault (analysis .amounts) (faultOf (r .answer))) ⌝ }
+    ensures { λ r. ⌜ r ≡ searchOutcome (analysis .amounts) allowance ⌝ }
 {
     let simplified = mixture::simplify(analysis);
     let answer = simplified.answer;
@@ -104,8 +99,7 @@ pub fn rate_by_search(analysis: Analysis, allowance: u32) -> Outcome
 // The rating of a sheet: 1 to 6, then 16, then that of its split, or by the search with the most rounds where it has
 // none.
 pub fn rate_sheet(s: &[u8]) -> Outcome
-    ensures { λ r. ⌜ r ≡ sheetOutcome (now (s .entry)) (faultOf (r .answer)) ⌝ }
-    ensures { λ r. ⌜ (numberOf (r .answer) ≡ 5 → FaultInSheet (now (s .entry)) (faultOf (r .answer))) ⌝ }
+    ensures { λ r. ⌜ r ≡ sheetOutcome (now (s .entry)) ⌝ }
 {
     let sheet = reader::read(s);
     let answer = sheet.answer;
@@ -121,10 +115,9 @@ pub fn rate_sheet(s: &[u8]) -> Outcome
     }
 }
 
-// The rating of what was read, an analysis in range.
+// The rating of what was read.
 fn rate_read(analysis: Analysis, split: Split) -> Outcome
-    requires { ⌜ analysisRefusal (analysis .amounts) ≡ 0 ⌝ }
-    ensures { λ r. ⌜ r ≡ sheetOutcomeBy Read (analysis .amounts) split 0 ⌝ }
+    ensures { λ r. ⌜ r ≡ sheetOutcomeBy Read (analysis .amounts) split ⌝ }
 {
     let count = split.count;
     if count == 0 {

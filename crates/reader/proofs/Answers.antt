@@ -1,19 +1,18 @@
 -- The reader's answers: each is the one of the definition, by the tests that lead to it. Assumes nothing.
-use mathlib.Core.Path.{_≡_, refl, ap, sym, _∙_, subst}
+use mathlib.Core.Path.{_≡_, refl, ap, sym, _∙_}
 use mathlib.Core.List.{List}
 use mathlib.Core.Bool.{Bool, true, false, cond}
-use mathlib.Core.Logic.{inl, inr}
-use Prim.Native.Nat.{ℕ, zero, suc, _+_, _-_, _*_, _≤_, _<_}
+use Prim.Native.Nat.{ℕ, _≤_, _<_, min}
 use native.Mathlib.Omega.{arith}
-use lib.ListN.{getD}
-use lib.Dec.{eqb, leb}
-use borrow.Author.Tests.{le-leb, lt-leb, eqb-true, eqb-false}
-use Rattle.refusal.specs.Register.{carried}
-use Rattle.analysis.specs.Register.{Status, live, retired, splitsOnly, unknown, statusOf}
+use lib.ListN.{length}
+use lib.Dec.{eqb, ltb, leb}
+use borrow.Author.Tests.{le-leb, lt-leb, ne-eqb, eqb-true, eqb-false, ltb-true, ltb-false}
+use Rattle.analysis.specs.Register.{CODES}
 use Rattle.analysis.specs.declared.Checked.{Checked}
 use Rattle.analysis.specs.declared.Checked.the-variants as checked
-use Rattle.analysis.specs.CheckedCases.{faultOf}
-use Rattle.analysis.specs.Check.{analysisRefusal, checkedOf, Checking, AtFault}
+use Rattle.analysis.specs.Check.{analysisRefusal, lowestFault, answerBy, checkedOf}
+use Rattle.analysis.specs.Laws.Answers.{answer-in-range, answer-refused}
+use Rattle.analysis.specs.Laws.Lowest.{lowest-within, fault-number}
 use Rattle.section.specs.declared.Section.{Section}
 use Rattle.section.specs.declared.Section.the-variants as found
 use Rattle.section.specs.declared.Walked.{Walked}
@@ -21,14 +20,14 @@ use Rattle.section.specs.Walk.{walkOf}
 use Rattle.sheet.specs.declared.Reading.the-variants.{Read, Refused}
 use Rattle.sheet.specs.declared.Sections.the-variants.{Torn, Both}
 use Rattle.sheet.specs.declared.Sheet.{Sheet}
-use Rattle.sheet.specs.Components.{COMPONENT_BYTES, refusalBy, codeRefusal, codesReading}
+use Rattle.sheet.specs.Components.{COMPONENT_BYTES, codesReading, zeroListed, firstZero}
 use Rattle.sheet.specs.Split.{RECORD_BYTES, allowedCount}
 use Rattle.sheet.specs.Sheet.{LISTED, withSplit, withComponents, judged, sectionsOf}
-use Rattle.sheet.specs.Read.{readAmounts, amountsRefusal, refusedSheet, contentOf, readOf, FaultIn, ReadAs}
-use Rattle.sheet.specs.Laws.Cases.{never, sectioned, read-torn, read-codes, read-amounts, read-good, amounts-zero}
+use Rattle.sheet.specs.Read.{readAmounts, amountsRefusal, lowestIn, refusedSheet, contentOf, readOf}
+use Rattle.sheet.specs.Laws.Cases.{amounts-long, read-torn, read-codes, read-amounts, read-good, amounts-zero}
 use Rattle.sheet.specs.Laws.Cases.{amounts-checked}
-use Rattle.reader.specs.Inner.Refused.{AmountsRefused}
-use Rattle.reader.proofs.Turns.{ZeroRecord}
+use Rattle.sheet.specs.Laws.Zeros.{first-within}
+use Rattle.reader.specs.Inner.LowerCode.{lowerOf}
 
 -- ---- the two sections
 
@@ -66,113 +65,81 @@ module _ (s : List ℕ) (w : Walked) (walked : w ≡ walkOf s COMPONENT_BYTES RE
 
 -- ---- the amounts
 
-module _ (n : ℕ) (s : List ℕ) where
-  pub zero-found : (place at : ℕ) → at ≡ 1 + COMPONENT_BYTES * place → ZeroRecord n s place → place < n
-      → AmountsRefused n s (checked.Refused 5 (getD s at 0))
-  zero-found place at e z h =
-      rw e
-      (record {
-        answer = rw (amounts-zero n s (z .some h));
-        code = λ _. inl (record { place = place; listed = h; code-there = refl; amount-there = z .zero-there h });
-      })
+-- the lower code, by the tests that lead to it
+module _ (listed number code : ℕ) where
+  pub lower-other : (number ≡ 5 → ⊥) → listed ≡ lowerOf listed (checked.Refused number code)
+  lower-other n = rw (ne-eqb number 5 n)
 
-  pub checked-found : (place : ℕ) → ZeroRecord n s place → n ≤ place → (a : List ℕ) → a ≡ readAmounts n s
-      → (r : Checked) → Checking a r → AmountsRefused n s r
-  checked-found place z h a e r k =
-      let q : amountsRefusal n s ≡ analysisRefusal a = amounts-checked n s (z .none h) ∙ ap analysisRefusal (sym e) in
-      record {
-        answer = k .answer ∙ ap (λ (x : ℕ). checkedOf x (faultOf r)) (sym q);
-        code = λ f. inr (subst (λ (x : List ℕ). AtFault x (faultOf r)) e (k .code f));
-      }
+  pub lower-code : number ≡ 5 → code < listed → code ≡ lowerOf listed (checked.Refused number code)
+  lower-code e l = rw e (omega arith)
+
+  pub lower-listed : number ≡ 5 → listed ≤ code → listed ≡ lowerOf listed (checked.Refused number code)
+  lower-listed e l = rw e (omega arith)
+
+module _ (listed : ℕ) where
+  -- the lower of the two, where the code listed is one of an analysis
+  lower-is : (a : List ℕ) → length a ≡ CODES → listed ≤ CODES
+      → lowerOf listed (checkedOf a) ≡ min listed (lowestFault 0 a)
+  unfolding checkedOf
+  lower-is a long l = go (eqb (analysisRefusal a) 0) (eqb (analysisRefusal a) 5) refl refl
+    where
+      other : (analysisRefusal a ≡ 5 → ⊥) → listed ≡ min listed (lowestFault 0 a)
+      other n = by (ltb (lowestFault 0 a) CODES) refl
+        where
+          by : (b : Bool) → ltb (lowestFault 0 a) CODES ≡ b → listed ≡ min listed (lowestFault 0 a)
+          by true f = absurd (n (fault-number a long (ltb-true (lowestFault 0 a) CODES f)))
+          by false f = omega (arith, ltb-false (lowestFault 0 a) CODES f)
+
+      go : (t u : Bool) → eqb (analysisRefusal a) 0 ≡ t → eqb (analysisRefusal a) 5 ≡ u
+          → lowerOf listed (cond t checked.InRange
+          (checked.Refused (analysisRefusal a) (cond u (lowestFault 0 a) 0))) ≡ min listed (lowestFault 0 a)
+      go true u e f = other (λ z. let y = eqb-true (analysisRefusal a) 0 e in omega arith)
+      go false true e f = rw f
+      go false false e f = rw f (other (eqb-false (analysisRefusal a) 5 f))
+
+module _ (n : ℕ) (s : List ℕ) (codes : codesReading n s 1 0 0 ≡ Read) where
+  long : length (readAmounts n s) ≡ CODES
+  long = amounts-long n s 1 _
+
+  pub zero-found : (a : List ℕ) → a ≡ readAmounts n s → (y : Checked) → y ≡ checkedOf a → (c : ℕ)
+      → (zeroListed n s 1 ≡ true) × (firstZero n s 1 ≡ c) → (r : Checked) → r ≡ checked.Refused 5 (lowerOf c y)
+      → r ≡ answerBy (amountsRefusal n s) (lowestIn n s)
+  unfolding lowestIn
+  zero-found a e y k c (z, f) r g =
+      let w : c ≤ CODES = omega (arith, f, first-within n s 1 0 0 codes) in
+      let q : lowerOf c (checkedOf (readAmounts n s)) ≡ min c (lowestFault 0 (readAmounts n s)) =
+      lower-is c (readAmounts n s) long w in
+      g ∙ ap (λ (x : Checked). checked.Refused 5 (lowerOf c x)) (k ∙ ap checkedOf e)
+      ∙ rw (amounts-zero n s z, f) (ap (checked.Refused 5) q)
+
+  pub checked-found : (a : List ℕ) → a ≡ readAmounts n s → (y : Checked) → y ≡ checkedOf a
+      → (zeroListed n s 1 ≡ false) × (firstZero n s 1 ≡ CODES)
+      → y ≡ answerBy (amountsRefusal n s) (lowestIn n s)
+  unfolding lowestIn checkedOf
+  checked-found a e y k (z, f) =
+      let m : min CODES (lowestFault 0 (readAmounts n s)) ≡ lowestFault 0 (readAmounts n s) =
+      omega (arith, lowest-within 0 (readAmounts n s) .1, long) in
+      k ∙ ap checkedOf e ∙ rw (amounts-checked n s z, f, m)
 
 -- ---- the whole
 
-status-not-five : (st : Status) → refusalBy st ≡ 5 → ⊥
-status-not-five (live least greatest required) h = omega arith
-status-not-five retired h = omega arith
-status-not-five splitsOnly h = omega arith
-status-not-five unknown h = omega arith
-
-code-not-five : (c p : ℕ) → codeRefusal c p ≡ 5 → ⊥
-unfolding codeRefusal
-code-not-five c p h = go (eqb (refusalBy (statusOf c)) 0) (leb c p) h
-  where
-    go : (t u : Bool) → cond t (cond u 4 0) (refusalBy (statusOf c)) ≡ 5 → ⊥
-    go true true h = omega arith
-    go true false h = omega arith
-    go false u h = status-not-five (statusOf c) h
-
-codes-not-five : (n : ℕ) (s : List ℕ) (at i p : ℕ) {k j c : ℕ} → codesReading n s at i p ≡ Refused k j c → k ≡ 5 → ⊥
-codes-not-five zero s at i p h = let z : _≡_ {A = ℕ} 0 1 = cc in absurd (never z)
-codes-not-five (suc n) s at i p {k} {j} {c} h =
-    go (eqb (codeRefusal (getD s at 0) p) 0) (λ e. codes-not-five n s (at + COMPONENT_BYTES) (i + 1) (getD s at 0) e) h
-  where
-    go : (t : Bool) → (codesReading n s (at + COMPONENT_BYTES) (i + 1) (getD s at 0) ≡ Refused k j c → k ≡ 5 → ⊥)
-        → cond t (codesReading n s (at + COMPONENT_BYTES) (i + 1) (getD s at 0))
-        (Refused (codeRefusal (getD s at 0) p) i 0) ≡ Refused k j c → k ≡ 5 → ⊥
-    go true ih h f = ih h f
-    go false ih h f = let z : codeRefusal (getD s at 0) p ≡ k = cc in code-not-five (getD s at 0) p (z ∙ f)
-
 module _ (s : List ℕ) (r : Sheet) where
-  pub answer-torn : sectionsOf s ≡ Torn → r ≡ refusedSheet (Refused 1 0 0) → ReadAs s r
-  answer-torn h e =
-      subst (λ (x : Sheet). ReadAs s x) (sym e)
-      (record { sheet = sym (read-torn s 0 h); code = λ z. absurd (omega arith) })
+  pub answer-torn : sectionsOf s ≡ Torn → r ≡ refusedSheet (Refused 1 0 0) → r ≡ readOf s
+  answer-torn h e = e ∙ sym (read-torn s h)
 
   module _ (n m first : ℕ) (h : sectionsOf s ≡ Both n m first) where
     pub answer-codes : (k i c : ℕ) → codesReading n s 1 0 0 ≡ Refused k i c → r ≡ refusedSheet (Refused k i c)
-        → ReadAs s r
-    answer-codes k i c d e =
-        subst (λ (x : Sheet). ReadAs s x) (sym e)
-        (record { sheet = sym (read-codes s c n m first h d); code = λ z. absurd (codes-not-five n s 1 0 0 d z) })
+        → r ≡ readOf s
+    answer-codes k i c d e = e ∙ sym (read-codes s n m first h d)
 
-    module _ (d : codesReading n s 1 0 0 ≡ Read) where
-      -- what an answer to the amounts says of the number
-      refused-number : (number code : ℕ) → checked.Refused number code ≡ checkedOf (amountsRefusal n s) code
-          → (amountsRefusal n s ≡ 0 → ⊥) × (number ≡ amountsRefusal n s)
-          × (code ≡ carried (amountsRefusal n s) code 0)
-      refused-number number code e = go (eqb (amountsRefusal n s) 0) refl e
-        where
-          go : (t : Bool) → eqb (amountsRefusal n s) 0 ≡ t
-              → checked.Refused number code ≡ cond t checked.InRange
-              (checked.Refused (amountsRefusal n s) (carried (amountsRefusal n s) code 0))
-              → (amountsRefusal n s ≡ 0 → ⊥) × (number ≡ amountsRefusal n s)
-              × (code ≡ carried (amountsRefusal n s) code 0)
-          go true q e = let z : _≡_ {A = ℕ} 0 1 = cc in absurd (never z)
-          go false q e = (eqb-false _ _ q, cc, cc)
+    module _ (d : codesReading n s 1 0 0 ≡ Read) (y : Checked)
+        (a : y ≡ answerBy (amountsRefusal n s) (lowestIn n s)) where
+      pub answer-amounts : (number code : ℕ) → y ≡ checked.Refused number code
+          → r ≡ refusedSheet (Refused number 0 code) → r ≡ readOf s
+      answer-amounts number code f e =
+          let (p, q, z) = answer-refused (amountsRefusal n s) (lowestIn n s) number code (sym a ∙ f) in
+          e ∙ (λ i. refusedSheet (Refused (sym p i) 0 (q i))) ∙ sym (read-amounts s n m first h d z)
 
-      refused-answer : (number code : ℕ) → AmountsRefused n s (checked.Refused number code)
-          → r ≡ refusedSheet (Refused number 0 code) → ReadAs s r
-      refused-answer number code a e =
-          let q = refused-number number code (a .answer) in
-          let g = read-amounts s code n m first h d (q .0) in
-          let k : refusedSheet (Refused number 0 code) ≡ readOf s code =
-          ap (λ (x : ℕ). refusedSheet (Refused x 0 code)) (q .1)
-          ∙ ap (λ (x : ℕ). refusedSheet (Refused (amountsRefusal n s) 0 x)) (q .2) ∙ sym g in
-          subst (λ (x : Sheet). ReadAs s x) (sym e)
-          (record {
-            sheet = k;
-            code = λ f. subst (λ (x : ℕ). FaultIn x s code) (sectioned s h .components)
-                (a .code f);
-          })
-
-      pub answer-amounts : (number code : ℕ) (y : Checked) → AmountsRefused n s y → y ≡ checked.Refused number code
-          → r ≡ refusedSheet (Refused number 0 code) → ReadAs s r
-      answer-amounts number code y a f e =
-          refused-answer number code (subst (λ (x : Checked). AmountsRefused n s x) f a) e
-
-      in-range-number : checked.InRange ≡ checkedOf (amountsRefusal n s) 0 → amountsRefusal n s ≡ 0
-      in-range-number e = go (eqb (amountsRefusal n s) 0) refl e
-        where
-          go : (t : Bool) → eqb (amountsRefusal n s) 0 ≡ t
-              → checked.InRange ≡ cond t checked.InRange
-              (checked.Refused (amountsRefusal n s) (carried (amountsRefusal n s) 0 0)) → amountsRefusal n s ≡ 0
-          go true q e = eqb-true _ _ q
-          go false q e = let z : _≡_ {A = ℕ} 0 1 = cc in absurd (never z)
-
-      pub answer-good : (y : Checked) → AmountsRefused n s y → y ≡ checked.InRange → r ≡ contentOf n m first s
-          → ReadAs s r
-      answer-good y a f e =
-          let z = in-range-number (subst (λ (x : Checked). AmountsRefused n s x) f a .answer) in
-          subst (λ (x : Sheet). ReadAs s x) (sym e)
-          (record { sheet = sym (read-good s 0 n m first h d z); code = λ f. absurd (omega arith) })
+      pub answer-good : y ≡ checked.InRange → r ≡ contentOf n m first s → r ≡ readOf s
+      answer-good f e =
+          e ∙ sym (read-good s n m first h d (answer-in-range (amountsRefusal n s) (lowestIn n s) (sym a ∙ f)))

@@ -15,6 +15,7 @@ use Rattle.analysis.specs.Laws.Table.{at}
 use Rattle.sheet.specs.declared.Reading.the-variants.{Read, Refused}
 use Rattle.sheet.specs.Bytes.{fourBytesAt}
 use Rattle.sheet.specs.Components.{COMPONENT_BYTES, refusalBy, codeRefusal, codesReading, amountsFrom, zeroListed}
+use Rattle.sheet.specs.Components.{firstZero}
 use Rattle.sheet.specs.declared.Split.{Split}
 use Rattle.sheet.specs.Split.{RECORDS, RECORD_BYTES, byteColumn, amountColumn, padded, splitAt}
 use Rattle.sheet.specs.Laws.Forth.{length-byte-column, length-amount-column}
@@ -130,36 +131,32 @@ module _ (s : List ℕ) (n : ℕ) (a : List ℕ) (i at : ℕ) (w : Listed s n a 
 
 module _ (n i : ℕ) (s : List ℕ) (at : ℕ) where
   pub zero-go : i < n → (fourBytesAt s (at + 1) ≡ 0 → ⊥)
-      → zeroListed (n - i) s at ≡ zeroListed (n - (i + 1)) s (at + COMPONENT_BYTES)
+      → (zeroListed (n - i) s at ≡ zeroListed (n - (i + 1)) s (at + COMPONENT_BYTES))
+      × (firstZero (n - i) s at ≡ firstZero (n - (i + 1)) s (at + COMPONENT_BYTES))
   zero-go h f =
       let e : n - i ≡ suc (n - (i + 1)) = omega arith in
-      rw e (simp (ne-eqb _ _ f))
+      (rw e (simp (ne-eqb _ _ f)), rw e (simp (ne-eqb _ _ f)))
 
-  pub zero-stop : i < n → fourBytesAt s (at + 1) ≡ 0 → zeroListed (n - i) s at ≡ true
+  pub zero-stop : i < n → fourBytesAt s (at + 1) ≡ 0
+      → (zeroListed (n - i) s at ≡ true) × (firstZero (n - i) s at ≡ getD s at 0)
   zero-stop h f =
       let e : n - i ≡ suc (n - (i + 1)) = omega arith in
-      rw e (simp (eq-eqb _ _ f))
+      (rw e (simp (eq-eqb _ _ f)), rw e (simp (eq-eqb _ _ f)))
 
-  pub zero-end : n ≤ i → zeroListed (n - i) s at ≡ false
+  pub zero-end : n ≤ i → (zeroListed (n - i) s at ≡ false) × (firstZero (n - i) s at ≡ CODES)
   zero-end h =
       let e : n - i ≡ 0 = omega arith in
-      rw e
+      (rw e, rw e)
 
--- the place of a record with the amount 0 among `n`, or `n` where there is none
-pub record ZeroRecord (n : ℕ) (s : List ℕ) (r : ℕ) : Type 0 where
-  pub within : r ≤ n
-  pub none : n ≤ r → zeroListed n s 1 ≡ false
-  pub some : r < n → zeroListed n s 1 ≡ true
-  pub zero-there : r < n → fourBytesAt s (1 + COMPONENT_BYTES * r + 1) ≡ 0
-
--- one of the records from place i on is at 0 where one of all is
+-- the first of the records from place i on that is at 0 is the first of all
 pub record Looked (s : List ℕ) (n i at : ℕ) : Type 0 where
   pub most : i ≤ n
   pub there : at ≡ 1 + COMPONENT_BYTES * i
   pub same : zeroListed (n - i) s at ≡ zeroListed n s 1
+  pub first : firstZero (n - i) s at ≡ firstZero n s 1
 
 pub looked-none : (s : List ℕ) (n : ℕ) → Looked s n 0 1
-looked-none s n = record { most = omega arith; there = omega arith; same = rw sub-zero }
+looked-none s n = record { most = omega arith; there = omega arith; same = rw sub-zero; first = rw sub-zero }
 
 module _ (s : List ℕ) (n i at : ℕ) (w : Looked s n i at) where
   module _ (h : i < n) (x : ℕ) (f : x ≡ fourBytesAt s (at + 1)) where
@@ -168,27 +165,17 @@ module _ (s : List ℕ) (n i at : ℕ) (w : Looked s n i at) where
         record {
           most = omega arith;
           there = omega (arith, w .there);
-          same = sym (zero-go n i s at h (λ z. k (f ∙ z)))
-              ∙ w .same;
+          same = sym (zero-go n i s at h (λ z. k (f ∙ z)) .0) ∙ w .same;
+          first = sym (zero-go n i s at h (λ z. k (f ∙ z)) .1) ∙ w .first;
         }
 
-    pub looked-zero : x ≡ 0 → ZeroRecord n s i
+    pub looked-zero : x ≡ 0 → (zeroListed n s 1 ≡ true) × (firstZero n s 1 ≡ getD s at 0)
     looked-zero k =
-        record {
-          within = omega arith;
-          none = λ l. absurd (omega arith);
-          some = λ _. sym (sym (zero-stop n i s at h (sym f ∙ k)) ∙ w .same);
-          zero-there = λ _. sym (ap (λ (j : ℕ). fourBytesAt s (j + 1)) (w .there)) ∙ sym f ∙ k;
-        }
+        let z = zero-stop n i s at h (sym f ∙ k) in
+        (sym (w .same) ∙ z .0, sym (w .first) ∙ z .1)
 
-  pub looked-all : n ≤ i → ZeroRecord n s i
-  looked-all h =
-      record {
-        within = w .most;
-        none = λ _. sym (sym (zero-end n i s at h) ∙ w .same);
-        some = λ l. absurd (omega arith);
-        zero-there = λ l. absurd (omega arith);
-      }
+  pub looked-all : n ≤ i → (zeroListed n s 1 ≡ false) × (firstZero n s 1 ≡ CODES)
+  looked-all h = let z = zero-end n i s at h in (sym (w .same) ∙ z .0, sym (w .first) ∙ z .1)
 
 -- a turn that stores an element of a column
 module _ (m i : ℕ) (s : List ℕ) (v w : ℕ) (e : w ≡ v + RECORD_BYTES) (xs : List ℕ) where

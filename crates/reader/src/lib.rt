@@ -7,8 +7,9 @@ ghost use Rattle.sheet.specs.Bytes.{fourBytes, fourBytesAt};
 ghost use Rattle.sheet.specs.Components.{COMPONENT_BYTES, codeRefusal, codesReading};
 ghost use Rattle.sheet.specs.Split.{RECORDS, RECORD_BYTES, splitAt};
 ghost use Rattle.sheet.specs.Sheet.{LISTED, sectionsOf};
-ghost use Rattle.sheet.specs.Read.{readAmounts, refusedSheet, ReadAs};
-ghost use Rattle.reader.specs.Inner.Refused.{AmountsRefused};
+ghost use Rattle.analysis.specs.Check.{answerBy};
+ghost use Rattle.sheet.specs.Read.{readAmounts, amountsRefusal, lowestIn, refusedSheet, readOf};
+ghost use Rattle.reader.specs.Inner.LowerCode.{lowerOf};
 use analysis::Analysis;
 use analysis::CODES;
 use analysis::Checked;
@@ -201,11 +202,26 @@ fn refused_with(number: u32, place: u32, code: u32) -> Sheet
     })
 }
 
-// Is a component listed at 0, or the analysis out of range? Refused 5 or 6, or not.
+// The lower of the code listed at 0 and the code at fault of the check's answer.
+fn lower(listed: u32, checked: Checked) -> u32
+    ensures { λ r. ⌜ r ≡ lowerOf listed checked ⌝ }
+{
+    let Checked::Refused { number, code } = checked else {
+        return listed;
+    };
+    if number != OUT_OF_RANGE {
+        return listed;
+    }
+    if code < listed { code } else { listed }
+}
+
+// Is a component listed at 0, or the analysis out of range? Refused 5 with the lowest code at fault, or 6, or not.
 fn amounts_refused(s: &[u8], n: usize, a: Analysis) -> Checked
     requires { ⌜ (1 + COMPONENT_BYTES * n ≤ length (now s)) × (a .amounts ≡ readAmounts n (now s)) ⌝ }
-    ensures { λ r. ⌜ AmountsRefused n (now (s .entry)) r ⌝ }
+    requires { ⌜ codesReading n (now s) 1 0 0 ≡ Reading.Read ⌝ }
+    ensures { λ r. ⌜ r ≡ answerBy (amountsRefusal n (now (s .entry))) (lowestIn n (now (s .entry))) ⌝ }
 {
+    let checked = analysis::check(a);
     let mut i: usize = 0;
     let mut at: usize = 1;
     while i < n {
@@ -213,18 +229,18 @@ fn amounts_refused(s: &[u8], n: usize, a: Analysis) -> Checked
         if x == 0 {
             return Checked::Refused {
                 number: OUT_OF_RANGE,
-                code: s[at] as u32,
+                code: lower(s[at] as u32, checked),
             };
         }
         i += 1;
         at += COMPONENT_BYTES;
     }
-    analysis::check(a)
+    checked
 }
 
 // The sheet that the bytes are, or the refusal.
 pub fn read(s: &[u8]) -> Sheet
-    ensures { λ r. ⌜ ReadAs (now (s .entry)) r ⌝ }
+    ensures { λ r. ⌜ r ≡ readOf (now (s .entry)) ⌝ }
 {
     let parts = sections(s);
     let Sections::Both {

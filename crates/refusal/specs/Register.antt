@@ -57,7 +57,7 @@ TOO_FEW = 16
 abbrev pub SHARE : ℕ
 SHARE = 17
 
--- what a refusal carries: 5 the code at fault, 2 to 4 the record's place; 0 where there is neither
+-- what a refusal carries: 5 the lowest code at fault, 2 to 4 the record's place; 0 where there is neither
 abbrev pub carried : ℕ → ℕ → ℕ → ℕ
 carried number code place = cond (eqb number OUT_OF_RANGE) code place
 

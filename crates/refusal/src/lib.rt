@@ -36,7 +36,7 @@ pub const TOO_FEW: u32 = 16;
 
 pub const SHARE: u32 = 17;
 
-// What a refusal carries: the code at fault with 5, else the record's place.
+// What a refusal carries: the lowest code at fault with 5, else the record's place.
 pub fn carried(number: u32, code: u32, place: u32) -> u32
     ensures { λ r. ⌜ r ≡ carried number code place ⌝ }
 {

@@ -4,15 +4,14 @@
 //
 // No public function has a `requires`.
 ghost use mathlib.Core.Path.{_≡_};
-ghost use Rattle.analysis.specs.Check.{AtFault};
-ghost use Rattle.sheet.specs.Read.{readOf, FaultInSheet};
+ghost use Rattle.sheet.specs.Read.{readOf};
 ghost use Rattle.sheet.specs.Write.{writtenOf, leftOf};
 ghost use Rattle.ternary.specs.Answer.{partialOf};
 ghost use Rattle.whole_number.specs.Whole.{wholeNumber};
 ghost use Rattle.controller.specs.Record.{recordOf};
 ghost use Rattle.split.specs.AnswerCases.{figuresOf, bufferOf};
 ghost use Rattle.outcome.specs.Rate.{splitAnswer, searchOutcome, sheetOutcome};
-ghost use Rattle.c_reply.specs.Interface.{VERSION, codeIn, replyOf, splitFrom, bytesIn};
+ghost use Rattle.c_reply.specs.Interface.{VERSION, replyOf, splitFrom, bytesIn};
 ghost use Rattle.c_reply.specs.Interface.{partialReply, partialIn, readReply, readOr};
 ghost use Rattle.c_reply.specs.Interface.{writtenReply, writtenLength};
 use analysis::CODES;
@@ -21,8 +20,8 @@ use c_reply::Reply;
 use controller::ControllerRecord;
 use sheet::RECORDS;
 
-// The version, 1.3.0: 10000, 100 and 1 times its three figures.
-const VERSION: u32 = 10300;
+// The version, 1.4.0: 10000, 100 and 1 times its three figures.
+const VERSION: u32 = 10400;
 
 // The library's version.
 #[no_mangle]
@@ -42,14 +41,13 @@ pub extern "C" fn saugrinte_rate(
     codes: &mut [u8; RECORDS],
     parts: &mut [u32; RECORDS],
 ) -> Reply
-    ensures { λ r. let x = sheetOutcome (now (sheet .entry)) (codeIn r) in
+    ensures { λ r. let x = sheetOutcome (now (sheet .entry)) in
         let answer = x .answer in let split = x .split in ⌜ (r ≡ replyOf answer)
         × (now (figures .exit) ≡ figuresOf answer (now (figures .entry)))
         × (now (count .exit) ≡ bufferOf answer (split .count) (now (count .entry)))
         × (now (systems .exit) ≡ bufferOf answer (split .systems) (now (systems .entry)))
         × (now (codes .exit) ≡ bufferOf answer (split .codes) (now (codes .entry)))
         × (now (parts .exit) ≡ bufferOf answer (split .amounts) (now (parts .entry))) ⌝ }
-    ensures { λ r. ⌜ (r .number ≡ 5 → FaultInSheet (now (sheet .entry)) (codeIn r)) ⌝ }
 {
     c_ratings::rate_sheet(sheet, figures, count, systems, codes, parts)
 }
@@ -65,14 +63,13 @@ pub extern "C" fn saugrinte_search(
     codes: &mut [u8; RECORDS],
     parts: &mut [u32; RECORDS],
 ) -> Reply
-    ensures { λ r. let x = searchOutcome (now (amounts .entry)) allowance (codeIn r) in
+    ensures { λ r. let x = searchOutcome (now (amounts .entry)) allowance in
         let answer = x .answer in let split = x .split in ⌜ (r ≡ replyOf answer)
         × (now (figures .exit) ≡ figuresOf answer (now (figures .entry)))
         × (now (count .exit) ≡ bufferOf answer (split .count) (now (count .entry)))
         × (now (systems .exit) ≡ bufferOf answer (split .systems) (now (systems .entry)))
         × (now (codes .exit) ≡ bufferOf answer (split .codes) (now (codes .entry)))
         × (now (parts .exit) ≡ bufferOf answer (split .amounts) (now (parts .entry))) ⌝ }
-    ensures { λ r. ⌜ (r .number ≡ 5 → AtFault (now (amounts .entry)) (codeIn r)) ⌝ }
 {
     c_ratings::rate_by_search(amounts, allowance, figures, count, systems, codes, parts)
 }
@@ -88,9 +85,8 @@ pub extern "C" fn saugrinte_rate_split(
     figures: &mut [i64; FIGURES],
 ) -> Reply
     ensures { λ r. let p = splitFrom count (now (systems .entry)) (now (codes .entry)) (now (parts .entry)) in
-        let x = splitAnswer (now (amounts .entry)) p (codeIn r) in ⌜ (r ≡ replyOf x)
+        let x = splitAnswer (now (amounts .entry)) p in ⌜ (r ≡ replyOf x)
         × (now (figures .exit) ≡ figuresOf x (now (figures .entry))) ⌝ }
-    ensures { λ r. ⌜ (r .number ≡ 5 → AtFault (now (amounts .entry)) (codeIn r)) ⌝ }
 {
     c_ratings::rate_split(amounts, count, systems, codes, parts, figures)
 }
@@ -120,14 +116,13 @@ pub extern "C" fn saugrinte_read(
     codes: &mut [u8; RECORDS],
     parts: &mut [u32; RECORDS],
 ) -> Reply
-    ensures { λ r. let x = readOf (now (sheet .entry)) (codeIn r) in
+    ensures { λ r. let x = readOf (now (sheet .entry)) in
         let answer = x .answer in let split = x .split in ⌜ (r ≡ readReply answer)
         × (now (amounts .exit) ≡ readOr answer (x .analysis .amounts) (now (amounts .entry)))
         × (now (count .exit) ≡ readOr answer (split .count) (now (count .entry)))
         × (now (systems .exit) ≡ readOr answer (split .systems) (now (systems .entry)))
         × (now (codes .exit) ≡ readOr answer (split .codes) (now (codes .entry)))
         × (now (parts .exit) ≡ readOr answer (split .amounts) (now (parts .entry))) ⌝ }
-    ensures { λ r. ⌜ (r .number ≡ 5 → FaultInSheet (now (sheet .entry)) (codeIn r)) ⌝ }
 {
     c_sheets::read_sheet(sheet, amounts, count, systems, codes, parts)
 }
@@ -144,10 +139,9 @@ pub extern "C" fn saugrinte_write(
     length: &mut usize,
 ) -> Reply
     ensures { λ r. let p = splitFrom count (now (systems .entry)) (now (codes .entry)) (now (parts .entry)) in
-        let x = writtenOf (now (amounts .entry)) p (bytesIn (now (buffer .entry))) (codeIn r) in ⌜ (r ≡ writtenReply x)
+        let x = writtenOf (now (amounts .entry)) p (bytesIn (now (buffer .entry))) in ⌜ (r ≡ writtenReply x)
         × (now (buffer .exit) ≡ leftOf (now (amounts .entry)) p (now (buffer .entry)))
         × (now (length .exit) ≡ writtenLength x (now (length .entry))) ⌝ }
-    ensures { λ r. ⌜ (r .number ≡ 5 → AtFault (now (amounts .entry)) (codeIn r)) ⌝ }
 {
     c_sheets::write_sheet(amounts, count, systems, codes, parts, buffer, length)
 }

@@ -6,7 +6,7 @@ use mathlib.Core.Bool.{Bool, false, _||_, cond}
 use lib.ListN.{getD, set}
 use lib.Dec.{leb, eqb}
 use Rattle.refusal.specs.Register.{UNKNOWN, RETIRED, OUT_OF_ORDER}
-use Rattle.analysis.specs.Register.{Status, live, retired, splitsOnly, unknown, statusOf}
+use Rattle.analysis.specs.Register.{CODES, Status, live, retired, splitsOnly, unknown, statusOf}
 use Rattle.sheet.specs.declared.Reading.{Reading}
 use Rattle.sheet.specs.declared.Reading.the-variants.{Read, Refused}
 use Rattle.sheet.specs.Bytes.{fourBytesAt, bytesOf}
@@ -46,6 +46,13 @@ amountsFrom (suc n) s at amounts =
 abbrev pub zeroListed : ℕ → List ℕ → ℕ → Bool
 zeroListed zero s at = false
 zeroListed (suc n) s at = eqb (fourBytesAt s (at + 1)) 0 || zeroListed n s (at + COMPONENT_BYTES)
+
+-- the code of the first of `n` records at `at` that is listed at 0; CODES where none is. Codes rise (4), so it is the
+-- lowest such code (`Laws/Zeros.first-lowest`).
+abbrev pub firstZero : ℕ → List ℕ → ℕ → ℕ
+firstZero zero s at = CODES
+firstZero (suc n) s at =
+    cond (eqb (fourBytesAt s (at + 1)) 0) (getD s at 0) (firstZero n s (at + COMPONENT_BYTES))
 
 -- how many amounts are listed: only codes with an amount are
 abbrev pub listedCount : List ℕ → ℕ

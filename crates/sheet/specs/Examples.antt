@@ -1,4 +1,5 @@
--- Worked examples (document 01, "Writer, display, controller", "Gases and their figures"). Assumes nothing.
+-- Worked examples (document 01, "Writer, display, controller", "Gases and their figures"; document 02, Four). Assumes
+-- nothing.
 use mathlib.Core.Path.{_≡_, refl}
 use mathlib.Core.List.{List, [], _∷_}
 use mathlib.Core.Bool.{true, false}
@@ -14,11 +15,11 @@ use Rattle.sheet.specs.declared.Split.{Split}
 use Rattle.sheet.specs.Split.{RECORDS, LONGEST_SPLIT, allowedCount, noSplit}
 use Rattle.sheet.specs.Components.{codeRefusal}
 use Rattle.sheet.specs.Sheet.{SHEET, sheetOf, sectionsOf}
-use Rattle.sheet.specs.Read.{amountsRefusal, refusedSheet, readBy, readOf}
+use Rattle.sheet.specs.Read.{amountsRefusal, lowestIn, refusedSheet, readBy, readOf}
 use Rattle.sheet.specs.Write.{writeRefusal}
 
 -- the bytes 01 09 00 00 00 64 00 are refused 3, at place 0
-retired-code : readOf (1 ∷ 9 ∷ 0 ∷ 0 ∷ 0 ∷ 100 ∷ 0 ∷ []) 0 ≡ refusedSheet (Refused 3 0 0)
+retired-code : readOf (1 ∷ 9 ∷ 0 ∷ 0 ∷ 0 ∷ 100 ∷ 0 ∷ []) ≡ refusedSheet (Refused 3 0 0)
 unfolding readOf readBy sectionsOf sectionAt endAt allowedCount codeRefusal statusOf isIn
 retired-code = refl
 
@@ -28,18 +29,40 @@ unfolding codeRefusal statusOf
 retired-refused p = (refl, refl)
 
 -- a sheet of two counts of 0 has no methane
-empty-sheet : readOf (0 ∷ 0 ∷ []) 1 ≡ refusedSheet (Refused 5 0 1)
-unfolding readOf readBy sectionsOf sectionAt endAt allowedCount amountsRefusal analysisRefusal inRange statusOf
+empty-sheet : readOf (0 ∷ 0 ∷ []) ≡ refusedSheet (Refused 5 0 1)
+unfolding readOf readBy sectionsOf sectionAt endAt allowedCount amountsRefusal lowestIn analysisRefusal inRange statusOf
     isIn
 empty-sheet = refl
 
+-- of several codes at fault 5 carries the lowest: neo-pentane, 6, listed at 0 beside i-pentane, 7, out of range; with
+-- methane absent as well 1; with ethane out of range as well 2; with i-pentane listed at 0 too 6
+abbrev listedZero : List ℕ
+listedZero = 3 ∷ 1 ∷ 0 ∷ 13 ∷ 187 ∷ 160 ∷ 6 ∷ 0 ∷ 0 ∷ 0 ∷ 0 ∷ 7 ∷ 0 ∷ 0 ∷ 0 ∷ 9 ∷ 0 ∷ []
+
+abbrev methaneAbsent : List ℕ
+methaneAbsent = 2 ∷ 6 ∷ 0 ∷ 0 ∷ 0 ∷ 0 ∷ 7 ∷ 0 ∷ 0 ∷ 0 ∷ 9 ∷ 0 ∷ []
+
+abbrev ethaneToo : List ℕ
+ethaneToo =
+    4 ∷ 1 ∷ 0 ∷ 13 ∷ 187 ∷ 160 ∷ 2 ∷ 0 ∷ 0 ∷ 0 ∷ 99 ∷ 6 ∷ 0 ∷ 0 ∷ 0 ∷ 0 ∷ 7 ∷ 0 ∷ 0 ∷ 0 ∷ 9 ∷ 0 ∷ []
+
+abbrev twoZeros : List ℕ
+twoZeros = 3 ∷ 1 ∷ 0 ∷ 13 ∷ 187 ∷ 160 ∷ 6 ∷ 0 ∷ 0 ∷ 0 ∷ 0 ∷ 7 ∷ 0 ∷ 0 ∷ 0 ∷ 0 ∷ 0 ∷ []
+
+lowest-first : (readOf listedZero ≡ refusedSheet (Refused 5 0 6))
+    × (readOf methaneAbsent ≡ refusedSheet (Refused 5 0 1))
+    × (readOf ethaneToo ≡ refusedSheet (Refused 5 0 2)) × (readOf twoZeros ≡ refusedSheet (Refused 5 0 6))
+unfolding readOf readBy sectionsOf sectionAt endAt allowedCount amountsRefusal lowestIn analysisRefusal inRange
+    codeRefusal statusOf isIn
+lowest-first = (refl, refl, refl, refl)
+
 -- a byte left over
-byte-over : readOf (0 ∷ 0 ∷ 0 ∷ []) 0 ≡ refusedSheet (Refused 1 0 0)
+byte-over : readOf (0 ∷ 0 ∷ 0 ∷ []) ≡ refusedSheet (Refused 1 0 0)
 unfolding readOf readBy sectionsOf sectionAt endAt allowedCount isIn
 byte-over = refl
 
 -- a count of 6 is allowed, but its records are missing; one of 3 is not
-six-missing : readOf (0 ∷ 6 ∷ []) 0 ≡ refusedSheet (Refused 1 0 0)
+six-missing : readOf (0 ∷ 6 ∷ []) ≡ refusedSheet (Refused 1 0 0)
 unfolding readOf readBy sectionsOf sectionAt endAt allowedCount isIn
 six-missing = refl
 

@@ -7,6 +7,7 @@ pub mod Sheet
 pub mod Read
 pub mod Write
 pub mod RoundTrip
-pub mod Calls
 pub mod Examples
 pub mod Laws
+pub mod Faults
+pub mod Lowest

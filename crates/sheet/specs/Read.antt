@@ -1,22 +1,18 @@
--- Reading a sheet (document 01, "What is turned away", 1 to 6). Assumes nothing.
+-- Reading a sheet (document 01, "What is turned away", 1 to 6; document 02, Four). Assumes nothing.
 use mathlib.Core.Bool.{cond}
-use Prim.Native.Nat.{ℕ, _+_, _*_, _<_}
-use mathlib.Core.Path.{_≡_}
-use mathlib.Core.Logic.{_⊎_}
+use Prim.Native.Nat.{ℕ, min}
 use mathlib.Core.List.{List}
-use lib.ListN.{getD, replicate}
+use lib.ListN.{replicate}
 use lib.Dec.{eqb}
 use Rattle.refusal.specs.Register.{TORN, OUT_OF_RANGE, carried}
 use Rattle.analysis.specs.Register.{CODES}
-use Rattle.analysis.specs.Check.{analysisRefusal, AtFault}
+use Rattle.analysis.specs.Check.{analysisRefusal, lowestFault}
 use Rattle.sheet.specs.declared.Reading.{Reading}
 use Rattle.sheet.specs.declared.Reading.the-variants.{Read, Refused}
 use Rattle.sheet.specs.declared.Sections.{Sections}
 use Rattle.sheet.specs.declared.Sections.the-variants.{Torn, Both}
 use Rattle.sheet.specs.declared.Sheet.{Sheet}
-use Rattle.sheet.specs.ReadingCases.{numberOf, faultOf}
-use Rattle.sheet.specs.Bytes.{fourBytesAt}
-use Rattle.sheet.specs.Components.{COMPONENT_BYTES, codesReading, amountsFrom, zeroListed}
+use Rattle.sheet.specs.Components.{codesReading, amountsFrom, zeroListed, firstZero}
 use Rattle.sheet.specs.Split.{splitAt, noSplit}
 use Rattle.sheet.specs.Sheet.{sectionsOf}
 
@@ -27,6 +23,11 @@ readAmounts n s = amountsFrom n s 1 (replicate CODES 0)
 -- the number by the amounts: 5 for a component listed at 0, then that of the analysis
 unfoldable pub amountsRefusal : ℕ → List ℕ → ℕ
 amountsRefusal n s = cond (zeroListed n s 1) OUT_OF_RANGE (analysisRefusal (readAmounts n s))
+
+-- the lowest code at fault: listed at 0, out of its range, or absent where it may not be (document 02, Four); CODES
+-- where none is
+unfoldable pub lowestIn : ℕ → List ℕ → ℕ
+lowestIn n s = min (firstZero n s 1) (lowestFault 0 (readAmounts n s))
 
 -- a refusal by the amounts; 5 carries `code`
 abbrev pub byAmounts : ℕ → ℕ → Reading
@@ -46,35 +47,15 @@ withAnswer Read sheet = sheet
 withAnswer (Refused number place code) sheet = refusedSheet (Refused number place code)
 
 -- after the codes, the amounts
-abbrev pub afterCodes : Reading → ℕ → List ℕ → ℕ → Reading
-afterCodes Read n s code = byAmounts (amountsRefusal n s) code
-afterCodes (Refused number place code') n s code = Refused number place code'
+abbrev pub afterCodes : Reading → ℕ → List ℕ → Reading
+afterCodes Read n s = byAmounts (amountsRefusal n s) (lowestIn n s)
+afterCodes (Refused number place code) n s = Refused number place code
 
 -- 1 over the whole sheet, then record by record 2, 3, 4, then 5 and 6
-unfoldable pub readBy : Sections → List ℕ → ℕ → Sheet
-readBy Torn s code = refusedSheet (Refused TORN 0 0)
-readBy (Both n m first) s code = withAnswer (afterCodes (codesReading n s 1 0 0) n s code) (contentOf n m first s)
+unfoldable pub readBy : Sections → List ℕ → Sheet
+readBy Torn s = refusedSheet (Refused TORN 0 0)
+readBy (Both n m first) s = withAnswer (afterCodes (codesReading n s 1 0 0) n s) (contentOf n m first s)
 
--- the sheet that the bytes `s` are; a refusal 5 carries `code`
-unfoldable pub readOf : List ℕ → ℕ → Sheet
-readOf s code = readBy (sectionsOf s) s code
-
--- `code` stands in one of `n` component records with the amount 0
-pub record ListedAtZero (n : ℕ) (s : List ℕ) (code : ℕ) : Type 0 where
-  pub place : ℕ
-  pub listed : place < n
-  pub code-there : getD s (1 + COMPONENT_BYTES * place) 0 ≡ code
-  pub amount-there : fourBytesAt s (1 + COMPONENT_BYTES * place + 1) ≡ 0
-
--- a code at fault in a sheet of `n` components: listed at 0, out of its range, or absent where it may not be
-abbrev pub FaultIn : ℕ → List ℕ → ℕ → Type 0
-FaultIn n s code = ListedAtZero n s code ⊎ AtFault (readAmounts n s) code
-
--- of as many components as its first byte says
-abbrev pub FaultInSheet : List ℕ → ℕ → Type 0
-FaultInSheet s code = FaultIn (getD s 0 0) s code
-
--- the promise of the reader: the sheet is fixed but for the code of 5, and that is a code at fault
-pub record ReadAs (s : List ℕ) (r : Sheet) : Type 0 where
-  pub sheet : r ≡ readOf s (faultOf (r .answer))
-  pub code : numberOf (r .answer) ≡ OUT_OF_RANGE → FaultInSheet s (faultOf (r .answer))
+-- the sheet that the bytes `s` are
+unfoldable pub readOf : List ℕ → Sheet
+readOf s = readBy (sectionsOf s) s

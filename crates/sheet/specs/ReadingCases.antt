@@ -1,6 +1,6 @@
 -- What each case of `Reading` is (document 01, "What is turned away"): a refusal's number, 0 where there is none; what
--- it carries, the record's place with 2 to 4 and the code at fault with 5; and what a lent buffer then holds. Assumes
--- nothing.
+-- it carries, the record's place with 2 to 4 and the lowest code at fault with 5; and what a lent buffer then holds.
+-- Assumes nothing.
 use Prim.Native.Nat.{ℕ}
 use Rattle.refusal.specs.Register.{carried}
 use Rattle.sheet.specs.declared.Reading.{Reading}
@@ -15,7 +15,7 @@ abbrev pub placeOf : Reading → ℕ
 placeOf Read = 0
 placeOf (Refused number place code) = carried number code place
 
--- the code at fault that 5 carries, else 0
+-- the lowest code at fault, which 5 carries, else 0
 abbrev pub faultOf : Reading → ℕ
 faultOf Read = 0
 faultOf (Refused number place code) = code

@@ -75,20 +75,20 @@ longest-written a p size l h =
     let m = allowed-most (p .count) (g .0) in
     omega (arith, length-sheet a p)
 
-pub longest-read : (s : List ℕ) (code : ℕ) → readOf s code .answer ≡ Read → length s ≤ SHEET
-longest-read s code h =
-    let x = read-whole s code h in
+pub longest-read : (s : List ℕ) → readOf s .answer ≡ Read → length s ≤ SHEET
+longest-read s h =
+    let x = read-whole s h in
     let g = sectioned s (x .sections) in
     let n = g .few in
     let m = allowed-most (x .m) (g .allowed) in
     omega (arith, g .size)
 
 -- so a longer one is torn, whatever its bytes are
-pub longer-torn : (s : List ℕ) (code : ℕ) → SHEET < length s → readOf s code ≡ refusedSheet (Refused TORN 0 0)
-longer-torn s code h = by (sectionsOf s) refl
+pub longer-torn : (s : List ℕ) → SHEET < length s → readOf s ≡ refusedSheet (Refused TORN 0 0)
+longer-torn s h = by (sectionsOf s) refl
   where
-    by : (x : Sections) → sectionsOf s ≡ x → readOf s code ≡ refusedSheet (Refused TORN 0 0)
-    by Torn e = read-torn s code e
+    by : (x : Sections) → sectionsOf s ≡ x → readOf s ≡ refusedSheet (Refused TORN 0 0)
+    by Torn e = read-torn s e
     by (Both n m first) e =
         let g = sectioned s e in
         let few = g .few in
@@ -159,7 +159,7 @@ abbrev pub asRead : List ℕ → Split → Sheet
 asRead a p = record { answer = Read; analysis = record { amounts = a }; split = p }
 
 module _ (xs : List ℕ) (p : Split) (k : Sized (0 ∷ xs) p) (allowed : allowedCount (p .count) ≡ true)
-    (passed : analysisRefusal (0 ∷ xs) ≡ 0) (code : ℕ) where
+    (passed : analysisRefusal (0 ∷ xs) ≡ 0) where
   s : List ℕ
   s = sheetOf (0 ∷ xs) p
 
@@ -220,13 +220,13 @@ module _ (xs : List ℕ) (p : Split) (k : Sized (0 ∷ xs) p) (allowed : allowed
       let z = ap padded (b .2 ∙ column-cut (p .count) (p .amounts) h (k .amounts)) in
       λ i. record { count = p .count; systems = x i; codes = y i; amounts = z i }
 
-  read-sheet : readOf (sheetOf (0 ∷ xs) p) code ≡ asRead (0 ∷ xs) (trimmed p)
+  read-sheet : readOf (sheetOf (0 ∷ xs) p) ≡ asRead (0 ∷ xs) (trimmed p)
   unfolding s n
   read-sheet =
       let j : amountsRefusal n s ≡ 0 = amounts-checked n s zeros ∙ ap analysisRefusal amounts ∙ passed in
       let e : contentOf n (p .count) (2 + COMPONENT_BYTES * n) s ≡ asRead (0 ∷ xs) (trimmed p) =
       λ i. record { answer = Read; analysis = record { amounts = amounts i }; split = split i } in
-      read-good s code n (p .count) (2 + COMPONENT_BYTES * n) sections codes j ∙ e
+      read-good s n (p .count) (2 + COMPONENT_BYTES * n) sections codes j ∙ e
 
 -- 0 is no code
 no-code : (x : ℕ) → inRange 0 x ≡ true → x ≡ 0
@@ -235,38 +235,37 @@ no-code x h = unlisted 0 x refl h
 
 -- the bytes of an analysis and a split that are not refused read as these
 pub read-bytes : (a : List ℕ) (p : Split) → Sized a p → allowedCount (p .count) ≡ true → analysisRefusal a ≡ 0
-    → (code : ℕ)
-    → readOf (sheetOf a p) code ≡ asRead a (trimmed p)
-read-bytes [] p k allowed passed code = absurd (omega (arith, k .amounts-of-codes))
-read-bytes (x ∷ xs) p k allowed passed code =
+    → readOf (sheetOf a p) ≡ asRead a (trimmed p)
+read-bytes [] p k allowed passed = absurd (omega (arith, k .amounts-of-codes))
+read-bytes (x ∷ xs) p k allowed passed =
     let g = and-eq-true-iff (inRange 0 x) (allInRange 1 xs) .0 (passed-ranges (x ∷ xs) passed) in
     let e : x ≡ 0 = no-code x (g .0) in
     subst (λ (y : ℕ). Sized (y ∷ xs) p → analysisRefusal (y ∷ xs) ≡ 0
-    → readOf (sheetOf (y ∷ xs) p) code ≡ asRead (y ∷ xs) (trimmed p))
+    → readOf (sheetOf (y ∷ xs) p) ≡ asRead (y ∷ xs) (trimmed p))
     (sym e)
-    (λ j c. read-sheet xs p j allowed c code)
+    (λ j c. read-sheet xs p j allowed c)
     k
     passed
 
 -- reading what was written into a buffer gives the same analysis and the same split
-pub read-written : (a : List ℕ) (p : Split) → Sized a p → (b : List ℕ) (n code code' : ℕ)
-    → writtenOf a p (length b) code ≡ w.Length n
-    → readOf (take n (leftOf a p b)) code' ≡ asRead a (trimmed p)
-read-written a p k b n code code' h =
-    let g = written-back a p (length b) code h in
+pub read-written : (a : List ℕ) (p : Split) → Sized a p → (b : List ℕ) (n : ℕ)
+    → writtenOf a p (length b) ≡ w.Length n
+    → readOf (take n (leftOf a p b)) ≡ asRead a (trimmed p)
+read-written a p k b n h =
+    let g = written-back a p (length b) h in
     let c = number-back a p (length b) (g .0) in
     let e = ap (λ (l : List ℕ). take n l) (left-sheet a p b (g .0))
     ∙ take-at (sheetOf a p) (drop (length (sheetOf a p)) b) n (sym (g .1)) in
-    ap (λ (l : List ℕ). readOf l code') e ∙ read-bytes a p k (c .0) (c .1) code'
+    ap readOf e ∙ read-bytes a p k (c .0) (c .1)
 
 -- the very same split where its unused places hold 0
-pub read-written-same : (a : List ℕ) (p : Split) → Sized a p → Unused p → (b : List ℕ) (n code code' : ℕ)
-    → writtenOf a p (length b) code ≡ w.Length n
-    → readOf (take n (leftOf a p b)) code' ≡ asRead a p
-read-written-same a p k u b n code code' h =
-    let g = written-back a p (length b) code h in
+pub read-written-same : (a : List ℕ) (p : Split) → Sized a p → Unused p → (b : List ℕ) (n : ℕ)
+    → writtenOf a p (length b) ≡ w.Length n
+    → readOf (take n (leftOf a p b)) ≡ asRead a p
+read-written-same a p k u b n h =
+    let g = written-back a p (length b) h in
     let c = number-back a p (length b) (g .0) in
-    read-written a p k b n code code' h
+    read-written a p k b n h
     ∙ ap (λ (q : Split). asRead a q) (trimmed-same a p k (allowed-room (p .count) (c .0)) u)
 
 -- ---- writing what was read
@@ -317,30 +316,30 @@ module _ (s : List ℕ) (bytes : Bytes s) (x : Whole s) where
       ∙ sym (one s bytes 0 1 refl (omega (arith, shape .size)))
 
 -- what is read has the same bytes
-pub bytes-read : (s : List ℕ) → Bytes s → (code : ℕ) → readOf s code .answer ≡ Read
-    → sheetOf (readOf s code .analysis .amounts) (readOf s code .split) ≡ s
-bytes-read s bytes code h =
-    let x = read-whole s code h in
-    let e = read-good s code (x .n) (x .m) (x .first) (x .sections) (x .codes) (x .amounts) in
+pub bytes-read : (s : List ℕ) → Bytes s → readOf s .answer ≡ Read
+    → sheetOf (readOf s .analysis .amounts) (readOf s .split) ≡ s
+bytes-read s bytes h =
+    let x = read-whole s h in
+    let e = read-good s (x .n) (x .m) (x .first) (x .sections) (x .codes) (x .amounts) in
     ap (λ (r : Sheet). sheetOf (r .analysis .amounts) (r .split)) e ∙ sheet-same s bytes x
 
 -- writing what was read into a buffer with room gives the same bytes, and leaves the rest of the buffer
-pub written-read : (s : List ℕ) → Bytes s → (code : ℕ) → readOf s code .answer ≡ Read → (b : List ℕ) (code' : ℕ)
+pub written-read : (s : List ℕ) → Bytes s → readOf s .answer ≡ Read → (b : List ℕ)
     → length s ≤ length b
-    → (writtenOf (readOf s code .analysis .amounts) (readOf s code .split) (length b) code' ≡ w.Length (length s))
-    × (leftOf (readOf s code .analysis .amounts) (readOf s code .split) b ≡ s ++ drop (length s) b)
-written-read s bytes code h b code' l =
-    let x = read-whole s code h in
-    let e = bytes-read s bytes code h in
-    let r = read-good s code (x .n) (x .m) (x .first) (x .sections) (x .codes) (x .amounts) in
-    let a : List ℕ = readOf s code .analysis .amounts in
-    let p : Split = readOf s code .split in
+    → (writtenOf (readOf s .analysis .amounts) (readOf s .split) (length b) ≡ w.Length (length s))
+    × (leftOf (readOf s .analysis .amounts) (readOf s .split) b ≡ s ++ drop (length s) b)
+written-read s bytes h b l =
+    let x = read-whole s h in
+    let e = bytes-read s bytes h in
+    let r = read-good s (x .n) (x .m) (x .first) (x .sections) (x .codes) (x .amounts) in
+    let a : List ℕ = readOf s .analysis .amounts in
+    let p : Split = readOf s .split in
     let j : analysisRefusal a ≡ 0 = ap (λ (y : Sheet). analysisRefusal (y .analysis .amounts)) r
     ∙ amounts-back (x .n) s (x .amounts) .1 in
     let m : allowedCount (p .count) ≡ true = ap (λ (y : Sheet). allowedCount (y .split .count)) r
     ∙ sectioned s (x .sections) .allowed in
     let k : length (sheetOf a p) ≤ length b = subst (λ (y : List ℕ). length y ≤ length b) (sym e) l in
     let z = number-none a p (length b) m j k in (
-      written-length a p (length b) code' z ∙ ap (λ (y : List ℕ). w.Length (length y)) e,
+      written-length a p (length b) z ∙ ap (λ (y : List ℕ). w.Length (length y)) e,
       left-sheet a p b z ∙ ap (λ (y : List ℕ). y ++ drop (length y) b) e,
     )

@@ -1,5 +1,5 @@
 -- What each case of `Written` is (document 01, "What is turned away"): a refusal's number, 0 where there is none; what
--- it carries, the code at fault with 5; and the sheet's length. Assumes nothing.
+-- it carries, the lowest code at fault with 5; and the sheet's length. Assumes nothing.
 use Prim.Native.Nat.{ℕ}
 use Rattle.sheet.specs.declared.Written.{Written}
 use Rattle.sheet.specs.declared.Written.the-variants.{Length, Refused}
@@ -12,11 +12,6 @@ numberOf (Refused number code) = number
 abbrev pub placeOf : Written → ℕ
 placeOf (Length n) = 0
 placeOf (Refused number code) = code
-
--- the code at fault that 5 carries, else 0
-abbrev pub faultOf : Written → ℕ
-faultOf (Length n) = 0
-faultOf (Refused number code) = code
 
 -- the length, or what the buffer for it held
 abbrev pub figuresOf : Written → ℕ → ℕ

@@ -44,7 +44,8 @@ pub enum Sections {
     },
 }
 
-// The answer to a sheet. A refusal carries its number, for 2 to 4 the record's place from 0, for 5 a code at fault.
+// The answer to a sheet. A refusal carries its number, for 2 to 4 the record's place from 0, for 5 the lowest code
+// at fault.
 pub enum Reading {
     Read,
     Refused { number: u32, place: u32, code: u32 },
@@ -57,7 +58,7 @@ pub struct Sheet {
     pub split: Split,
 }
 
-// The answer to writing: the sheet's length, or the refusal's number and for 5 a code at fault.
+// The answer to writing: the sheet's length, or the refusal's number and for 5 the lowest code at fault.
 pub enum Written {
     Length(usize),
     Refused { number: u32, code: u32 },

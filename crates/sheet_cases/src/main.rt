@@ -32,30 +32,15 @@ const WRITTEN: u8 = 4;
 
 const OTHER: u8 = 5;
 
-// Bytes of a case of `writings` before the sheet: the amounts, the split count, 21 records.
+// Stands for the lowest code at fault where none is.
+const NO_FAULT: u8 = 255;
+
+// Bytes of a case of `writings` before the sheet: the amounts, the split count, 21 records, the lowest code at fault.
 const AMOUNT_BYTES: usize = 64;
 
-const CASE_BYTES: usize = 191;
+const CODE_AT: usize = 191;
 
-// The code's bit among the codes at fault.
-const BITS: [u16; CODES] = [
-    1,
-    2,
-    4,
-    8,
-    16,
-    32,
-    64,
-    128,
-    256,
-    512,
-    1024,
-    2048,
-    4096,
-    8192,
-    16384,
-    32768,
-];
+const CASE_BYTES: usize = 192;
 
 fn put(text: &[u8]) {
     io::write_all(STDOUT_FILENO, text);
@@ -100,15 +85,6 @@ fn put_split(split: Split) {
     }
 }
 
-// Is the code among those at fault?
-fn at_fault(code: u32, faults: u16) -> bool {
-    let k = code as usize;
-    if k < CODES {
-        return faults & BITS[k] != 0;
-    }
-    false
-}
-
 // Does the space begin with the sheet, and is it unchanged after it?
 fn begins(space: &[u8; LARGEST], sheet: &[u8]) -> bool {
     let mut i: usize = 0;
@@ -127,17 +103,20 @@ fn begins(space: &[u8; LARGEST], sheet: &[u8]) -> bool {
     true
 }
 
-// How a refusal that changed nothing counts.
-fn refusal(number: u32, code: u32, faults: u16) -> u8 {
-    if number == 1 {
-        return REFUSED_1;
-    }
+// How a refusal that changed nothing counts: 5 only with the lowest code at fault, the others only with 0.
+fn refusal(number: u32, code: u32, lowest: u8) -> u8 {
     if number == 5 {
-        return if at_fault(code, faults) {
+        return if code == lowest as u32 {
             REFUSED_5
         } else {
             OTHER
         };
+    }
+    if code != 0 {
+        return OTHER;
+    }
+    if number == 1 {
+        return REFUSED_1;
     }
     if number == 6 {
         return REFUSED_6;
@@ -149,7 +128,7 @@ fn refusal(number: u32, code: u32, faults: u16) -> u8 {
 }
 
 // Writes into a buffer of `size` bytes: how did it go?
-fn trial(analysis: Analysis, split: Split, sheet: &[u8], faults: u16, size: usize) -> u8
+fn trial(analysis: Analysis, split: Split, sheet: &[u8], lowest: u8, size: usize) -> u8
     requires { ⌜ size ≤ 189 ⌝ }
 {
     let mut space = [BEFORE; LARGEST];
@@ -166,7 +145,7 @@ fn trial(analysis: Analysis, split: Split, sheet: &[u8], faults: u16, size: usiz
         }
         Written::Refused { number, code } => {
             if begins(&space, b"") {
-                return refusal(number, code, faults);
+                return refusal(number, code, lowest);
             }
             OTHER
         }
@@ -174,11 +153,11 @@ fn trial(analysis: Analysis, split: Split, sheet: &[u8], faults: u16, size: usiz
 }
 
 // Over buffers of 0 to 189 bytes, how many writings went so?
-fn count(analysis: Analysis, split: Split, sheet: &[u8], faults: u16, so: u8) -> u64 {
+fn count(analysis: Analysis, split: Split, sheet: &[u8], lowest: u8, so: u8) -> u64 {
     let mut n: u64 = 0;
     let mut size: usize = 0;
     while size <= LARGEST {
-        if trial(analysis, split, sheet, faults, size) == so {
+        if trial(analysis, split, sheet, lowest, size) == so {
             n += 1;
         }
         size += 1;
@@ -187,25 +166,21 @@ fn count(analysis: Analysis, split: Split, sheet: &[u8], faults: u16, so: u8) ->
 }
 
 // Prints how the writings went, in the order of the constants above.
-fn put_writings(analysis: Analysis, split: Split, sheet: &[u8], faults: u16) {
+fn put_writings(analysis: Analysis, split: Split, sheet: &[u8], lowest: u8) {
     put(b"WRITE");
     let mut so: u8 = REFUSED_1;
     while so <= OTHER {
-        put_number(count(analysis, split, sheet, faults, so));
+        put_number(count(analysis, split, sheet, lowest, so));
         so += 1;
     }
 }
 
-// Prints a refusal: with its place for 2 to 4, for 5 with whether the code is at fault.
-fn put_refusal(number: u32, place: u32, code: u32, faults: u16) {
+// Prints a refusal: for 2 to 4 with its place, and with its code where it has one, as 5 alone has.
+fn put_refusal(number: u32, place: u32, code: u32) {
     put(b"REFUSED");
     put_amount(number);
-    if number == 5 {
-        if at_fault(code, faults) {
-            put(b" FAULT");
-        } else {
-            put(b" NO FAULT");
-        }
+    if code != 0 {
+        put_amount(code);
         return;
     }
     if 2 <= number {
@@ -216,7 +191,7 @@ fn put_refusal(number: u32, place: u32, code: u32, faults: u16) {
 }
 
 // Reads a sheet, and prints its line.
-fn read_case(bytes: &[u8], faults: u16) {
+fn read_case(bytes: &[u8]) {
     let read = reader::read(bytes);
     let answer = read.answer;
     let analysis = read.analysis;
@@ -228,13 +203,13 @@ fn read_case(bytes: &[u8], faults: u16) {
             put_amounts(amounts);
             put_split(split);
             put(b" ");
-            put_writings(analysis, split, bytes, faults);
+            put_writings(analysis, split, bytes, NO_FAULT);
         }
         Reading::Refused {
             number,
             place,
             code,
-        } => put_refusal(number, place, code, faults),
+        } => put_refusal(number, place, code),
     }
     put(b"\n");
 }
@@ -291,35 +266,35 @@ fn split_of(bytes: &[u8]) -> Split
 }
 
 // Writes an analysis and a split, and prints the line.
-fn write_case(bytes: &[u8], faults: u16) {
+fn write_case(bytes: &[u8]) {
     if bytes.len() < CASE_BYTES {
         return;
     }
     let amounts = amounts_of(bytes);
     let split = split_of(bytes);
-    put_writings(Analysis { amounts }, split, &bytes[CASE_BYTES..], faults);
+    let lowest = bytes[CODE_AT];
+    put_writings(Analysis { amounts }, split, &bytes[CASE_BYTES..], lowest);
     put(b"\n");
 }
 
 // Fills the body of a case, and takes it.
-fn body(fd: i32, bytes: &mut [u8], faults: u16, writing: bool) {
+fn body(fd: i32, bytes: &mut [u8], writing: bool) {
     io::read_full(fd, bytes);
     if writing {
-        write_case(bytes, faults);
+        write_case(bytes);
     } else {
-        read_case(bytes, faults);
+        read_case(bytes);
     }
 }
 
 // The next case of a file.
 fn case(fd: i32, writing: bool) {
-    let mut head = [0u8; 4];
+    let mut head = [0u8; 2];
     io::read_full(fd, &mut head);
     let size = pair(head[0], head[1]);
-    let faults = pair(head[2], head[3]);
     let mut space = io::buffer();
     let n = io::count(size as isize, &space);
-    body(fd, &mut space[..n], faults, writing);
+    body(fd, &mut space[..n], writing);
 }
 
 // Every case of a file, under the file's name.

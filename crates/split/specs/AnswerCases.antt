@@ -1,10 +1,9 @@
 -- What each case of `Answer` is (document 01, "What is turned away"): whether it is a rating; a refusal's number, 0
--- where there is none; what it carries, the record's place with 2 to 4 and the code at fault with 5; a rating's
--- figures; and what a lent buffer then holds. Assumes nothing.
+-- where there is none; what it carries, the record's place with 2 to 4 and the lowest code at fault with 5; a
+-- rating's figures; and what a lent buffer then holds. Assumes nothing.
 use mathlib.Core.List.{List, [], _∷_}
 use Prim.Native.Nat.{ℕ}
 use lib.IntN.{ℤ, pos}
-use Rattle.refusal.specs.Register.{carried}
 use Rattle.split.specs.declared.Answer.{Answer}
 use Rattle.split.specs.declared.Answer.the-variants.{Rated, Refused}
 
@@ -21,11 +20,6 @@ numberOf (Refused number place) = number
 abbrev pub placeOf : Answer → ℕ
 placeOf (Rated rating spread rounds) = 0
 placeOf (Refused number place) = place
-
--- the code at fault that 5 carries, else 0
-abbrev pub faultOf : Answer → ℕ
-faultOf (Rated rating spread rounds) = 0
-faultOf (Refused number place) = carried number place 0
 
 -- rating and spread in units and the rounds, or what the buffer for them held
 abbrev pub figuresOf : Answer → List ℤ → List ℤ

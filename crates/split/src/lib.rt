@@ -8,7 +8,8 @@ use systems::SYSTEMS;
 pub const CELLS: usize = SYSTEMS * COMPONENTS;
 
 // A rating in units with its spread in units and the search's rounds (0 for a proposed split),
-// or a refusal with its number and, for 2 to 4, the record's place, for 5, a code at fault; else 0.
+// or a refusal with its number and, for 2 to 4, the record's place, for 5, the lowest code at
+// fault; else 0.
 pub enum Answer {
     Rated {
         rating: i64,

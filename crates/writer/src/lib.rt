@@ -10,8 +10,9 @@ ghost use Rattle.sheet.specs.Bytes.{bytesOf};
 ghost use Rattle.sheet.specs.Components.{COMPONENT_BYTES, listedCount, componentBytes};
 ghost use Rattle.sheet.specs.Split.{RECORDS, RECORD_BYTES, splitBytes};
 ghost use Rattle.sheet.specs.Sheet.{sheetOf};
-ghost use Rattle.sheet.specs.Write.{WrittenAs};
-ghost use Rattle.writer.specs.Inner.Answered.{Answered, roomFor};
+ghost use Rattle.sheet.specs.WrittenCases.{numberOf};
+ghost use Rattle.sheet.specs.Write.{writeRefusal, writtenOf, leftOf};
+ghost use Rattle.writer.specs.Inner.Room.{roomFor};
 use analysis::Analysis;
 use analysis::CODES;
 use analysis::Checked;
@@ -105,7 +106,7 @@ fn put_split(split: Split, b: &mut [u8], at: usize)
 
 // The answer for a buffer of `size` bytes.
 fn answer(analysis: Analysis, split: Split, size: usize) -> Written
-    ensures { λ r. ⌜ Answered (analysis .amounts) split size r ⌝ }
+    ensures { λ r. ⌜ r ≡ writtenOf (analysis .amounts) split size ⌝ }
 {
     let m = split.count;
     let allowed = sheet::allowed_count(m);
@@ -155,7 +156,9 @@ fn put_sheet(a: [u32; CODES], split: Split, b: &mut [u8])
 // The sheet of the analysis and the split in the buffer, and its length; or a refusal, and the buffer as it was. The
 // answer is worked out from the length alone: no byte is stored before every refusal is ruled out.
 pub fn write(analysis: Analysis, split: Split, buffer: &mut [u8]) -> Written
-    ensures { λ r. ⌜ WrittenAs (analysis .amounts) split (now (buffer .entry)) r (now (buffer .exit)) ⌝ }
+    ensures { λ r. ⌜ (r ≡ writtenOf (analysis .amounts) split (length (now (buffer .entry))))
+        × (now (buffer .exit) ≡ leftOf (analysis .amounts) split (now (buffer .entry))) ⌝ }
+    ensures { λ r. ⌜ numberOf r ≡ writeRefusal (analysis .amounts) split (length (now (buffer .entry))) ⌝ }
 {
     let answer = answer(analysis, split, buffer.len());
     let Written::Length(_) = answer else {

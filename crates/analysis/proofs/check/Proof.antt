@@ -1,9 +1,11 @@
 -- `analysis::check` meets its contract. The loop's invariant: the lowest code at fault and the sum from this code on.
 -- Assumes nothing.
-use mathlib.Core.Path.{_≡_}
+use mathlib.Core.Path.{_≡_, ap, _∙_}
 use Prim.Native.Nat.{_-_, _<_}
 use lib.ListN.{length}
 use Rattle.analysis.specs.Register.{CODES}
+use Rattle.analysis.specs.CheckedCases.{numberOf, faultOf}
+use Rattle.analysis.specs.Laws.Answers.{checked-number, checked-fault}
 use Rattle.analysis.proofs.Tables.{range-at}
 use Rattle.analysis.proofs.Turns.{Walked, walk-none, walk-next, checking}
 use borrow.Author.Needs.{needs}
@@ -58,7 +60,8 @@ answer-requires c κs = c .before .loop .inv .within
 returns : tie.Need-returns Inv-loop μ-loop
 returns c =
     let b = c .before in
-    checking _ _ _ _ _ (b .loop-test .left) (b .before .loop .inv) (c .answer .ensures)
+    let e = checking _ _ _ _ _ (b .loop-test .left) (b .before .loop .inv) (c .answer .ensures) in
+    (e, (ap numberOf e ∙ checked-number _, ap faultOf e ∙ checked-fault _))
 
 pub check-spec : {M : Type 1} → statement M
 check-spec =

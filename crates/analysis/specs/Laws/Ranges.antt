@@ -1,6 +1,5 @@
--- What the check's answer says of an analysis, and what holds of one that is not refused, for those who compute with
--- it. Assumes nothing.
-use mathlib.Core.Path.{_≡_, refl, sym, ap, _∙_}
+-- What holds of an analysis that is not refused, for those who compute with it. Assumes nothing.
+use mathlib.Core.Path.{_≡_, refl, _∙_}
 use mathlib.Core.List.{List}
 use mathlib.Core.Bool.{Bool, true, false, not, _&&_, cond, false≢true, and-eq-true-iff}
 use mathlib.Core.Logic.{_⊎_, inl, inr}
@@ -11,25 +10,10 @@ use lib.Dec.{eqb, leb}
 use lib.ListN.{length, getD, drop, drop-of-length-le}
 use lib.Seq.{drop-cons}
 use borrow.Author.Tests.{eqb-true, eqb-false, leb-true}
-use Rattle.refusal.specs.Register.{carried}
 use Rattle.analysis.specs.Register.{CODES, register, statusOf}
-use Rattle.analysis.specs.declared.Checked.{Checked}
-use Rattle.analysis.specs.declared.Checked.the-variants.{InRange, Refused}
-use Rattle.analysis.specs.CheckedCases.{numberOf, faultOf}
 use Rattle.analysis.specs.Check.{leastOf, greatestOf, requiredOf, inRange, allInRange, totalOf, LEAST_SUM}
-use Rattle.analysis.specs.Check.{GREATEST_SUM, totalFits, analysisRefusal, checkedOf, Checking}
+use Rattle.analysis.specs.Check.{GREATEST_SUM, totalFits, analysisRefusal}
 use Rattle.analysis.specs.Laws.Required.{refusal-none, all-register, all-from}
-
--- the number of the check's answer is the analysis's
-pub answer-number : (n code : ℕ) → numberOf (checkedOf n code) ≡ n
-answer-number n code = go (eqb n 0) refl
-  where
-    go : (t : Bool) → eqb n 0 ≡ t → numberOf (cond t InRange (Refused n (carried n code 0))) ≡ n
-    go true e = sym (eqb-true n 0 e)
-    go false e = refl
-
-pub checked-number : (a : List ℕ) (r : Checked) → Checking a r → numberOf r ≡ analysisRefusal a
-checked-number a r h = ap numberOf (h .answer) ∙ answer-number (analysisRefusal a) (faultOf r)
 
 -- the sum of the amounts from code k on
 pub total-go : (k : ℕ) (a : List ℕ) → k < length a → totalOf (drop k a) ≡ getD a k 0 + totalOf (drop (k + 1) a)

@@ -12,8 +12,8 @@ use Rattle.refusal.specs.Keys.{isIn}
 use Rattle.analysis.specs.Register.{Status, live, retired, splitsOnly, unknown, Entry, register, statusIn}
 use Rattle.analysis.specs.Register.{statusOf}
 use Rattle.analysis.specs.Check.{leastBy, greatestBy, requiredBy, inRange, allInRange, totalOf, totalFits}
-use Rattle.analysis.specs.Check.{refusalByTests, analysisRefusal}
-use Rattle.analysis.specs.Required.{requiredToo, requiring, inRangeBy, allInRangeIn, refusalIn}
+use Rattle.analysis.specs.Check.{refusalByTests, analysisRefusal, lowestFault}
+use Rattle.analysis.specs.Required.{requiredToo, requiring, inRangeBy, allInRangeIn, lowestFaultIn, refusalIn}
 
 -- ---- by the register it is the check
 
@@ -22,6 +22,12 @@ unfolding inRange statusOf
 all-register code [] = refl
 all-register code (x ∷ xs) =
     ap (λ (b : Bool). inRangeBy (statusIn register code) x && b) (all-register (suc code) xs)
+
+pub lowest-register : (code : ℕ) (a : List ℕ) → lowestFaultIn register code a ≡ lowestFault code a
+unfolding inRange statusOf
+lowest-register code [] = refl
+lowest-register code (x ∷ xs) =
+    ap (λ (n : ℕ). cond (inRangeBy (statusIn register code) x) n code) (lowest-register (suc code) xs)
 
 pub refusal-register : (a : List ℕ) → refusalIn register a ≡ analysisRefusal a
 unfolding refusalIn analysisRefusal

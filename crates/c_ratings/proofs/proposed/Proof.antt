@@ -12,7 +12,8 @@ rate-split-requires c κs = search needs
 
 returns : tie.Need-returns
 returns c = let l : length (c .before .args .amounts) ≡ CODES = search needs in
-    let e = c .rate-split .ensures in (e .0, e .1, subst SmallFigures (sym (e .0)) (split-small _ l _ _))
+    let e = c .rate-split .ensures in
+    (e, subst SmallFigures (sym e) (split-small _ l _))
 
 pub proposed-spec : {M : Type 1} → statement M
 proposed-spec = tie.close (tie.spec rate-split-requires returns)

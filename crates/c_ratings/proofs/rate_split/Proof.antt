@@ -1,11 +1,8 @@
 -- `c_ratings::rate_split` meets its contract. Assumes nothing.
 use mathlib.Core.Path.{ap, _∙_}
-use Rattle.analysis.specs.Check.{AtFault}
-use Rattle.sheet.specs.declared.Split.{Split}
-use Rattle.split.specs.AnswerCases.{faultOf}
 use Rattle.outcome.specs.Rate.{splitAnswer}
-use Rattle.c_reply.specs.Interface.{splitFrom}
-use Rattle.c_ratings.proofs.Cases.{reply-is, figures-are, fault-at}
+use Rattle.c_reply.specs.Interface.{replyOf}
+use Rattle.c_ratings.proofs.Cases.{figures-are}
 use borrow.Author.Needs.{needs}
 use Rattle.c_ratings.proofs.rate_split.Statement.{statement}
 use Rattle.c_ratings.proofs.rate_split.Tie as tie
@@ -25,17 +22,10 @@ reply-of-requires c κs = search needs
 returns : tie.Need-returns
 returns c =
     let b = c .before .before .before in
-    let s = b .proposed in
     let x = b .before .before .before .args in
-    let p = splitFrom (x .count) (x .systems .now) (x .codes .now) (x .parts .now) in
-    let h = s .ensures .0 ∙ ap (λ (y : Split). splitAnswer (x .amounts .now) y (faultOf (s .result)))
-    (b .before .before .split-from .ensures) in
-    let e = c .reply-of .ensures in (
-      (
-        reply-is (splitAnswer (x .amounts .now) p) _ h _ e,
-        figures-are (splitAnswer (x .amounts .now) p) _ h _ e _ _ (c .before .put-figures .ensures),
-      ),
-      fault-at (s .result) _ e (AtFault (x .amounts .now)) (s .ensures .1),
+    let h = b .proposed .ensures .0 ∙ ap (splitAnswer (x .amounts .now)) (b .before .before .split-from .ensures) in (
+      c .reply-of .ensures ∙ ap replyOf h,
+      figures-are _ _ h _ _ (c .before .put-figures .ensures),
     )
 
 pub rate-split-spec : {M : Type 1} → statement M

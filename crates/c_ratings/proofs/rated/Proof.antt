@@ -12,7 +12,7 @@ rate-sheet-requires c κs = search needs
 returns : tie.Need-returns
 returns c =
     let e = c .rate-sheet .ensures in
-    (e .0, e .1, subst SmallFigures (sym (ap (λ (x : Outcome). x .answer) (e .0))) (sheet-small _ _))
+    (e, subst SmallFigures (sym (ap (λ (x : Outcome). x .answer) e)) (sheet-small _))
 
 pub rated-spec : {M : Type 1} → statement M
 rated-spec = tie.close (tie.spec rate-sheet-requires returns)

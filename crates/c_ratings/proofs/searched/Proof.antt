@@ -14,7 +14,7 @@ rate-by-search-requires c κs = search needs
 returns : tie.Need-returns
 returns c = let l : length (c .before .args .amounts) ≡ CODES = search needs in
     let e = c .rate-by-search .ensures in
-    (e .0, e .1, subst SmallFigures (sym (ap (λ (x : Outcome). x .answer) (e .0))) (search-small _ l _ _))
+    (e, subst SmallFigures (sym (ap (λ (x : Outcome). x .answer) e)) (search-small _ l _))
 
 pub searched-spec : {M : Type 1} → statement M
 searched-spec = tie.close (tie.spec rate-by-search-requires returns)

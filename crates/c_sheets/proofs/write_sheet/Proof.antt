@@ -1,5 +1,5 @@
 -- `c_sheets::write_sheet` meets its contract. Assumes nothing.
-use Rattle.c_sheets.proofs.Sheets.{written-by, written-done, written-refused}
+use Rattle.c_sheets.proofs.Sheets.{written-done, written-refused}
 use borrow.Author.Needs.{needs}
 use Rattle.c_sheets.proofs.write_sheet.Statement.{statement}
 use Rattle.c_sheets.proofs.write_sheet.Tie as tie
@@ -25,8 +25,8 @@ same-length c = search needs
 returns : tie.Need-returns
 returns c =
     let b = c .before .before .before .before .before in
-    let w = written-by _ _ _ _ _ _ (b .before .before .before .split-from .ensures) (b .write .ensures) in
-    written-done _ _ _ _ _ w _ (c .before .written .given .1) _
+    written-done _ _ _ _ _ _ (b .before .before .before .split-from .ensures) (b .write .ensures .0) _
+    (c .before .written .given .1) _
 
 same-length-2 : tie.Need-same-length-2
 same-length-2 c = search needs
@@ -34,8 +34,8 @@ same-length-2 c = search needs
 returns-2 : tie.Need-returns-2
 returns-2 c =
     let b = c .before .before .before .before .before .before in
-    let w = written-by _ _ _ _ _ _ (b .before .before .before .split-from .ensures) (b .write .ensures) in
-    written-refused _ _ _ _ _ w _ _ (c .before .before .written2 .given .1) _ (c .refused .ensures) _
+    written-refused _ _ _ _ _ _ (b .before .before .before .split-from .ensures) (b .write .ensures .0) _ _
+    (c .before .before .written2 .given .1) _ (c .refused .ensures) _
 
 pub write-sheet-spec : {M : Type 1} → statement M
 write-sheet-spec =

@@ -10,6 +10,7 @@ use lib.ListN.{getD, length}
 use borrow.Author.Tests.{eq-eqb, eqb-true}
 use Rattle.refusal.specs.Register.{carried}
 use Rattle.analysis.specs.Register.{CODES}
+use Rattle.analysis.specs.Check.{lowestFault}
 use Rattle.sheet.specs.Split.{noSplit}
 use Rattle.sheet.specs.declared.Split.{Split}
 use Rattle.mixture.specs.Inert.{inertFirst}
@@ -88,38 +89,39 @@ module _ (ch : List ℕ) (k count : ℕ) (systems codes : List ℕ) where
 -- ---- a proposed split
 
 -- of an analysis that is rated on: the answer of its chosen systems
-pub split-passed : (a : List ℕ) (p : Split) (code : ℕ) → RatedOn a
-    → splitAnswer a p code ≡ splitBy (systemsFor a) (countFor a) (mixOf a) (inertFirst a) p
+pub split-passed : (a : List ℕ) (p : Split) → RatedOn a
+    → splitAnswer a p ≡ splitBy (systemsFor a) (countFor a) (mixOf a) (inertFirst a) p
 unfolding splitAnswer
-split-passed a p code passed =
-    ap (λ (n : ℕ). checkedBy n code (splitBy (systemsFor a) (countFor a) (mixOf a) (inertFirst a) p)) passed
+split-passed a p passed =
+    ap (λ (n : ℕ). checkedBy n (lowestFault 0 a) (splitBy (systemsFor a) (countFor a) (mixOf a) (inertFirst a) p))
+    passed
 
 -- 7 where its records do not fit, else the answer to its cells
-pub split-by-records : (a : List ℕ) (p : Split) (code : ℕ) (fits : Bool) → RatedOn a
+pub split-by-records : (a : List ℕ) (p : Split) (fits : Bool) → RatedOn a
     → fitsOf (systemsFor a) (countFor a) (p .count) (p .systems) (p .codes) ≡ fits
     → let cells = cellsOf (systemsFor a) (countFor a) (p .amounts) in
     let rated = proposedOf LIMIT (systemsFor a) (countFor a) (mixOf a) cells (inertFirst a) in
-    splitAnswer a p code ≡ cond fits rated (Refused 7 0)
+    splitAnswer a p ≡ cond fits rated (Refused 7 0)
 unfolding splitAnswer splitBy
-split-by-records a p code fits passed e = rw (passed, e)
+split-by-records a p fits passed e = rw (passed, e)
 
 -- with the expected records, of an analysis that is rated on, the answer is that to its cells
-pub split-fits : (a : List ℕ) (p : Split) (code : ℕ) → RatedOn a → p .count ≡ 3 * countFor a
+pub split-fits : (a : List ℕ) (p : Split) → RatedOn a → p .count ≡ 3 * countFor a
     → p .systems ≡ systemsOf (systemsFor a) (countFor a) → p .codes ≡ codesOf (systemsFor a) (countFor a)
-    → splitAnswer a p code ≡ proposedOf LIMIT (systemsFor a) (countFor a) (mixOf a)
+    → splitAnswer a p ≡ proposedOf LIMIT (systemsFor a) (countFor a) (mixOf a)
     (cellsOf (systemsFor a) (countFor a) (p .amounts)) (inertFirst a)
 unfolding splitBy
-split-fits a p code passed c s d =
-    split-passed a p code passed
+split-fits a p passed c s d =
+    split-passed a p passed
     ∙ rw (c, s, d, written-fits (systemsFor a) (countFor a) (room a passed))
 
 -- a rating says that 5, 6 and 16 let the analysis pass, and is that of the cells
-pub split-rated : (a : List ℕ) (p : Split) (code : ℕ) (w : ℤ) (s r : ℕ) → splitAnswer a p code ≡ Rated w s r
+pub split-rated : (a : List ℕ) (p : Split) (w : ℤ) (s r : ℕ) → splitAnswer a p ≡ Rated w s r
     → (RatedOn a) ×
     (proposedOf LIMIT (systemsFor a) (countFor a) (mixOf a) (cellsOf (systemsFor a) (countFor a) (p .amounts))
     (inertFirst a) ≡ Rated w s r)
 unfolding splitAnswer splitBy
-split-rated a p code w s r is =
+split-rated a p w s r is =
     go (eqb (ratingRefusal a) 0) (fitsOf (systemsFor a) (countFor a) (p .count) (p .systems) (p .codes)) refl is
   where
     rated : Answer
@@ -129,17 +131,17 @@ split-rated a p code w s r is =
 
     go : (b f : Bool) → eqb (ratingRefusal a) 0 ≡ b
         → cond b (cond f rated (Refused 7 0))
-        (Refused (ratingRefusal a) (carried (ratingRefusal a) code 0)) ≡ Rated w s r
+        (Refused (ratingRefusal a) (carried (ratingRefusal a) (lowestFault 0 a) 0)) ≡ Rated w s r
         → (RatedOn a) × (rated ≡ Rated w s r)
     go true true e h = (eqb-true (ratingRefusal a) 0 e, h)
     go true false e h = absurd (subst IsRated (sym h) tt)
     go false f e h = absurd (subst IsRated (sym h) tt)
 
 -- a proposed split is rated with no rounds
-pub rated-zero : (a : List ℕ) (p : Split) (code : ℕ) (w : ℤ) (s r : ℕ) → splitAnswer a p code ≡ Rated w s r
-    → splitAnswer a p code ≡ Rated w s 0
-rated-zero a p code w s r is =
-    let e = split-rated a p code w s r is .1 in
+pub rated-zero : (a : List ℕ) (p : Split) (w : ℤ) (s r : ℕ) → splitAnswer a p ≡ Rated w s r
+    → splitAnswer a p ≡ Rated w s 0
+rated-zero a p w s r is =
+    let e = split-rated a p w s r is .1 in
     let z =
     rated-is LIMIT (systemsFor a) (countFor a) (mixOf a) (cellsOf (systemsFor a) (countFor a) (p .amounts))
     (inertFirst a) w s r e .2 in
@@ -148,17 +150,17 @@ rated-zero a p code w s r is =
 -- ---- the search
 
 -- a rating by the search: the analysis is rated on, and the search came to a balance
-pub search-rated : (a : List ℕ) (allowance code : ℕ) (w : ℤ) (s r : ℕ)
-    → searchOutcome a allowance code .answer ≡ Rated w s r
+pub search-rated : (a : List ℕ) (allowance : ℕ) (w : ℤ) (s r : ℕ)
+    → searchOutcome a allowance .answer ≡ Rated w s r
     → (RatedOn a) × (searched a allowance .search ≡ Balanced s r)
     × (w ≡ ratingOf (systemsFor a) (countFor a) (searched a allowance .cells) (inertFirst a))
-    × (searchOutcome a allowance code .split ≡ recordsOf (systemsFor a) (countFor a) (searched a allowance .cells))
+    × (searchOutcome a allowance .split ≡ recordsOf (systemsFor a) (countFor a) (searched a allowance .cells))
 unfolding searchOutcome foundOutcome
-search-rated a allowance code w s r is = go (eqb (ratingRefusal a) 0) (searched a allowance .search) refl refl is
+search-rated a allowance w s r is = go (eqb (ratingRefusal a) 0) (searched a allowance .search) refl refl is
   where
     by : Bool → Search → Outcome
     by b x = cond b (foundBy (systemsFor a) (countFor a) (inertFirst a) (searched a allowance .cells) x)
-        (outcome (Refused (ratingRefusal a) (carried (ratingRefusal a) code 0)) noSplit)
+        (outcome (Refused (ratingRefusal a) (carried (ratingRefusal a) (lowestFault 0 a) 0)) noSplit)
 
     go : (b : Bool) (x : Search) → eqb (ratingRefusal a) 0 ≡ b → searched a allowance .search ≡ x
         → by b x .answer ≡ Rated w s r
@@ -183,17 +185,17 @@ balance a long passed allowance s r is =
     (ap (λ (f : Found). f .search) (sym u) ∙ is))
 
 -- the found split, put back
-pub found-back : (a : List ℕ) → length a ≡ CODES → (allowance code code′ : ℕ) (w : ℤ) (s r : ℕ)
-    → searchOutcome a allowance code .answer ≡ Rated w s r
-    → splitAnswer a (searchOutcome a allowance code .split) code′ ≡ Rated w s 0
-found-back a long allowance code code′ w s r is =
-    let (passed, x, e, f) = search-rated a allowance code w s r is in
+pub found-back : (a : List ℕ) → length a ≡ CODES → (allowance : ℕ) (w : ℤ) (s r : ℕ)
+    → searchOutcome a allowance .answer ≡ Rated w s r
+    → splitAnswer a (searchOutcome a allowance .split) ≡ Rated w s 0
+found-back a long allowance w s r is =
+    let (passed, x, e, f) = search-rated a allowance w s r is in
     let b = balance a long passed allowance s r x in
     let ch = systemsFor a in
     let k = countFor a in
     let cells = searched a allowance .cells in
-    ap (λ (p : Split). splitAnswer a p code′) f
-    ∙ split-fits a (recordsOf ch k cells) code′ passed refl refl refl
+    ap (splitAnswer a) f
+    ∙ split-fits a (recordsOf ch k cells) passed refl refl refl
     ∙ put-back-records (mixOf a) ch k LIMIT (min allowance ROUNDS) cells s r b (shared a passed) (inertFirst a)
     (room a passed)
     ∙ ap (λ (x : ℤ). Rated x s 0) (sym e)

@@ -10,9 +10,9 @@ use lib.Dec.{eqb, leb}
 use lib.ListN.{length, getD, drop}
 use borrow.Author.Tests.{eqb-true, eqb-false, ne-eqb, leb-true}
 use Rattle.analysis.specs.Register.{CODES, BASE, Status, unknown, Entry, register, statusIn, hydrogenCode}
-use Rattle.analysis.specs.Check.{totalOf, totalFits, refusalByTests, analysisRefusal}
-use Rattle.analysis.specs.Required.{inRangeBy, allInRangeIn, refusalIn}
-use Rattle.analysis.specs.Laws.Required.{refusal-register, all-from, refusal-none}
+use Rattle.analysis.specs.Check.{totalOf, totalFits, refusalByTests, analysisRefusal, lowestFault}
+use Rattle.analysis.specs.Required.{inRangeBy, allInRangeIn, lowestFaultIn, refusalIn}
+use Rattle.analysis.specs.Laws.Required.{refusal-register, lowest-register, all-from, refusal-none}
 use Rattle.kept.specs.BeforeCheck.{registerBefore}
 
 -- ---- two registers
@@ -35,6 +35,16 @@ all-alike es fs code (x ∷ xs) h =
     ∙ ap (λ (b : Bool). inRangeBy (statusIn fs code) x && b)
     (all-alike es fs (suc code) xs (λ k. let e : code + suc k ≡ suc code + k = omega arith in rw e at (h (suc k))))
 
+lowest-alike : (es fs : List Entry) (code : ℕ) (a : List ℕ)
+    → ((k : ℕ)
+    → inRangeBy (statusIn es (code + k)) (getD a k 0) ≡ inRangeBy (statusIn fs (code + k)) (getD a k 0))
+    → lowestFaultIn es code a ≡ lowestFaultIn fs code a
+lowest-alike es fs code [] h = refl
+lowest-alike es fs code (x ∷ xs) h =
+    ap (λ (b : Bool). cond b (lowestFaultIn es (suc code) xs) code) (rw (add-zero code) at (h 0))
+    ∙ ap (λ (n : ℕ). cond (inRangeBy (statusIn fs code) x) n code)
+    (lowest-alike es fs (suc code) xs (λ k. let e : code + suc k ≡ suc code + k = omega arith in rw e at (h (suc k))))
+
 -- ---- the register and the one before
 
 -- every code but 15 is what it was
@@ -53,16 +63,22 @@ code-alike c x none = go (eqb c hydrogenCode) refl
         rw (p, q)
     go false e = ap (λ (s : Status). inRangeBy s x) (sym (status-kept c (eqb-false c hydrogenCode e)))
 
+none-at : (a : List ℕ) → getD a hydrogenCode 0 ≡ 0 → (k : ℕ) → 0 + k ≡ hydrogenCode → getD a k 0 ≡ 0
+none-at a none k e = let p : k ≡ hydrogenCode = omega arith in rw p none
+
 -- an analysis without hydrogen is checked as before
 pub without-kept : (a : List ℕ) → getD a hydrogenCode 0 ≡ 0 → refusalIn registerBefore a ≡ analysisRefusal a
 unfolding refusalIn
 without-kept a none =
     ap (λ (b : Bool). refusalByTests b (totalFits (totalOf a)))
-    (all-alike registerBefore register 0 a (λ k. code-alike (0 + k) (getD a k 0) (at k)))
+    (all-alike registerBefore register 0 a (λ k. code-alike (0 + k) (getD a k 0) (none-at a none k)))
     ∙ refusal-register a
-  where
-    at : (k : ℕ) → 0 + k ≡ hydrogenCode → getD a k 0 ≡ 0
-    at k e = let p : k ≡ hydrogenCode = omega arith in rw p none
+
+-- and has the lowest code at fault that it had
+pub lowest-kept : (a : List ℕ) → getD a hydrogenCode 0 ≡ 0 → lowestFaultIn registerBefore 0 a ≡ lowestFault 0 a
+lowest-kept a none =
+    lowest-alike registerBefore register 0 a (λ k. code-alike (0 + k) (getD a k 0) (none-at a none k))
+    ∙ lowest-register 0 a
 
 -- no amount of a code that is no key
 unknown-none : (x : ℕ) → inRangeBy unknown x ≡ true → x ≡ 0

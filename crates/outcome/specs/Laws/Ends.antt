@@ -4,18 +4,16 @@ use mathlib.Core.Path.{_≡_, refl, ap, _∙_, subst}
 use mathlib.Core.Bool.{Bool, true, false, cond}
 use mathlib.Core.Logic.{_↔_, _⊎_, inl, inr}
 use mathlib.Core.List.{List}
-use Prim.Native.Nat.{ℕ, zero, suc, _+_, _≤_, _<_, min}
+use Prim.Native.Nat.{ℕ, _≤_, _<_, min}
 use native.Mathlib.Omega.{arith}
 use lib.Dec.{ltb}
-use lib.ListN.{getD, length, length-set}
+use lib.ListN.{length}
 use Rattle.refusal.specs.Register.{TOO_FEW}
 use Rattle.analysis.specs.Register.{CODES}
 use Rattle.analysis.specs.Check.{analysisRefusal}
 use Rattle.sheet.specs.Split.{noSplit}
-use Rattle.sheet.specs.Bytes.{fourBytesAt}
-use Rattle.sheet.specs.Components.{amountsFrom}
 use Rattle.sheet.specs.Read.{readOf, contentOf}
-use Rattle.sheet.specs.Laws.Cases.{Whole, read-whole, read-good, amounts-back}
+use Rattle.sheet.specs.Laws.Cases.{Whole, read-whole, read-good, amounts-back, amounts-long}
 use Rattle.sheet.specs.declared.Split.{Split}
 use Rattle.sheet.specs.declared.Reading.the-variants as reading
 use Rattle.sheet.specs.declared.Sheet.{Sheet}
@@ -43,7 +41,7 @@ use Rattle.outcome.specs.declared.Outcome.{Outcome}
 abbrev pub RatedOr : ℕ → ℕ → Answer → Type 0
 RatedOr low high x = IsRated x ⊎ ((low ≤ numberOf x) × (numberOf x ≤ high))
 
--- what a proposed split and a search end in, and that neither is refused 5
+-- what a proposed split and a search end in
 pub split-wider : (x : Answer) → RatedOr 7 10 x → RatedOr 7 11 x
 split-wider x (inl r) = inl r
 split-wider x (inr b) = inr (b .0, omega (arith, b .1))
@@ -55,12 +53,6 @@ search-wider x (inr q) = inr (rw q (omega arith), rw q (omega arith))
 -- either of these, or 16
 abbrev pub RatedOrFew : Answer → Type 0
 RatedOrFew x = RatedOr 7 11 x ⊎ (x ≡ Refused TOO_FEW 0)
-
-pub not-five : (x : Answer) → RatedOrFew x → numberOf x ≡ 5 → ⊥
-not-five (Rated w s n) h e = omega arith
-not-five (Refused n p) (inl (inl r)) e = r
-not-five (Refused n p) (inl (inr b)) e = omega (arith, b .0)
-not-five (Refused n p) (inr q) e = let z : n ≡ TOO_FEW = ap numberOf q in omega arith
 
 -- ---- by the search, of an analysis that is rated on: a rating or 11
 
@@ -81,10 +73,10 @@ found-ends ch k n1 a (Balanced s r) h = inl tt
 found-ends ch k n1 a Unbalanced h = inr refl
 found-ends ch k n1 a Unfit h = absurd (h refl)
 
-pub search-ends : (a : List ℕ) (allowance code : ℕ) → RatedOn a
-    → IsRated (searchOutcome a allowance code .answer) ⊎ (searchOutcome a allowance code .answer ≡ Refused 11 0)
+pub search-ends : (a : List ℕ) (allowance : ℕ) → RatedOn a
+    → IsRated (searchOutcome a allowance .answer) ⊎ (searchOutcome a allowance .answer ≡ Refused 11 0)
 unfolding searchOutcome foundOutcome
-search-ends a allowance code h = rw h (found-ends _ _ _ _ (searched a allowance .search) (never-unfit a allowance))
+search-ends a allowance h = rw h (found-ends _ _ _ _ (searched a allowance .search) (never-unfit a allowance))
 
 -- ---- a proposed split of an analysis that is rated on: a rating or 7 to 10
 
@@ -105,9 +97,9 @@ proposed-ends limit ch k mix a n1 =
     verdict-ends (resums mix k a) (someEmpty ch k a) (ltb limit (spreadOf (rowNumber ch a) k))
     (Rated (ratingOf ch k a n1) (spreadOf (rowNumber ch a) k) 0) tt
 
-pub split-ends : (a : List ℕ) (p : Split) (code : ℕ) → RatedOn a → RatedOr 7 10 (splitAnswer a p code)
+pub split-ends : (a : List ℕ) (p : Split) → RatedOn a → RatedOr 7 10 (splitAnswer a p)
 unfolding splitAnswer splitBy
-split-ends a p code h =
+split-ends a p h =
     rw h
     (fits-ends (fitsOf (systemsFor a) (countFor a) (p .count) (p .systems) (p .codes)) _
     (proposed-ends LIMIT (systemsFor a) (countFor a) (mixOf a) (cellsOf (systemsFor a) (countFor a) (p .amounts))
@@ -115,30 +107,30 @@ split-ends a p code h =
 
 -- ---- an analysis in range: as above, or 16 and no split
 
-pub search-few : (a : List ℕ) (allowance code : ℕ) → ratingRefusal a ≡ TOO_FEW
-    → searchOutcome a allowance code ≡ outcome (Refused TOO_FEW 0) noSplit
+pub search-few : (a : List ℕ) (allowance : ℕ) → ratingRefusal a ≡ TOO_FEW
+    → searchOutcome a allowance ≡ outcome (Refused TOO_FEW 0) noSplit
 unfolding searchOutcome
-search-few a allowance code h = rw h
+search-few a allowance h = rw h
 
-pub split-few : (a : List ℕ) (p : Split) (code : ℕ) → ratingRefusal a ≡ TOO_FEW
-    → splitAnswer a p code ≡ Refused TOO_FEW 0
+pub split-few : (a : List ℕ) (p : Split) → ratingRefusal a ≡ TOO_FEW
+    → splitAnswer a p ≡ Refused TOO_FEW 0
 unfolding splitAnswer
-split-few a p code h = rw h
+split-few a p h = rw h
 
-module _ (a : List ℕ) (code : ℕ) (h : InRange a) where
-  pub search-in-range : (allowance : ℕ) → RatedOrFew (searchOutcome a allowance code .answer)
+module _ (a : List ℕ) (h : InRange a) where
+  pub search-in-range : (allowance : ℕ) → RatedOrFew (searchOutcome a allowance .answer)
   search-in-range allowance = go (on-or-few a h)
     where
-      go : RatedOn a ⊎ (ratingRefusal a ≡ TOO_FEW) → RatedOrFew (searchOutcome a allowance code .answer)
-      go (inl e) = inl (search-wider (searchOutcome a allowance code .answer) (search-ends a allowance code e))
-      go (inr e) = inr (ap (λ (x : Outcome). x .answer) (search-few a allowance code e))
+      go : RatedOn a ⊎ (ratingRefusal a ≡ TOO_FEW) → RatedOrFew (searchOutcome a allowance .answer)
+      go (inl e) = inl (search-wider (searchOutcome a allowance .answer) (search-ends a allowance e))
+      go (inr e) = inr (ap (λ (x : Outcome). x .answer) (search-few a allowance e))
 
-  pub split-in-range : (p : Split) → RatedOrFew (splitAnswer a p code)
+  pub split-in-range : (p : Split) → RatedOrFew (splitAnswer a p)
   split-in-range p = go (on-or-few a h)
     where
-      go : RatedOn a ⊎ (ratingRefusal a ≡ TOO_FEW) → RatedOrFew (splitAnswer a p code)
-      go (inl e) = inl (split-wider (splitAnswer a p code) (split-ends a p code e))
-      go (inr e) = inr (split-few a p code e)
+      go : RatedOn a ⊎ (ratingRefusal a ≡ TOO_FEW) → RatedOrFew (splitAnswer a p)
+      go (inl e) = inl (split-wider (splitAnswer a p) (split-ends a p e))
+      go (inr e) = inr (split-few a p e)
 
   -- and 16 exactly where fewer than two components are present
   never-few : (x : Answer) → RatedOr 7 11 x → x ≡ Refused TOO_FEW 0 → ⊥
@@ -146,46 +138,42 @@ module _ (a : List ℕ) (code : ℕ) (h : InRange a) where
   never-few x (inr b) e = let z : numberOf x ≡ TOO_FEW = ap numberOf e in omega (arith, b .1)
 
   pub search-few-exactly-when : (allowance : ℕ)
-      → (searchOutcome a allowance code .answer ≡ Refused TOO_FEW 0) ↔ (presentCount (mixOf a) < FEWEST)
+      → (searchOutcome a allowance .answer ≡ Refused TOO_FEW 0) ↔ (presentCount (mixOf a) < FEWEST)
   search-few-exactly-when allowance = (
     go (on-or-few a h),
-    λ l. ap (λ (x : Outcome). x .answer) (search-few a allowance code (few-by-count a h .1 l)),
+    λ l. ap (λ (x : Outcome). x .answer) (search-few a allowance (few-by-count a h .1 l)),
   )
     where
-      go : RatedOn a ⊎ (ratingRefusal a ≡ TOO_FEW) → searchOutcome a allowance code .answer ≡ Refused TOO_FEW 0
+      go : RatedOn a ⊎ (ratingRefusal a ≡ TOO_FEW) → searchOutcome a allowance .answer ≡ Refused TOO_FEW 0
           → presentCount (mixOf a) < FEWEST
       go (inl on) e =
           absurd
-          (never-few (searchOutcome a allowance code .answer)
-          (search-wider (searchOutcome a allowance code .answer) (search-ends a allowance code on)) e)
+          (never-few (searchOutcome a allowance .answer)
+          (search-wider (searchOutcome a allowance .answer) (search-ends a allowance on)) e)
       go (inr f) e = few-by-count a h .0 f
 
   pub split-few-exactly-when : (p : Split)
-      → (splitAnswer a p code ≡ Refused TOO_FEW 0) ↔ (presentCount (mixOf a) < FEWEST)
-  split-few-exactly-when p = (go (on-or-few a h), λ l. split-few a p code (few-by-count a h .1 l))
+      → (splitAnswer a p ≡ Refused TOO_FEW 0) ↔ (presentCount (mixOf a) < FEWEST)
+  split-few-exactly-when p = (go (on-or-few a h), λ l. split-few a p (few-by-count a h .1 l))
     where
-      go : RatedOn a ⊎ (ratingRefusal a ≡ TOO_FEW) → splitAnswer a p code ≡ Refused TOO_FEW 0
+      go : RatedOn a ⊎ (ratingRefusal a ≡ TOO_FEW) → splitAnswer a p ≡ Refused TOO_FEW 0
           → presentCount (mixOf a) < FEWEST
       go (inl on) e =
-          absurd (never-few (splitAnswer a p code) (split-wider (splitAnswer a p code) (split-ends a p code on)) e)
+          absurd (never-few (splitAnswer a p) (split-wider (splitAnswer a p) (split-ends a p on)) e)
       go (inr f) e = few-by-count a h .0 f
 
 -- ---- what was read is an analysis in range
 
-pub amounts-long : (n : ℕ) (s : List ℕ) (at : ℕ) (a : List ℕ) → length (amountsFrom n s at a) ≡ length a
-amounts-long zero s at a = refl
-amounts-long (suc n) s at a = amounts-long n s (at + 5) _ ∙ length-set a (getD s at 0) (fourBytesAt s (at + 1))
-
-module _ (s : List ℕ) (code : ℕ) (h : readOf s code .answer ≡ reading.Read) where
+module _ (s : List ℕ) (h : readOf s .answer ≡ reading.Read) where
   whole : Whole s
-  whole = read-whole s code h
+  whole = read-whole s h
 
-  content : readOf s code ≡ contentOf (whole .n) (whole .m) (whole .first) s
-  content = read-good s code (whole .n) (whole .m) (whole .first) (whole .sections) (whole .codes) (whole .amounts)
+  content : readOf s ≡ contentOf (whole .n) (whole .m) (whole .first) s
+  content = read-good s (whole .n) (whole .m) (whole .first) (whole .sections) (whole .codes) (whole .amounts)
 
-  pub read-passed : InRange (readOf s code .analysis .amounts)
+  pub read-passed : InRange (readOf s .analysis .amounts)
   read-passed =
       ap (λ (x : Sheet). analysisRefusal (x .analysis .amounts)) content ∙ amounts-back (whole .n) s (whole .amounts) .1
 
-  pub read-long : length (readOf s code .analysis .amounts) ≡ CODES
+  pub read-long : length (readOf s .analysis .amounts) ≡ CODES
   read-long = ap (λ (x : Sheet). length (x .analysis .amounts)) content ∙ amounts-long (whole .n) s 1 _

@@ -1,7 +1,7 @@
 -- `rating::rate_by_search` meets its contract. Assumes nothing.
 use Rattle.analysis.specs.Register.{CODES}
-use Rattle.rating.proofs.CallCases.{in-range, turned-away, search-away-is, count-few, count-enough}
-use Rattle.rating.proofs.CallCases.{given-proposal, given-room, found-fit, search-in, search-not-five}
+use Rattle.rating.proofs.CallCases.{in-range, turned-away, search-away, count-few, count-enough}
+use Rattle.rating.proofs.CallCases.{given-proposal, given-room, found-fit, search-in}
 use mathlib.Core.Path.{_≡_}
 use native.Mathlib.Omega.{arith}
 use lib.ListN.{length}
@@ -40,7 +40,7 @@ returns c =
     let l = long b in
     let s = b .simplify .ensures in
     let p = in-range _ _ (s .0) (t .enum-told .given .1) in
-    search-away-is _ _ _ _ _
+    search-away _ _ _ _ _
     (count-few a l p _ _ (s .1 .0) (n .present-count .ensures) (omega (arith, c .before .if1 .taken)))
     (c .refused2 .ensures)
 
@@ -74,7 +74,7 @@ returns-2 : tie.Need-returns-2
 returns-2 c =
     let k = c .before .before in
     let s = k .before .before .before .before .simplify .ensures in
-    search-away-is _ _ _ _ _ (turned-away _ _ (s .0) _ _ (k .answer .given .1)) (c .refused .ensures)
+    search-away _ _ _ _ _ (turned-away _ _ (s .0) _ _ (k .answer .given .1)) (c .refused .ensures)
 
 returns-3 : tie.Need-returns-3
 returns-3 c =
@@ -88,9 +88,8 @@ returns-3 c =
     let s = b .simplify .ensures in
     let p = in-range _ _ (s .0) (t .enum-told .given .1) in
     let on = count-enough a l p _ _ (s .1 .0) (n .present-count .ensures) (omega (arith, h .before .if1 .left)) in
-    let e = search-in a l p on _ _ _ (s .1 .0) (h .choose .ensures) (s .1 .1)
-    (b .before .args .allowance) _ (f .before .at-most .ensures) _ (f .find .ensures) _ (c .found-outcome .ensures) in
-    (e, λ z. absurd (search-not-five a l p _ _ _ e z))
+    search-in a l p on _ _ _ (s .1 .0) (h .choose .ensures) (s .1 .1)
+    (b .before .args .allowance) _ (f .before .at-most .ensures) _ (f .find .ensures) _ (c .found-outcome .ensures)
 
 pub rate-by-search-spec : {M : Type 1} → statement M
 rate-by-search-spec =

@@ -1,5 +1,4 @@
 -- `rating::rate_read` meets its contract. Assumes nothing.
-use Rattle.rating.proofs.CallCases.{split-any, search-any}
 use mathlib.Core.Path.{sym, ap₂, _∙_}
 use Rattle.sheet.specs.declared.Split.{Split}
 use Rattle.split.specs.declared.Answer.{Answer}
@@ -14,8 +13,7 @@ rate-by-search-requires c κs = search needs
 
 returns : tie.Need-returns
 returns c =
-    c .rate-by-search .ensures .0 ∙ search-any _ _ _ 0 (c .before .before .pre)
-    ∙ sym (simp (eq-eqb _ _ (c .before .if1 .taken)))
+    c .rate-by-search .ensures ∙ sym (simp (eq-eqb _ _ (c .before .if1 .taken)))
 
 rate-split-requires : tie.Need-rate-split-requires
 rate-split-requires c κs = search needs
@@ -24,9 +22,8 @@ no-split-requires : tie.Need-no-split-requires
 no-split-requires c κs = search needs
 
 returns-2 : tie.Need-returns-2
-returns-2 c = let s = c .before .before .before in
-    let e = c .before .rate-split .ensures .0 ∙ split-any _ _ _ 0 (s .pre) in
-    ap₂ (λ (x : Answer) (y : Split). outcome x y) e (c .no-split .ensures)
+returns-2 c =
+    ap₂ (λ (x : Answer) (y : Split). outcome x y) (c .before .rate-split .ensures) (c .no-split .ensures)
     ∙ sym (simp (ne-eqb _ _ (c .before .before .if1 .left)))
 
 pub rate-read-spec : {M : Type 1} → statement M

@@ -1,5 +1,5 @@
 -- `rating::rate_sheet` meets its contract. Assumes nothing.
-use Rattle.rating.proofs.SheetCases.{passed, sheet-refused-is, sheet-read, sheet-not-five}
+use Rattle.rating.proofs.SheetCases.{sheet-refused, sheet-read}
 use borrow.Author.Needs.{needs}
 use Rattle.rating.proofs.rate_sheet.Statement.{statement}
 use Rattle.rating.proofs.rate_sheet.Tie as tie
@@ -20,21 +20,19 @@ enum-told : tie.Need-enum-told
 enum-told c = search needs
 
 rate-read-requires : tie.Need-rate-read-requires
-rate-read-requires c κs = passed _ _ (c .before .before .before .before .read .ensures) (c .enum-told .given .1)
+rate-read-requires c κs = search needs
 
 returns : tie.Need-returns
 returns c =
     let k = c .before .before .before in
-    sheet-refused-is _ _ (k .before .before .before .before .read .ensures) _ _ _ (k .answer .given .1) _ _
+    sheet-refused _ _ (k .before .before .before .before .read .ensures) _ _ _ (k .answer .given .1) _ _
     (c .before .carried .ensures) (c .refused .ensures)
 
 returns-2 : tie.Need-returns-2
 returns-2 c =
     let t = c .before in
     let h = t .before .before .before .before .read .ensures in
-    let e = t .enum-told .given .1 in
-    let r = c .rate-read .ensures in
-    (sheet-read _ _ h e _ r, λ z. absurd (sheet-not-five _ _ h e _ r z))
+    sheet-read _ _ h (t .enum-told .given .1) _ (c .rate-read .ensures)
 
 pub rate-sheet-spec : {M : Type 1} → statement M
 rate-sheet-spec =

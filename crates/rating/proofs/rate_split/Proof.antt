@@ -1,7 +1,7 @@
 -- `rating::rate_split` meets its contract. Assumes nothing.
 use Rattle.analysis.specs.Register.{CODES}
 use Rattle.rating.proofs.CallCases.{in-range, turned-away, split-away, count-few, count-enough}
-use Rattle.rating.proofs.CallCases.{given-proposal, given-room, split-in, split-not-five}
+use Rattle.rating.proofs.CallCases.{given-proposal, given-room, split-in}
 use mathlib.Core.Path.{_≡_}
 use native.Mathlib.Omega.{arith}
 use lib.ListN.{length}
@@ -34,7 +34,7 @@ returns c =
     let s = b .simplify .ensures in
     let p = in-range _ _ (s .0) (t .enum-told .given .1) in
     let w = count-few a l p _ _ (s .1 .0) (c .before .present-count .ensures) (omega (arith, c .if1 .taken)) in
-    (split-away _ _ _ _ w, w .fault)
+    split-away _ _ _ _ w
 
 choose-requires : tie.Need-choose-requires
 choose-requires c κs = search needs
@@ -58,7 +58,7 @@ returns-2 c =
     let k = c .before in
     let s = k .before .before .before .before .simplify .ensures in
     let w = turned-away _ _ (s .0) _ _ (k .answer .given .1) in
-    (split-away _ _ _ _ w, w .fault)
+    split-away _ _ _ _ w
 
 returns-3 : tie.Need-returns-3
 returns-3 c =
@@ -71,8 +71,7 @@ returns-3 c =
     let s = b .simplify .ensures in
     let p = in-range _ _ (s .0) (t .enum-told .given .1) in
     let on = count-enough a l p _ _ (s .1 .0) (n .present-count .ensures) (omega (arith, h .before .if1 .left)) in
-    let e = split-in a l p on _ _ _ (s .1 .0) (h .choose .ensures) (s .1 .1) _ _ (c .split-by .ensures) in
-    (e, λ z. absurd (split-not-five a l p _ _ _ e z))
+    split-in a l p on _ _ _ (s .1 .0) (h .choose .ensures) (s .1 .1) _ _ (c .split-by .ensures)
 
 pub rate-split-spec : {M : Type 1} → statement M
 rate-split-spec =

@@ -1,17 +1,23 @@
--- `reader::amounts_refused` meets its contract. The loop's invariant: one of the records from place i on is at 0
--- where one of all is. Assumes nothing.
+-- `reader::amounts_refused` meets its contract. The loop's invariant: the first of the records from place i on that is
+-- at 0 is the first of all. Assumes nothing.
+use mathlib.Core.Path.{ap}
 use Prim.Native.Nat.{_-_}
 use native.Mathlib.Omega.{arith}
+use Rattle.analysis.specs.declared.Checked.the-variants.{Refused}
 use Rattle.reader.proofs.Turns.{Looked, looked-none, looked-next, looked-zero, looked-all}
 use Rattle.reader.proofs.Answers.{zero-found, checked-found}
+use borrow.Author.Needs.{needs}
 use Rattle.reader.proofs.amounts_refused.Statement.{statement}
 use Rattle.reader.proofs.amounts_refused.Tie as tie
 
 abbrev Inv-loop : tie.InvT-loop
-Inv-loop s n a i₀ at₀ i at = Looked s n i at
+Inv-loop s n checked i₀ at₀ i at = Looked s n i at
 
 abbrev μ-loop : tie.MeasureT-loop
-μ-loop s n a i₀ at₀ i at = n - i
+μ-loop s n checked i₀ at₀ i at = n - i
+
+check-requires : tie.Need-check-requires Inv-loop μ-loop
+check-requires c κs = search needs
 
 loop-holds : tie.Need-loop-holds Inv-loop μ-loop
 loop-holds c = looked-none _ _
@@ -22,18 +28,22 @@ add-amount-at c = omega arith
 amount-at-requires : tie.Need-amount-at-requires Inv-loop μ-loop
 amount-at-requires c κs = omega arith
 
-shared-slice-read-t10 : tie.Need-shared-slice-read-t10 Inv-loop μ-loop
-shared-slice-read-t10 c = omega arith
+shared-slice-read-lower : tie.Need-shared-slice-read-lower Inv-loop μ-loop
+shared-slice-read-lower c = omega arith
 
-cast-t11 : tie.Need-cast-t11 Inv-loop μ-loop
-cast-t11 c = omega (arith, c .shared-slice-known2 .given (c .before .before .before .before .loop .at))
+cast-lower : tie.Need-cast-lower Inv-loop μ-loop
+cast-lower c = omega (arith, c .shared-slice-known2 .given (c .before .before .before .before .loop .at))
+
+lower-requires : tie.Need-lower-requires Inv-loop μ-loop
+lower-requires c κs = search needs
 
 returns : tie.Need-returns Inv-loop μ-loop
 returns c =
-    let b = c .before .before .before in
-    let l = b .before .loop .inv in
-    zero-found _ _ _ _ (l .there) (looked-zero _ _ _ _ l (b .loop-test .taken) _
-    (c .before .before .amount-at .ensures) (c .before .if1 .taken)) (b .loop-test .taken)
+    let b = c .before .before .before .before in
+    let k = b .before .before .before .before in
+    zero-found _ _ (k .pre .1) _ (k .pre .0 .1) _ (b .before .before .check .ensures .0) _
+    (looked-zero _ _ _ _ (b .before .loop .inv) (b .loop-test .taken) _ (c .before .before .before .amount-at .ensures)
+    (c .before .before .if1 .taken)) _ (ap (Refused 5) (c .lower .ensures))
 
 add-i : tie.Need-add-i Inv-loop μ-loop
 add-i c = omega arith
@@ -49,14 +59,12 @@ loop-again c =
     let b = c .before .before in
     looked-next _ _ _ _ (b .before .loop .inv) (b .loop-test .taken) _ (c .before .amount-at .ensures) (c .if1 .left)
 
-check-requires : tie.Need-check-requires Inv-loop μ-loop
-check-requires c κs = omega arith
-
 returns-2 : tie.Need-returns-2 Inv-loop μ-loop
 returns-2 c =
     let b = c .before in
-    checked-found _ _ _ (looked-all _ _ _ _ (b .before .loop .inv) (b .loop-test .left)) (b .loop-test .left) _
-    (b .before .before .before .pre .1) _ (c .check .ensures)
+    let k = b .before .before .before in
+    checked-found _ _ (k .pre .1) _ (k .pre .0 .1) _ (b .before .check .ensures .0)
+    (looked-all _ _ _ _ (b .loop .inv) (c .loop-test .left))
 
 pub amounts-refused-spec : {M : Type 1} → statement M
 amounts-refused-spec =
@@ -64,15 +72,16 @@ amounts-refused-spec =
     (tie.spec
     Inv-loop
     μ-loop
+    check-requires
     loop-holds
     add-amount-at
     amount-at-requires
-    shared-slice-read-t10
-    cast-t11
+    shared-slice-read-lower
+    cast-lower
+    lower-requires
     returns
     add-i
     add-at
     loop-less
     loop-again
-    check-requires
     returns-2)

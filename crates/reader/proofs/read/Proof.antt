@@ -62,7 +62,8 @@ amounts-requires c κs =
 amounts-refused-requires : tie.Need-amounts-refused-requires
 amounts-refused-requires c κs =
     let g = sectioned _ (both (c .before .before .before .before)) in
-    (omega (arith, g .size), c .amounts .ensures)
+    let k = c .before .before .before in
+    ((omega (arith, g .size), c .amounts .ensures), sym (k .codes .ensures) ∙ c .before .enum-told2 .given .1)
 
 enum-known-checked : tie.Need-enum-known-checked
 enum-known-checked c = search needs
@@ -83,8 +84,8 @@ returns-3 c =
     let a = c .before .before .before .before in
     let l = a .before .before in
     let k = l .before .before in
-    answer-amounts _ _ _ _ _ (both (k .before)) (sym (k .codes .ensures) ∙ l .enum-told2 .given .1) _ _ _
-    (a .amounts-refused .ensures) (c .before .before .checked .given .1) (c .refused-with2 .ensures)
+    answer-amounts _ _ _ _ _ (both (k .before)) (sym (k .codes .ensures) ∙ l .enum-told2 .given .1) _
+    (a .amounts-refused .ensures) _ _ (c .before .before .checked .given .1) (c .refused-with2 .ensures)
 
 returns-4 : tie.Need-returns-4
 returns-4 c =

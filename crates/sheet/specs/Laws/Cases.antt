@@ -1,18 +1,19 @@
 -- The cases of the definitions, by the tests that lead to each, and back. Assumes nothing.
 use mathlib.Core.Path.{_≡_, refl, ap, sym, _∙_, subst}
 use mathlib.Core.List.{List, [], _∷_, _++_}
-use mathlib.Core.Bool.{Bool, true, false, _||_, cond}
+use mathlib.Core.Bool.{Bool, true, false, cond}
 use Prim.Native.Nat.{ℕ, zero, suc, _+_, _-_, _*_, _≤_, _<_}
 use native.Mathlib.Omega.{arith}
-use lib.ListN.{length, getD, drop, length-append}
-use lib.Dec.{eqb, ltb, leb}
-use borrow.Author.Tests.{eq-eqb, ne-eqb, le-leb, lt-leb, le-ltb, leb-true, leb-false, ltb-true, ltb-false, eqb-true}
+use lib.ListN.{length, getD, drop, length-append, length-set}
+use lib.Dec.{eqb, leb}
+use borrow.Author.Tests.{eq-eqb, ne-eqb, le-leb, lt-leb, le-ltb, leb-true, leb-false, ltb-false, eqb-true}
 use borrow.Author.Tests.{eqb-false}
 use Rattle.refusal.specs.Keys.{isIn}
 use Rattle.refusal.specs.Register.{TORN, OUT_OF_RANGE, SHORT_BLANK, carried}
 use Rattle.refusal.specs.Laws.Keys.{each-passes}
-use Rattle.analysis.specs.Register.{CODES, Entry, unknown, register, keysOf, statusIn, statusOf}
-use Rattle.analysis.specs.Check.{analysisRefusal}
+use Rattle.analysis.specs.Register.{CODES, statusOf}
+use Rattle.analysis.specs.Check.{analysisRefusal, lowestFault}
+use Rattle.analysis.specs.Laws.Lowest.{unknown-above}
 use Rattle.section.specs.declared.Section.{Section}
 use Rattle.section.specs.declared.Section.the-variants as found
 use Rattle.section.specs.Section.{endAt, sectionAt}
@@ -25,13 +26,14 @@ use Rattle.sheet.specs.declared.Sections.the-variants.{Torn, Both}
 use Rattle.sheet.specs.declared.Split.{Split}
 use Rattle.sheet.specs.declared.Written.the-variants as w
 use Rattle.sheet.specs.Components.{COMPONENT_BYTES, refusalBy, codeRefusal, codesReading, listedCount}
-use Rattle.sheet.specs.Components.{componentBytes, zeroListed}
-use Rattle.sheet.specs.Bytes.{bytesOf}
+use Rattle.sheet.specs.Components.{componentBytes, zeroListed, amountsFrom}
+use Rattle.sheet.specs.Bytes.{bytesOf, fourBytesAt}
 use Rattle.sheet.specs.Split.{RECORDS, LONGEST_SPLIT, RECORD_BYTES, splitCounts, allowedCount, recordBytes}
 use Rattle.sheet.specs.Split.{splitBytes}
 use Rattle.sheet.specs.Sheet.{LISTED, sheetOf, withSplit, withComponents, sectionsOf}
-use Rattle.sheet.specs.Read.{readAmounts, amountsRefusal, refusedSheet, contentOf, withAnswer, afterCodes}
-use Rattle.sheet.specs.Read.{readBy, readOf}
+use Rattle.sheet.specs.Read.{readAmounts, amountsRefusal, lowestIn, refusedSheet, contentOf, withAnswer}
+use Rattle.sheet.specs.Read.{afterCodes, readBy, readOf}
+use Rattle.sheet.specs.WrittenCases.{numberOf}
 use Rattle.sheet.specs.Write.{writeRefusal, writtenOf, leftOf}
 
 pub never : _≡_ {A = ℕ} 0 1 → ⊥
@@ -156,22 +158,22 @@ module _ (s : List ℕ) where
 
 -- ---- reading
 
-module _ (s : List ℕ) (code : ℕ) where
-  pub read-torn : sectionsOf s ≡ Torn → readOf s code ≡ refusedSheet (Refused 1 0 0)
+module _ (s : List ℕ) where
+  pub read-torn : sectionsOf s ≡ Torn → readOf s ≡ refusedSheet (Refused 1 0 0)
   unfolding readOf readBy
   read-torn h = rw h
 
   module _ (n m first : ℕ) (h : sectionsOf s ≡ Both n m first) where
-    pub read-codes : {k i c : ℕ} → codesReading n s 1 0 0 ≡ Refused k i c → readOf s code ≡ refusedSheet (Refused k i c)
+    pub read-codes : {k i c : ℕ} → codesReading n s 1 0 0 ≡ Refused k i c → readOf s ≡ refusedSheet (Refused k i c)
     unfolding readOf readBy
     read-codes e = rw (h, e)
 
     pub read-amounts : codesReading n s 1 0 0 ≡ Read → (amountsRefusal n s ≡ 0 → ⊥)
-        → readOf s code ≡ refusedSheet (Refused (amountsRefusal n s) 0 (carried (amountsRefusal n s) code 0))
+        → readOf s ≡ refusedSheet (Refused (amountsRefusal n s) 0 (carried (amountsRefusal n s) (lowestIn n s) 0))
     unfolding readOf readBy
     read-amounts e z = rw (h, e, ne-eqb _ _ z)
 
-    pub read-good : codesReading n s 1 0 0 ≡ Read → amountsRefusal n s ≡ 0 → readOf s code ≡ contentOf n m first s
+    pub read-good : codesReading n s 1 0 0 ≡ Read → amountsRefusal n s ≡ 0 → readOf s ≡ contentOf n m first s
     unfolding readOf readBy
     read-good e z = rw (h, e, eq-eqb _ _ z)
 
@@ -184,24 +186,24 @@ pub record Whole (s : List ℕ) : Type 0 where
   pub codes : codesReading n s 1 0 0 ≡ Read
   pub amounts : amountsRefusal n s ≡ 0
 
-pub read-whole : (s : List ℕ) (code : ℕ) → readOf s code .answer ≡ Read → Whole s
+pub read-whole : (s : List ℕ) → readOf s .answer ≡ Read → Whole s
 unfolding readOf readBy
-read-whole s code h = go (sectionsOf s) refl h
+read-whole s h = go (sectionsOf s) refl h
   where
     amounts-back : (n m first : ℕ) → sectionsOf s ≡ Both n m first → codesReading n s 1 0 0 ≡ Read → (t : Bool)
         → eqb (amountsRefusal n s) 0 ≡ t
-        → withAnswer (cond t Read (Refused (amountsRefusal n s) 0 (carried (amountsRefusal n s) code 0)))
+        → withAnswer (cond t Read (Refused (amountsRefusal n s) 0 (carried (amountsRefusal n s) (lowestIn n s) 0)))
         (contentOf n m first s) .answer ≡ Read → Whole s
     amounts-back n m first e d true f h =
         record { n = n; m = m; first = first; sections = e; codes = d; amounts = eqb-true _ _ f }
     amounts-back n m first e d false f h = let z : _≡_ {A = ℕ} 0 1 = cc in absurd (never z)
 
     codes-back : (n m first : ℕ) → sectionsOf s ≡ Both n m first → (x : Reading) → codesReading n s 1 0 0 ≡ x
-        → withAnswer (afterCodes x n s code) (contentOf n m first s) .answer ≡ Read → Whole s
+        → withAnswer (afterCodes x n s) (contentOf n m first s) .answer ≡ Read → Whole s
     codes-back n m first e Read d h = amounts-back n m first e d (eqb (amountsRefusal n s) 0) refl h
     codes-back n m first e (Refused k i c) d h = let z : _≡_ {A = ℕ} 0 1 = cc in absurd (never z)
 
-    go : (x : Sections) → sectionsOf s ≡ x → readBy x s code .answer ≡ Read → Whole s
+    go : (x : Sections) → sectionsOf s ≡ x → readBy x s .answer ≡ Read → Whole s
     go Torn e h = let z : _≡_ {A = ℕ} 0 1 = cc in absurd (never z)
     go (Both n m first) e h = codes-back n m first e (codesReading n s 1 0 0) refl h
 
@@ -226,26 +228,9 @@ module _ (n : ℕ) (s : List ℕ) where
 
 -- ---- codes
 
--- a code that is no key of a register is unknown
-unlisted : (es : List Entry) (c : ℕ) → isIn c (keysOf es) ≡ false → statusIn es c ≡ unknown
-unfolding isIn
-unlisted [] c h = refl
-unlisted (e ∷ es) c h = go (eqb c (e .code)) h (λ t. unlisted es c t)
-  where
-    go : (b : Bool) → (b || isIn c (keysOf es)) ≡ false
-        → (isIn c (keysOf es) ≡ false → statusIn es c ≡ unknown)
-        → cond b (e .status) (statusIn es c) ≡ unknown
-    go true h rest = let y : _≡_ {A = ℕ} 0 1 = cc in absurd (omega arith)
-    go false h rest = rest h
-
--- and one beyond an analysis is refused 2: every key stands below CODES
+-- one beyond an analysis is refused 2
 pub status-above : (c : ℕ) → CODES ≤ c → refusalBy (statusOf c) ≡ 2
-unfolding statusOf
-status-above c h = ap refusalBy (unlisted register c (go (isIn c (keysOf register)) refl))
-  where
-    go : (b : Bool) → isIn c (keysOf register) ≡ b → b ≡ false
-    go true e = absurd (omega (arith, ltb-true c CODES (each-passes (λ k. ltb k CODES) c (keysOf register) refl e)))
-    go false e = refl
+status-above c h = ap refusalBy (unknown-above c h)
 
 -- the cases of a code's refusal
 module _ (c p : ℕ) where
@@ -273,6 +258,11 @@ module _ (c p : ℕ) where
       go false u e d h = absurd (eqb-false _ _ e h)
 
 -- ---- lengths
+
+pub amounts-long : (n : ℕ) (s : List ℕ) (at : ℕ) (a : List ℕ) → length (amountsFrom n s at a) ≡ length a
+amounts-long zero s at a = refl
+amounts-long (suc n) s at a =
+    amounts-long n s (at + COMPONENT_BYTES) _ ∙ length-set a (getD s at 0) (fourBytesAt s (at + 1))
 
 pub length-records : (m i : ℕ) (xs ys zs : List ℕ) → length (recordBytes m i xs ys zs) ≡ RECORD_BYTES * m
 length-records zero i xs ys zs = refl
@@ -331,24 +321,35 @@ module _ (a : List ℕ) (p : Split) where
         go true false v e f g h = absurd (eqb-false _ _ f h)
         go false u v e f g h = absurd (omega arith)
 
-  module _ (size code : ℕ) where
-    pub written-length : writeRefusal a p size ≡ 0 → writtenOf a p size code ≡ w.Length (length (sheetOf a p))
+  module _ (size : ℕ) where
+    pub written-length : writeRefusal a p size ≡ 0 → writtenOf a p size ≡ w.Length (length (sheetOf a p))
     unfolding writtenOf
     written-length e = rw e
 
     pub written-refused : (n : ℕ) → writeRefusal a p size ≡ n → (n ≡ 0 → ⊥)
-        → writtenOf a p size code ≡ w.Refused n (carried n code 0)
+        → writtenOf a p size ≡ w.Refused n (carried n (lowestFault 0 a) 0)
     unfolding writtenOf
     written-refused n e z = rw (e, ne-eqb _ _ z)
 
-    pub written-back : {n : ℕ} → writtenOf a p size code ≡ w.Length n → (writeRefusal a p size ≡ 0)
+    pub written-number : numberOf (writtenOf a p size) ≡ writeRefusal a p size
+    unfolding writtenOf
+    written-number = go (eqb (writeRefusal a p size) 0) refl
+      where
+        go : (t : Bool) → eqb (writeRefusal a p size) 0 ≡ t
+            → numberOf (cond t (w.Length (length (sheetOf a p)))
+            (w.Refused (writeRefusal a p size) (carried (writeRefusal a p size) (lowestFault 0 a) 0)))
+            ≡ writeRefusal a p size
+        go true e = sym (eqb-true _ _ e)
+        go false e = refl
+
+    pub written-back : {n : ℕ} → writtenOf a p size ≡ w.Length n → (writeRefusal a p size ≡ 0)
         × (n ≡ length (sheetOf a p))
     unfolding writtenOf
     written-back {n} h = go (eqb (writeRefusal a p size) 0) refl h
       where
         go : (t : Bool) → eqb (writeRefusal a p size) 0 ≡ t
             → cond t (w.Length (length (sheetOf a p)))
-            (w.Refused (writeRefusal a p size) (carried (writeRefusal a p size) code 0)) ≡ w.Length n
+            (w.Refused (writeRefusal a p size) (carried (writeRefusal a p size) (lowestFault 0 a) 0)) ≡ w.Length n
             → (writeRefusal a p size ≡ 0) × (n ≡ length (sheetOf a p))
         go true e h = (eqb-true _ _ e, cc)
         go false e h = let z : _≡_ {A = ℕ} 0 1 = cc in absurd (never z)

@@ -7,10 +7,10 @@ use Rattle.sheet_cases.proofs.count.Statement.{statement}
 use Rattle.sheet_cases.proofs.count.Tie as tie
 
 abbrev Inv-loop : tie.InvT-loop
-Inv-loop analysis split sheet faults so n₀ size₀ n size = (size ≤ 190) × (n ≤ size)
+Inv-loop analysis split sheet lowest so n₀ size₀ n size = (size ≤ 190) × (n ≤ size)
 
 abbrev μ-loop : tie.MeasureT-loop
-μ-loop analysis split sheet faults so n₀ size₀ n size = 190 - size
+μ-loop analysis split sheet lowest so n₀ size₀ n size = 190 - size
 
 loop-holds : tie.Need-loop-holds Inv-loop μ-loop
 loop-holds c = search needs

@@ -5,10 +5,10 @@ use Rattle.sheet_cases.proofs.put_writings.Statement.{statement}
 use Rattle.sheet_cases.proofs.put_writings.Tie as tie
 
 abbrev Inv-loop : tie.InvT-loop
-Inv-loop analysis split sheet faults so₀ so = so ≤ 6
+Inv-loop analysis split sheet lowest so₀ so = so ≤ 6
 
 abbrev μ-loop : tie.MeasureT-loop
-μ-loop analysis split sheet faults so₀ so = 6 - so
+μ-loop analysis split sheet lowest so₀ so = 6 - so
 
 slice-aggregate-put : tie.Need-slice-aggregate-put Inv-loop μ-loop
 slice-aggregate-put c = search needs

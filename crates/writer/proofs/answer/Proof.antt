@@ -28,7 +28,7 @@ enum-known-checked c = search needs
 returns-2 : tie.Need-returns-2
 returns-2 c =
     let k = c .before .before .before in
-    answer-check _ _ _ (allowed (k .before)) _ _ _ (k .check .ensures) (c .before .checked .given .1)
+    answer-check _ _ _ (allowed (k .before)) _ (k .check .ensures .0) _ _ (c .before .checked .given .1)
 
 enum-told : tie.Need-enum-told
 enum-told c = search needs
@@ -40,7 +40,7 @@ returns-3 : tie.Need-returns-3
 returns-3 c =
     let t = c .before .before in
     let k = t .before .before in
-    answer-room _ _ _ (allowed (k .before)) _ (k .check .ensures) (t .enum-told .given .1) _ _ refl refl _
+    answer-room _ _ _ (allowed (k .before)) _ (k .check .ensures .0) (t .enum-told .given .1) _ _ refl refl _
     (c .length-in .ensures)
 
 pub answer-spec : {M : Type 1} → statement M
