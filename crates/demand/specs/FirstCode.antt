@@ -36,10 +36,10 @@ use Rattle.sheet.specs.declared.Written.the-variants as writing
 use Rattle.split.specs.AnswerCases.{numberOf, placeOf}
 use Rattle.split.specs.declared.Answer.{Answer}
 use Rattle.split.specs.declared.Answer.the-variants.{Rated, Refused}
-use Rattle.outcome.specs.Rate.{ROUNDS, ratingRefusal, splitAnswer, searchOutcome, sheetOutcomeBy, sheetOutcome}
+use Rattle.outcome.specs.Rate.{ROUNDS, ratingRefusal, splitAnswer, searchOutcome, sheetOutcome}
 use Rattle.outcome.specs.RatedOn.{InRange}
 use Rattle.outcome.specs.Laws.RatedOn.{range-first}
-use Rattle.outcome.specs.Laws.Ends.{RatedOrFew, split-in-range, search-in-range, read-passed}
+use Rattle.outcome.specs.Laws.Ends.{RatedOrFew, split-in-range, search-in-range, read-passed, sheet-by-answer}
 use Rattle.outcome.specs.declared.Outcome.{Outcome}
 use Rattle.demand.specs.Laws.Sheets.{read-searched, read-own}
 
@@ -135,11 +135,6 @@ module _ (s : List ℕ) (code : ℕ) where
           rw (read-own s h (eqb-false _ _ e))
           (split-in-range (readOf s .analysis .amounts) (read-passed s h) (readOf s .split))
 
-  by-answer : (x : Reading) → readOf s .answer ≡ x
-      → sheetOutcome s ≡ sheetOutcomeBy x (readOf s .analysis .amounts) (readOf s .split)
-  unfolding sheetOutcome
-  by-answer x e = ap (λ (y : Reading). sheetOutcomeBy y (readOf s .analysis .amounts) (readOf s .split)) e
-
   pub sheet-out-of-range : (sheetOutcome s .answer ≡ Refused 5 code) ↔ OutOfRange s code
   sheet-out-of-range = (λ e. there (readOf s .answer) refl e, here)
     where
@@ -147,7 +142,7 @@ module _ (s : List ℕ) (code : ℕ) where
       there reading.Read h e = absurd (not-five (sheetOutcome s .answer) (read-ends h) (ap numberOf e))
       there (reading.Refused number place c) h e =
           let same : Refused number (carried number c place) ≡ Refused 5 code =
-          sym (ap (λ (y : Outcome). y .answer) (by-answer (reading.Refused number place c) h)) ∙ e in
+          sym (ap (λ (y : Outcome). y .answer) (sheet-by-answer s (reading.Refused number place c) h)) ∙ e in
           let n : number ≡ 5 = ap numberOf same in
           let d : c ≡ code = rw n at (ap placeOf same) in
           let l = sheets.five-lowest s (ap read.numberOf h ∙ n) .1 in
@@ -156,4 +151,4 @@ module _ (s : List ℕ) (code : ℕ) where
       here : OutOfRange s code → sheetOutcome s .answer ≡ Refused 5 code
       here x =
           let h = sheets.out-of-range-exactly-when s code .1 x in
-          ap (λ (y : Outcome). y .answer) (by-answer (reading.Refused 5 0 code) h)
+          ap (λ (y : Outcome). y .answer) (sheet-by-answer s (reading.Refused 5 0 code) h)

@@ -10,15 +10,15 @@ use Rattle.sheet.specs.declared.Reading.the-variants as reading
 use Rattle.sheet.specs.declared.Sheet.{Sheet}
 use Rattle.split.specs.declared.Answer.the-variants.{Refused}
 use Rattle.outcome.specs.Rate.{outcome, sheetOutcomeBy, sheetOutcome}
+use Rattle.outcome.specs.Laws.Ends.{sheet-by-answer}
 use Rattle.outcome.specs.declared.Outcome.{Outcome}
 
 module _ (s : List ℕ) (r : Sheet) (h : r ≡ readOf s) where
   -- its answer, by that of the reader
   by-answer : (x : Reading) → r .answer ≡ x → sheetOutcome s ≡ sheetOutcomeBy x (r .analysis .amounts) (r .split)
-  unfolding sheetOutcome
   by-answer x e =
-      ap (λ (y : Sheet). sheetOutcomeBy (y .answer) (y .analysis .amounts) (y .split)) (sym h)
-      ∙ ap (λ (y : Reading). sheetOutcomeBy y (r .analysis .amounts) (r .split)) e
+      sheet-by-answer s x (ap (λ (y : Sheet). y .answer) (sym h) ∙ e)
+      ∙ ap (λ (y : Sheet). sheetOutcomeBy x (y .analysis .amounts) (y .split)) (sym h)
 
   pub sheet-refused : (number place code : ℕ) → r .answer ≡ reading.Refused number place code
       → (at : ℕ) (o : Outcome) → at ≡ read.placeOf (reading.Refused number place code)

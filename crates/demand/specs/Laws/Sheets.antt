@@ -23,7 +23,7 @@ use Rattle.split.specs.declared.Answer.the-variants.{Rated, Refused}
 use Rattle.outcome.specs.Rate.{ROUNDS, ratingRefusal, splitAnswer, searchOutcome, outcome, sheetOutcomeBy, sheetOutcome}
 use Rattle.outcome.specs.RatedOn.{InRange, RatedOn}
 use Rattle.outcome.specs.Laws.Ends.{RatedOr, RatedOrFew, search-ends, search-few, split-few, search-in-range}
-use Rattle.outcome.specs.Laws.Ends.{split-in-range, read-passed, read-long}
+use Rattle.outcome.specs.Laws.Ends.{split-in-range, read-passed, read-long, sheet-by-answer}
 use Rattle.outcome.specs.declared.Outcome.{Outcome}
 use Rattle.demand.specs.RatedSheets.{analysisIn, splitRated}
 use Rattle.demand.specs.Laws.Answers.{rated-zero, found-back}
@@ -37,10 +37,8 @@ ratedBy a p none = cond none (searchOutcome a ROUNDS) (outcome (splitAnswer a p)
 module _ (s : List ℕ) (h : readOf s .answer ≡ reading.Read) where
   by-count : (none : Bool) → eqb (readOf s .split .count) 0 ≡ none
       → sheetOutcome s ≡ ratedBy (readOf s .analysis .amounts) (readOf s .split) none
-  unfolding sheetOutcome
   by-count none e =
-      ap (λ (x : Reading). sheetOutcomeBy x (readOf s .analysis .amounts) (readOf s .split)) h
-      ∙ ap (ratedBy (readOf s .analysis .amounts) (readOf s .split)) e
+      sheet-by-answer s reading.Read h ∙ ap (ratedBy (readOf s .analysis .amounts) (readOf s .split)) e
 
   -- without a split as the search of its analysis, and with one as that split
   pub read-searched : readOf s .split .count ≡ 0

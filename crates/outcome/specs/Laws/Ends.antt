@@ -15,6 +15,7 @@ use Rattle.sheet.specs.Split.{noSplit}
 use Rattle.sheet.specs.Read.{readOf, contentOf}
 use Rattle.sheet.specs.Laws.Cases.{Whole, read-whole, read-good, amounts-back, amounts-long}
 use Rattle.sheet.specs.declared.Split.{Split}
+use Rattle.sheet.specs.declared.Reading.{Reading}
 use Rattle.sheet.specs.declared.Reading.the-variants as reading
 use Rattle.sheet.specs.declared.Sheet.{Sheet}
 use Rattle.split.specs.Rating.{verdict, proposedOf, ratingOf, resums, someEmpty, spreadOf, LIMIT}
@@ -33,6 +34,7 @@ use Rattle.split.specs.declared.Found.{Found}
 use Rattle.outcome.specs.Records.{fitsOf}
 use Rattle.outcome.specs.Rate.{ROUNDS, FEWEST, mixOf, systemsFor, countFor, ratingRefusal, splitBy}
 use Rattle.outcome.specs.Rate.{splitAnswer, outcome, foundBy, foundOutcome, searchedBy, searchOutcome}
+use Rattle.outcome.specs.Rate.{sheetOutcomeBy, sheetOutcome}
 use Rattle.outcome.specs.RatedOn.{InRange, RatedOn}
 use Rattle.outcome.specs.Laws.RatedOn.{on-or-few, few-by-count}
 use Rattle.outcome.specs.declared.Outcome.{Outcome}
@@ -177,3 +179,10 @@ module _ (s : List ℕ) (h : readOf s .answer ≡ reading.Read) where
 
   pub read-long : length (readOf s .analysis .amounts) ≡ CODES
   read-long = ap (λ (x : Sheet). length (x .analysis .amounts)) content ∙ amounts-long (whole .n) s 1 _
+
+-- ---- a sheet, by the reader's answer
+
+pub sheet-by-answer : (s : List ℕ) (x : Reading) → readOf s .answer ≡ x
+    → sheetOutcome s ≡ sheetOutcomeBy x (readOf s .analysis .amounts) (readOf s .split)
+unfolding sheetOutcome
+sheet-by-answer s x e = ap (λ (y : Reading). sheetOutcomeBy y (readOf s .analysis .amounts) (readOf s .split)) e
