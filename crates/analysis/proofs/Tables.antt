@@ -3,7 +3,7 @@
 use mathlib.Core.Path.{_≡_, refl, sym, _∙_}
 use mathlib.Core.Bool.{Bool, true, false, not, _&&_, _||_, Bool·beq, cond, or-false}
 use mathlib.Core.List.{List, [], _∷_}
-use Prim.Native.Nat.{ℕ, _<_, _≤_}
+use Prim.Native.Nat.{ℕ, zero, suc, _<_, _≤_}
 use native.Mathlib.Omega.{arith}
 use lib.Dec.{eqb, leb, eqb→eq, leb→le}
 use lib.ListN.{getD, replicate}
@@ -13,11 +13,13 @@ use Rattle.analysis.specs.Register.{CODES, statusOf}
 use Rattle.analysis.specs.Laws.Table.{at}
 use Rattle.analysis.specs.Check.{leastOf, greatestOf, requiredOf, inRange}
 
+-- the table that the register gives: the least and the greatest amount of so many codes from `code` on
+abbrev rangesFrom : ℕ → ℕ → List (List ℕ)
+rangesFrom code zero = []
+rangesFrom code (suc n) = (leastOf code ∷ greatestOf code ∷ []) ∷ rangesFrom (suc code) n
+
 abbrev ranges : List (List ℕ)
-ranges =
-    (1 ∷ 0 ∷ []) ∷ (400000 ∷ 999700 ∷ []) ∷ (100 ∷ 150000 ∷ []) ∷ (100 ∷ 60000 ∷ []) ∷ (10 ∷ 40000 ∷ []) ∷
-    (10 ∷ 40000 ∷ []) ∷ (10 ∷ 500 ∷ []) ∷ (10 ∷ 20000 ∷ []) ∷ (10 ∷ 20000 ∷ []) ∷ (1 ∷ 0 ∷ []) ∷ (10 ∷ 15000 ∷ []) ∷
-    (50 ∷ 100000 ∷ []) ∷ (50 ∷ 150000 ∷ []) ∷ (1 ∷ 0 ∷ []) ∷ (1 ∷ 0 ∷ []) ∷ (10 ∷ 100000 ∷ []) ∷ []
+ranges = rangesFrom 0 CODES
 
 -- a place for each code
 abbrev codes : List ℕ

@@ -7,9 +7,9 @@ use mathlib.Core.List.{List}
 use native.Mathlib.Omega.{arith}
 use lib.ListN.{getD, length}
 use Rattle.integer.specs.Figures.{MILLION}
-use Rattle.analysis.specs.Register.{CODES}
+use Rattle.analysis.specs.Register.{CODES, statusOf}
 use Rattle.analysis.specs.Check.{totalOf, analysisRefusal}
-use Rattle.analysis.specs.Laws.Ranges.{within-ranges}
+use Rattle.analysis.specs.Laws.Ranges.{at-most}
 use Rattle.mixture.specs.Scaling.{quotientOf, remaindersOf, NearShare}
 use Rattle.mixture.specs.Simplification.{COMPONENTS, amountOfCode, tenthsOf, tenthsTotal, simplifiedOf}
 use Rattle.mixture.specs.Inert.{inertFirst, inertSecond, inertOf}
@@ -47,7 +47,7 @@ module _ (a : List ℕ) (p : 0 < tenthsTotal a) where
 
 -- n1 of an analysis in range is not 0
 pub inert-least : (a : List ℕ) → length a ≡ CODES → analysisRefusal a ≡ 0 → 1 ≤ inertFirst a
+unfolding statusOf
 inert-least a l h =
-    let w = within-ranges a l h in
-    let t = tenths-least a l h in
-    share-least (tenthsTotal a) (amountOfCode a 11) (tenths-positive a l h) (omega arith)
+    share-least (tenthsTotal a) (amountOfCode a 11) (tenths-positive a l h)
+    (omega (arith, tenths-least a l h, at-most a l h 11 (omega arith)))

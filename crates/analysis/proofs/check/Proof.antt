@@ -3,7 +3,7 @@
 use mathlib.Core.Path.{_≡_, ap, _∙_}
 use Prim.Native.Nat.{_-_, _<_}
 use lib.ListN.{length}
-use Rattle.analysis.specs.Register.{CODES}
+use Rattle.analysis.specs.Register.{CODES, statusOf}
 use Rattle.analysis.specs.CheckedCases.{numberOf, faultOf}
 use Rattle.analysis.specs.Laws.Answers.{checked-number, checked-fault}
 use Rattle.analysis.proofs.Tables.{range-at}
@@ -40,6 +40,7 @@ array-copy-out-fault-at : tie.Need-array-copy-out-fault-at Inv-loop μ-loop
 array-copy-out-fault-at c = search needs
 
 fault-at-requires : tie.Need-fault-at-requires Inv-loop μ-loop
+unfolding statusOf
 fault-at-requires c κs =
     let h : c .before .before .before .loop .code - 1 < CODES = search needs in
     let r = range-at _ h in

@@ -86,49 +86,11 @@ module _ (a : List ℕ) (h : analysisRefusal a ≡ 0) where
   unfolding analysisRefusal
   passed-ranges = refusal-none (allInRange 0 a) (totalFits (totalOf a)) h .0
 
-  passed-total : (LEAST_SUM ≤ totalOf a) × (totalOf a ≤ GREATEST_SUM)
-  unfolding analysisRefusal totalFits
-  passed-total =
-      let fits = refusal-none (allInRange 0 a) (totalFits (totalOf a)) h .1 in
-      let (low, high) = and-eq-true-iff (leb LEAST_SUM (totalOf a)) (leb (totalOf a) GREATEST_SUM) .0 fits in
-      (leb-true LEAST_SUM (totalOf a) low, leb-true (totalOf a) GREATEST_SUM high)
-
-  pub passed-least : LEAST_SUM ≤ totalOf a
-  passed-least = passed-total .0
-
   pub passed-greatest : totalOf a ≤ GREATEST_SUM
-  passed-greatest = passed-total .1
-
--- the ranges as inequalities, code by code, and the total; what carbon dioxide and nitrogen have at least is not needed
-pub record WithinRanges (a : List ℕ) : Type 0 where
-  pub no-code : getD a 0 0 ≡ 0
-  pub methane-least : 400000 ≤ getD a 1 0
-  pub methane-greatest : getD a 1 0 ≤ 999700
-  pub ethane-least : NoneOr 100 (getD a 2 0)
-  pub ethane-greatest : getD a 2 0 ≤ 150000
-  pub propane-least : NoneOr 100 (getD a 3 0)
-  pub propane-greatest : getD a 3 0 ≤ 60000
-  pub i-butane-least : NoneOr 10 (getD a 4 0)
-  pub i-butane-greatest : getD a 4 0 ≤ 40000
-  pub n-butane-least : NoneOr 10 (getD a 5 0)
-  pub n-butane-greatest : getD a 5 0 ≤ 40000
-  pub neo-pentane-least : NoneOr 10 (getD a 6 0)
-  pub neo-pentane-greatest : getD a 6 0 ≤ 500
-  pub i-pentane-least : NoneOr 10 (getD a 7 0)
-  pub i-pentane-greatest : getD a 7 0 ≤ 20000
-  pub n-pentane-least : NoneOr 10 (getD a 8 0)
-  pub n-pentane-greatest : getD a 8 0 ≤ 20000
-  pub retired-nine : getD a 9 0 ≡ 0
-  pub hexanes-least : NoneOr 10 (getD a 10 0)
-  pub hexanes-greatest : getD a 10 0 ≤ 15000
-  pub carbon-dioxide-greatest : getD a 11 0 ≤ 100000
-  pub nitrogen-greatest : getD a 12 0 ≤ 150000
-  pub retired-thirteen : getD a 13 0 ≡ 0
-  pub splits-fourteen : getD a 14 0 ≡ 0
-  pub hydrogen-least : NoneOr 10 (getD a 15 0)
-  pub hydrogen-greatest : getD a 15 0 ≤ 100000
-  pub total-least : LEAST_SUM ≤ totalOf a
-  pub total-greatest : totalOf a ≤ GREATEST_SUM
+  unfolding analysisRefusal totalFits
+  passed-greatest =
+      let fits = refusal-none (allInRange 0 a) (totalFits (totalOf a)) h .1 in
+      leb-true (totalOf a) GREATEST_SUM (and-eq-true-iff (leb LEAST_SUM (totalOf a)) _ .0 fits .1)
 
 module _ (a : List ℕ) (l : length a ≡ CODES) where
   -- the total is the sum over the codes
@@ -158,47 +120,13 @@ module _ (a : List ℕ) (l : length a ≡ CODES) where
         total-end CODES a (omega arith),
       )
 
+  -- not refused: each amount lies in the range that the register gives its code
   module _ (h : analysisRefusal a ≡ 0) where
-    at-most : (k : ℕ) → k < CODES → getD a k 0 ≤ greatestOf k
+    pub at-most : (k : ℕ) → k < CODES → getD a k 0 ≤ greatestOf k
     at-most k s = range-greatest k (getD a k 0) (all-at a k (passed-ranges a h) (omega arith))
 
-    at-least : (k : ℕ) → k < CODES → requiredOf k ≡ true → leastOf k ≤ getD a k 0
+    pub at-least : (k : ℕ) → k < CODES → requiredOf k ≡ true → leastOf k ≤ getD a k 0
     at-least k s r = range-required k (getD a k 0) (all-at a k (passed-ranges a h) (omega arith)) r
 
-    or-absent : (k : ℕ) → k < CODES → NoneOr (leastOf k) (getD a k 0)
+    pub or-absent : (k : ℕ) → k < CODES → NoneOr (leastOf k) (getD a k 0)
     or-absent k s = range-or-absent k (getD a k 0) (all-at a k (passed-ranges a h) (omega arith))
-
-    -- not refused: every range holds
-    pub within-ranges : WithinRanges a
-    unfolding statusOf
-    within-ranges =
-        record {
-          no-code = let z = at-most 0 (omega arith) in omega arith;
-          methane-least = at-least 1 (omega arith) refl;
-          methane-greatest = at-most 1 (omega arith);
-          ethane-least = or-absent 2 (omega arith);
-          ethane-greatest = at-most 2 (omega arith);
-          propane-least = or-absent 3 (omega arith);
-          propane-greatest = at-most 3 (omega arith);
-          i-butane-least = or-absent 4 (omega arith);
-          i-butane-greatest = at-most 4 (omega arith);
-          n-butane-least = or-absent 5 (omega arith);
-          n-butane-greatest = at-most 5 (omega arith);
-          neo-pentane-least = or-absent 6 (omega arith);
-          neo-pentane-greatest = at-most 6 (omega arith);
-          i-pentane-least = or-absent 7 (omega arith);
-          i-pentane-greatest = at-most 7 (omega arith);
-          n-pentane-least = or-absent 8 (omega arith);
-          n-pentane-greatest = at-most 8 (omega arith);
-          retired-nine = let z = at-most 9 (omega arith) in omega arith;
-          hexanes-least = or-absent 10 (omega arith);
-          hexanes-greatest = at-most 10 (omega arith);
-          carbon-dioxide-greatest = at-most 11 (omega arith);
-          nitrogen-greatest = at-most 12 (omega arith);
-          retired-thirteen = let z = at-most 13 (omega arith) in omega arith;
-          splits-fourteen = let z = at-most 14 (omega arith) in omega arith;
-          hydrogen-least = or-absent 15 (omega arith);
-          hydrogen-greatest = at-most 15 (omega arith);
-          total-least = passed-least a h;
-          total-greatest = passed-greatest a h;
-        }

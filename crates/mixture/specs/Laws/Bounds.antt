@@ -1,16 +1,16 @@
 -- What holds of the simplified mixture and of the inert mixture: of any amounts whose T is not 0, and more of an
 -- analysis in range. Assumes nothing.
 use Prim.Native.Nat.{ℕ, zero, suc, _+_, _*_, _/_, _≤_, _<_}
-use mathlib.Core.Path.{_≡_}
+use mathlib.Core.Path.{_≡_, refl}
 use mathlib.Core.List.{List}
 use mathlib.Core.Logic.{inl, inr}
 use native.Mathlib.Nat.{le-div-iff-mul-le, div-lt-iff-lt-mul}
 use native.Mathlib.Omega.{arith}
 use lib.ListN.{getD, length}
 use Rattle.integer.specs.Figures.{MILLION}
-use Rattle.analysis.specs.Register.{CODES, statusOf}
-use Rattle.analysis.specs.Check.{greatestOf, GREATEST_SUM, analysisRefusal}
-use Rattle.analysis.specs.Laws.Ranges.{NoneOr, WithinRanges, within-ranges, total-sum}
+use Rattle.analysis.specs.Register.{CODES, register, statusIn, statusOf}
+use Rattle.analysis.specs.Check.{leastBy, greatestBy, leastOf, GREATEST_SUM, analysisRefusal}
+use Rattle.analysis.specs.Laws.Ranges.{NoneOr, at-most, at-least, or-absent, total-sum, passed-greatest}
 use Rattle.mixture.specs.Simplification.{COMPONENTS, amountOfCode, tenthsOf, tenthsTotal, simplifiedOf}
 use Rattle.mixture.specs.Inert.{methaneShare, inertFirst}
 use Rattle.mixture.specs.Laws.Total.{scaled-length}
@@ -40,23 +40,38 @@ simplified-length a = scaled-length (tenthsOf a)
 pub inert-greatest : (a : List ℕ) → 0 < tenthsTotal a → inertFirst a ≤ MILLION
 inert-greatest a p = share-greatest (tenthsTotal a) (amountOfCode a 11) p
 
--- ---- an analysis in range
+-- ---- an analysis in range: the bounds follow from the register
+
+-- the least and the greatest amount of a code, computed wherever these are used
+abbrev least : ℕ → ℕ
+least code = leastBy (statusIn register code)
+
+abbrev most : ℕ → ℕ
+most code = greatestBy (statusIn register code)
+
+-- the least T, at the least methane
+abbrev pub LEAST_TENTHS : ℕ
+LEAST_TENTHS = 10 * least 1
 
 -- the greatest T, at the greatest total with nothing inert and at the greatest pentanes and hexanes+
 abbrev pub GREATEST_TENTHS : ℕ
-GREATEST_TENTHS = 10 * GREATEST_SUM + 13 * (greatestOf 6 + greatestOf 7 + greatestOf 8) + 43 * greatestOf 10
+GREATEST_TENTHS = 10 * GREATEST_SUM + 13 * (most 6 + most 7 + most 8) + 43 * most 10
 
--- a bound of what a component has that is present after simplification: 100 tenths of a part in the greatest T
+-- a component that is present has 10 parts at least, so 100 tenths of a part,
+abbrev pub LEAST_PRESENT : ℕ
+LEAST_PRESENT = 100
+
+-- and these in the greatest T after simplification
 abbrev pub LEAST_PARTS : ℕ
-LEAST_PARTS = 8
+LEAST_PARTS = LEAST_PRESENT * MILLION / GREATEST_TENTHS
 
-times-ten : (least x : ℕ) → 10 ≤ least → NoneOr least x → NoneOr 100 (10 * x)
-times-ten least x h (inl e) = inl (omega arith)
-times-ten least x h (inr k) = inr (omega arith)
+times-ten : (x : ℕ) → NoneOr 10 x → NoneOr LEAST_PRESENT (10 * x)
+times-ten x (inl e) = inl (omega arith)
+times-ten x (inr k) = inr (omega arith)
 
 -- butane, of what is absent or 10 parts at least
 butane-or-absent : (p q r s t u : ℕ) → NoneOr 10 p → NoneOr 10 q → NoneOr 10 r → NoneOr 10 s → NoneOr 10 t → NoneOr 10 u
-    → NoneOr 100 (10 * (p + q) + 23 * (r + s + t) + 53 * u)
+    → NoneOr LEAST_PRESENT (10 * (p + q) + 23 * (r + s + t) + 53 * u)
 butane-or-absent p q r s t u (inr h) b c d e f = inr (omega arith)
 butane-or-absent p q r s t u (inl a) (inr h) c d e f = inr (omega arith)
 butane-or-absent p q r s t u (inl a) (inl b) (inr h) d e f = inr (omega arith)
@@ -66,45 +81,59 @@ butane-or-absent p q r s t u (inl a) (inl b) (inl c) (inl d) (inl e) (inr h) = i
 butane-or-absent p q r s t u (inl a) (inl b) (inl c) (inl d) (inl e) (inl f) = inl (omega arith)
 
 module _ (a : List ℕ) (l : length a ≡ CODES) (h : analysisRefusal a ≡ 0) where
-  pub tenths-least : 4000000 ≤ tenthsTotal a
-  unfolding tenthsOf
-  tenths-least = let w = within-ranges a l h in omega arith
+  pub tenths-least : LEAST_TENTHS ≤ tenthsTotal a
+  unfolding tenthsOf statusOf
+  tenths-least = omega (arith, at-least a l h 1 (omega arith) refl)
 
   pub tenths-greatest : tenthsTotal a ≤ GREATEST_TENTHS
   unfolding tenthsOf statusOf
-  tenths-greatest = let w = within-ranges a l h in omega (arith, total-sum a l)
+  tenths-greatest =
+      omega (
+        arith,
+        total-sum a l,
+        passed-greatest a h,
+        at-most a l h 6 (omega arith),
+        at-most a l h 7 (omega arith),
+        at-most a l h 8 (omega arith),
+        at-most a l h 10 (omega arith),
+      )
 
   pub tenths-positive : 0 < tenthsTotal a
-  tenths-positive = let t = tenths-least in omega arith
+  tenths-positive = omega (arith, tenths-least)
+
+  -- a code is absent or has 10 parts at least, where its range begins there or above
+  ten-or-absent : (k : ℕ) → k < CODES → 10 ≤ leastOf k → NoneOr 10 (amountOfCode a k)
+  ten-or-absent k s m = go (or-absent a l h k s)
+    where
+      go : NoneOr (leastOf k) (amountOfCode a k) → NoneOr 10 (amountOfCode a k)
+      go (inl e) = inl e
+      go (inr p) = inr (omega arith)
 
   -- a component is absent or has 100 tenths of a part at least
-  tenths-or-absent : (i : ℕ) → i < COMPONENTS → NoneOr 100 (getD (tenthsOf a) i 0)
-  unfolding tenthsOf
-  tenths-or-absent i k = go i k (within-ranges a l h)
-    where
-      go : (i : ℕ) → i < COMPONENTS → WithinRanges a → NoneOr 100 (getD (tenthsOf a) i 0)
-      go zero k w = inr (omega arith)
-      go (suc zero) k w = times-ten 100 (amountOfCode a 2) (omega arith) (w .ethane-least)
-      go (suc (suc zero)) k w = times-ten 100 (amountOfCode a 3) (omega arith) (w .propane-least)
-      go (suc (suc (suc zero))) k w =
-          butane-or-absent (amountOfCode a 4) (amountOfCode a 5) (amountOfCode a 6) (amountOfCode a 7)
-          (amountOfCode a 8) (amountOfCode a 10)
-          (w .i-butane-least) (w .n-butane-least) (w .neo-pentane-least) (w .i-pentane-least) (w .n-pentane-least)
-          (w .hexanes-least)
-      go (suc (suc (suc (suc zero)))) k w = times-ten 10 (amountOfCode a 15) (omega arith) (w .hydrogen-least)
-      go (suc (suc (suc (suc (suc i))))) k w = absurd (omega arith)
+  tenths-or-absent : (i : ℕ) → i < COMPONENTS → NoneOr LEAST_PRESENT (getD (tenthsOf a) i 0)
+  unfolding tenthsOf statusOf
+  tenths-or-absent zero k = times-ten _ (ten-or-absent 1 (omega arith) (omega arith))
+  tenths-or-absent (suc zero) k = times-ten _ (ten-or-absent 2 (omega arith) (omega arith))
+  tenths-or-absent (suc (suc zero)) k = times-ten _ (ten-or-absent 3 (omega arith) (omega arith))
+  tenths-or-absent (suc (suc (suc zero))) k =
+      butane-or-absent _ _ _ _ _ _
+      (ten-or-absent 4 (omega arith) (omega arith)) (ten-or-absent 5 (omega arith) (omega arith))
+      (ten-or-absent 6 (omega arith) (omega arith)) (ten-or-absent 7 (omega arith) (omega arith))
+      (ten-or-absent 8 (omega arith) (omega arith)) (ten-or-absent 10 (omega arith) (omega arith))
+  tenths-or-absent (suc (suc (suc (suc zero)))) k = times-ten _ (ten-or-absent 15 (omega arith) (omega arith))
+  tenths-or-absent (suc (suc (suc (suc (suc i))))) k = absurd (omega arith)
 
   -- one that is absent stays 0
   pub simplified-absent : (i : ℕ) → i < COMPONENTS → getD (tenthsOf a) i 0 ≡ 0 → getD (simplifiedOf a) i 0 ≡ 0
   unfolding tenthsOf
   simplified-absent i k e = scaled-absent (tenthsOf a) tenths-positive i k e
 
-  -- one that is present gets 8 parts at least
+  -- one that is present gets so many parts at least
   pub simplified-least : (i : ℕ) → i < COMPONENTS → 0 < getD (tenthsOf a) i 0 → LEAST_PARTS ≤ getD (simplifiedOf a) i 0
   unfolding tenthsOf statusOf
   simplified-least i k p = go (tenths-or-absent i k)
     where
-      go : NoneOr 100 (getD (tenthsOf a) i 0) → LEAST_PARTS ≤ getD (simplifiedOf a) i 0
+      go : NoneOr LEAST_PRESENT (getD (tenthsOf a) i 0) → LEAST_PARTS ≤ getD (simplifiedOf a) i 0
       go (inl e) = absurd (omega arith)
       go (inr m) = scaled-least (tenthsOf a) tenths-positive LEAST_PARTS i k (omega (arith, tenths-greatest))
 
@@ -112,11 +141,11 @@ module _ (a : List ℕ) (l : length a ≡ CODES) (h : analysisRefusal a ≡ 0) w
   pub simplified-or-absent : (i : ℕ) → i < COMPONENTS → NoneOr LEAST_PARTS (getD (simplifiedOf a) i 0)
   simplified-or-absent i k = go (tenths-or-absent i k)
     where
-      go : NoneOr 100 (getD (tenthsOf a) i 0) → NoneOr LEAST_PARTS (getD (simplifiedOf a) i 0)
+      go : NoneOr LEAST_PRESENT (getD (tenthsOf a) i 0) → NoneOr LEAST_PARTS (getD (simplifiedOf a) i 0)
       go (inl e) = inl (simplified-absent i k e)
       go (inr m) = inr (simplified-least i k (omega arith))
 
   -- methane is
   pub simplified-methane : LEAST_PARTS ≤ getD (simplifiedOf a) 0 0
-  unfolding tenthsOf
-  simplified-methane = let w = within-ranges a l h in simplified-least 0 (omega arith) (omega (arith, w .methane-least))
+  unfolding tenthsOf statusOf
+  simplified-methane = simplified-least 0 (omega arith) (omega (arith, at-least a l h 1 (omega arith) refl))
