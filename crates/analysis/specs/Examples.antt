@@ -63,6 +63,16 @@ hydrogen-ends : (analysisRefusal (blend 999700 10) ≡ 6) × (analysisRefusal (b
 unfolding analysisRefusal inRange totalFits statusOf
 hydrogen-ends = (refl, refl, refl, refl)
 
+-- hexanes+ 6100 pass, 6101 and the old 15000 are 5 (document 02, One); 10 are in range, where the total is not, 9 are 5
+abbrev heavy : ℕ → ℕ → List ℕ
+heavy methane hexanes = 0 ∷ methane ∷ replicate 8 0 ++ (hexanes ∷ replicate (CODES - 11) 0)
+
+pub hexanes-ends : (analysisRefusal (heavy 993900 6100) ≡ 0) × (analysisRefusal (heavy 993899 6101) ≡ 5)
+    × (analysisRefusal (heavy 985000 15000) ≡ 5)
+    × (analysisRefusal (heavy 999700 10) ≡ 6) × (analysisRefusal (heavy 999700 9) ≡ 5)
+unfolding analysisRefusal inRange totalFits statusOf
+hexanes-ends = (refl, refl, refl, refl, refl)
+
 -- of several codes at fault 5 carries the lowest: ethane, 2, with 1 part beside 5 parts of code 9, which is
 -- retired; with methane absent as well 1; and an amount at 0, which is no code, goes before all
 abbrev faulty : ℕ → ℕ → List ℕ

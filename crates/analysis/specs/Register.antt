@@ -44,8 +44,8 @@ register =
     entry 8 (live 10 20000 false) ∷
     -- retired
     entry 9 retired ∷
-    -- hexanes+
-    entry 10 (live 10 15000 false) ∷
+    -- hexanes+, by the plants' logbooks (document 02, One)
+    entry 10 (live 10 6100 false) ∷
     -- carbon dioxide
     entry 11 (live 50 100000 false) ∷
     -- nitrogen
@@ -62,7 +62,10 @@ register =
 abbrev pub CODES : ℕ
 CODES = 16
 
--- hydrogen's code
+-- the codes of hexanes+ and of hydrogen
+abbrev pub hexanesCode : ℕ
+hexanesCode = 10
+
 abbrev pub hydrogenCode : ℕ
 hydrogenCode = 15
 

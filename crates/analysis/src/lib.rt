@@ -32,8 +32,8 @@ const LEAST_SUM: u64 = 999900;
 
 const GREATEST_SUM: u64 = 1000100;
 
-// The least and the greatest amount of each code, as 001 Table 1 has them; 1 and 0, which no amount lies between,
-// where it may have none. One computation ties the table to the register.
+// The least and the greatest amount of each code; 1 and 0, which no amount lies between, where it may have none. One
+// computation ties the table to the register.
 const RANGES: [[u32; 2]; CODES] = [
     // 0, no code
     [1, 0],
@@ -56,7 +56,7 @@ const RANGES: [[u32; 2]; CODES] = [
     // 9, retired
     [1, 0],
     // 10, hexanes+
-    [10, 15000],
+    [10, 6100],
     // 11, carbon dioxide
     [50, 100000],
     // 12, nitrogen

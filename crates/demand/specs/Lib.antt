@@ -6,4 +6,5 @@ pub mod Small
 pub mod Recorded
 pub mod Marked
 pub mod FirstCode
+pub mod AnyFault
 pub mod Laws

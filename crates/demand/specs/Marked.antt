@@ -9,14 +9,15 @@ use Rattle.analysis.specs.Check.{totalOf}
 use Rattle.mixture.specs.Simplification.{simplifiedOf}
 use Rattle.mixture.specs.Inert.{inertOf}
 use Rattle.analysis.specs.Examples.{tableA1}
-use Rattle.mixture.specs.Marked.{total, marked}
+use Rattle.mixture.specs.Marked.{total, marked, butaneRich, butane-rich}
 use Rattle.systems.specs.Systems.{hasOf, memberOf}
 use Rattle.systems.specs.Choice.{fitnessOf, chooseOf, paddedOf}
-use Rattle.systems.specs.Marked.{fitness, choice}
+use Rattle.systems.specs.Marked.{fitness, choice, rich-choice}
 use Rattle.split.specs.Start.{sharersOf, shareOf, startAmount, startOf}
 use Rattle.split.specs.Fold.{sumTo, table}
 use Rattle.split.specs.Split.{cellOf, heldOf}
 use Rattle.outcome.specs.Rate.{mixOf, systemsFor, countFor}
+use Rattle.outcome.specs.RatedOn.{InRange}
 
 -- the cells that the search of the gas of 001 Table A.1 starts with
 abbrev pub tableA1Start : List ℕ
@@ -81,3 +82,7 @@ marked-figures = record {
   start-8 = started 2 ∙ start .2;
   inert = marked .1;
 }
+
+-- system 2 is chosen by an analysis in range, with no more than 6100 parts of hexanes+ (document 02, One)
+pub system-two : InRange butaneRich × (chooseOf (simplifiedOf butaneRich) ≡ 2 ∷ 7 ∷ 8 ∷ [])
+system-two = (butane-rich .0, ap chooseOf (butane-rich .1) ∙ rich-choice)

@@ -1,8 +1,34 @@
--- The check before document 02's Seven: by the register without code 15. Assumes nothing.
-use mathlib.Core.List.{List}
-use lib.ListN.{take}
-use Rattle.analysis.specs.Register.{BASE, Entry, register}
+-- The registers before document 02's One and before its Seven. Assumes nothing.
+use mathlib.Core.Bool.{cond}
+use mathlib.Core.List.{List, [], _∷_}
+use Prim.Native.Nat.{ℕ, _≤_}
+use lib.Dec.{eqb}
+use lib.ListN.{take, getD}
+use Rattle.analysis.specs.Register.{Status, live, retired, splitsOnly, unknown, BASE, Entry, register, hexanesCode}
+use Rattle.analysis.specs.Check.{greatestOf}
 
--- document 01's entries
+-- a live code with another greatest amount
+abbrev pub upTo : ℕ → Status → Status
+upTo greatest (live least before required) = live least greatest required
+upTo greatest retired = retired
+upTo greatest splitsOnly = splitsOnly
+upTo greatest unknown = unknown
+
+-- a register in which a code has another greatest amount
+abbrev pub withGreatest : ℕ → ℕ → List Entry → List Entry
+withGreatest code greatest [] = []
+withGreatest code greatest (e ∷ es) =
+    record { code = e .code; status = cond (eqb code (e .code)) (upTo greatest (e .status)) (e .status) }
+    ∷ withGreatest code greatest es
+
+-- before One the greatest amount of hexanes+ was 15000 parts
+abbrev pub registerBeforeOne : List Entry
+registerBeforeOne = withGreatest hexanesCode 15000 register
+
+-- and before Seven there were document 01's entries alone
 abbrev pub registerBefore : List Entry
-registerBefore = take BASE register
+registerBefore = take BASE registerBeforeOne
+
+-- no more hexanes+ than is legal since One
+abbrev pub WithinCeiling : List ℕ → Type 0
+WithinCeiling a = getD a hexanesCode 0 ≤ greatestOf hexanesCode

@@ -1,10 +1,11 @@
 -- GASES RATED BEFORE REQUEST FIVE GET THE SAME RATING, SPLIT AND ROUNDS (document 02, Five). Assumes nothing.
 --
--- Before, codes 2 to 5 could not be absent, there was no 16, and the choice was that by fitness alone; and there was no
--- hydrogen. `splitBeforeFive` and `searchBeforeFive` are the answers of four components (`Before.splitAnswerWith` and
--- `searchOutcomeWith`) at that refusal and that choice. For every analysis that 5 and 6 let pass then, all four
--- components are present, the choice by presence and fitness is the choice by fitness alone, and the answers are the
--- same: to every proposed split, and by the search with every allowance, rating, spread, rounds and split.
+-- Before, codes 2 to 5 could not be absent, there was no 16, and the choice was that by fitness alone; there was no
+-- hydrogen, and hexanes+ went up to 15000 parts. `splitBeforeFive` and `searchBeforeFive` are the answers of four
+-- components (`Before.splitAnswerWith` and `searchOutcomeWith`) at that refusal and that choice. For every analysis that
+-- 5 and 6 let pass then, with no more hexanes+ than is legal since One, all four components are present, the choice by
+-- presence and fitness is the choice by fitness alone, and the answers are the same: to every proposed split, and by
+-- the search with every allowance, rating, spread, rounds and split.
 use mathlib.Core.Path.{_≡_, refl, sym, ap, _∙_, subst}
 use mathlib.Core.Bool.{Bool, true, false, cond}
 use mathlib.Core.Logic.{_↔_}
@@ -47,12 +48,12 @@ use Rattle.split.specs.declared.Answer.the-variants.{Rated, Refused}
 use Rattle.outcome.specs.Rate.{ROUNDS, mixOf, checkedBy, splitAnswer, outcome, searchOutcome, sheetOutcome}
 use Rattle.outcome.specs.RatedOn.{InRange, RatedOn}
 use Rattle.outcome.specs.Laws.RatedOn.{enough-on}
-use Rattle.outcome.specs.Laws.Ends.{read-long}
+use Rattle.outcome.specs.Laws.Ends.{read-long, read-passed}
 use Rattle.outcome.specs.declared.Outcome.{Outcome}
 use Rattle.demand.specs.Laws.Sheets.{read-searched, read-own}
 use Rattle.demand.specs.RatedSheets.{analysisIn}
 use Rattle.kept.specs.Laws.BeforeCheck as check
-use Rattle.kept.specs.BeforeCheck.{registerBefore}
+use Rattle.kept.specs.BeforeCheck.{registerBefore, WithinCeiling}
 use Rattle.kept.specs.BeforeMixture.{simplifiedBefore, inertBefore}
 use Rattle.kept.specs.Laws.BeforeMixture.{mixture-same, no-hydrogen}
 use Rattle.kept.specs.Before.{splitAnswerWith, searchOutcomeWith, choiceBefore, splitBefore, searchBefore}
@@ -67,15 +68,19 @@ requiredBefore = 2 ∷ 3 ∷ 4 ∷ 5 ∷ []
 abbrev pub refusalBeforeFive : List ℕ → ℕ
 refusalBeforeFive analysis = refusalIn (requiring requiredBefore registerBefore) analysis
 
--- what 5 and 6 let pass then: what is in range, with an amount of each of these and no hydrogen
+-- what 5 and 6 let pass then, within the ceiling: what is in range, with an amount of each of these and no hydrogen
 pub before-exactly-when : (analysis : List ℕ) → length analysis ≡ CODES
-    → (refusalBeforeFive analysis ≡ 0)
+    → ((refusalBeforeFive analysis ≡ 0) × WithinCeiling analysis)
     ↔ ((InRange analysis × (getD analysis hydrogenCode 0 ≡ 0))
     × ((k : ℕ) → isIn k requiredBefore ≡ true → 0 < getD analysis k 0))
 unfolding isIn
 before-exactly-when analysis long = (
-  λ h. (check.before-exactly-when analysis long .0 (exactly .0 h .0), exactly .0 h .1),
-  λ h. exactly .1 (check.before-exactly-when analysis long .1 (h .0), h .1),
+  λ h.
+      let (passed, present) = exactly .0 (h .0) in
+      (check.before-exactly-when analysis long .0 (passed, h .1), present),
+  λ h.
+      let (passed, within) = check.before-exactly-when analysis long .1 (h .0) in
+      (exactly .1 (passed, h .1), within),
 )
   where
     below : (k : ℕ) → isIn k requiredBefore ≡ true → k ≤ 5
@@ -115,12 +120,13 @@ pub passed-before : (refusalBeforeFive tableA1 ≡ 0) × (refusalBeforeFive meth
 unfolding refusalIn totalFits isIn
 passed-before = (refl, refl)
 
--- ---- an analysis that 5 and 6 let pass before
+-- ---- an analysis that 5 and 6 let pass before, with no more hexanes+ than is legal now
 
-module _ (analysis : List ℕ) (long : length analysis ≡ CODES) (before : refusalBeforeFive analysis ≡ 0) where
+module _ (analysis : List ℕ) (long : length analysis ≡ CODES) (before : refusalBeforeFive analysis ≡ 0)
+    (within : WithinCeiling analysis) where
   then : (InRange analysis × (getD analysis hydrogenCode 0 ≡ 0))
       × ((k : ℕ) → isIn k requiredBefore ≡ true → 0 < getD analysis k 0)
-  then = before-exactly-when analysis long .0 before
+  then = before-exactly-when analysis long .0 (before, within)
 
   -- passes now, without hydrogen
   pub passes : InRange analysis
@@ -161,8 +167,8 @@ module _ (analysis : List ℕ) (long : length analysis ≡ CODES) (before : refu
   pub split-kept : (p : Split) → splitAnswer analysis p ≡ splitBeforeFive analysis p
   unfolding splitBefore splitBeforeFive
   split-kept p =
-      seven.split-kept analysis none p
-      ∙ rw (sym (seven.refusal-kept analysis none), rated-on, before)
+      seven.split-kept analysis none within p
+      ∙ rw (sym (seven.refusal-kept analysis none within), rated-on, before)
       (ap (λ (choice : Choice). splitAnswerWith 0 0 choice (simplifiedBefore analysis) (inertBefore analysis) p)
       choice-kept)
 
@@ -171,8 +177,8 @@ module _ (analysis : List ℕ) (long : length analysis ≡ CODES) (before : refu
       → searchOutcome analysis allowance ≡ searchBeforeFive analysis allowance
   unfolding searchBefore searchBeforeFive
   search-kept allowance =
-      seven.search-kept-all analysis none allowance
-      ∙ rw (sym (seven.refusal-kept analysis none), rated-on, before)
+      seven.search-kept-all analysis none within allowance
+      ∙ rw (sym (seven.refusal-kept analysis none within), rated-on, before)
       (ap (λ (choice : Choice). searchOutcomeWith 0 0 choice (simplifiedBefore analysis)
       (inertBefore analysis) allowance) choice-kept)
 
@@ -186,19 +192,19 @@ not-refused n code x h = go (eqb n 0) refl h
     go false e h = absurd h
 
 -- a split rated before gets the same rating and the same spread
-pub split-rated-before : (analysis : List ℕ) → length analysis ≡ CODES → (p : Split) (w : ℤ) (s r : ℕ)
+pub split-rated-before : (analysis : List ℕ) → length analysis ≡ CODES → WithinCeiling analysis → (p : Split) (w : ℤ) (s r : ℕ)
     → splitBeforeFive analysis p ≡ Rated w s r → splitAnswer analysis p ≡ Rated w s r
 unfolding splitBeforeFive
-split-rated-before analysis long p w s r is =
+split-rated-before analysis long within p w s r is =
     let passed = not-refused (refusalBeforeFive analysis) (faultBeforeFive analysis) _ (subst IsRated (sym is) tt) in
-    split-kept analysis long passed p ∙ is
+    split-kept analysis long passed within p ∙ is
 
 -- a gas rated by the search gets the same rating, spread, rounds and split
-pub search-rated-before : (analysis : List ℕ) → length analysis ≡ CODES → (allowance : ℕ)
+pub search-rated-before : (analysis : List ℕ) → length analysis ≡ CODES → WithinCeiling analysis → (allowance : ℕ)
     → IsRated (searchBeforeFive analysis allowance .answer)
     → searchOutcome analysis allowance ≡ searchBeforeFive analysis allowance
 unfolding searchBeforeFive
-search-rated-before analysis long allowance is = go (eqb (refusalBeforeFive analysis) 0) refl is
+search-rated-before analysis long within allowance is = go (eqb (refusalBeforeFive analysis) 0) refl is
   where
     go : (b : Bool) → eqb (refusalBeforeFive analysis) 0 ≡ b
         → IsRated (cond b (searchOutcomeWith 0 0 (choiceBeforeFive (simplifiedBefore analysis))
@@ -206,32 +212,36 @@ search-rated-before analysis long allowance is = go (eqb (refusalBeforeFive anal
         (outcome (Refused (refusalBeforeFive analysis)
         (carried (refusalBeforeFive analysis) (faultBeforeFive analysis) 0)) noSplit) .answer)
         → searchOutcome analysis allowance ≡ searchBeforeFive analysis allowance
-    go true e h = search-kept analysis long (eqb-true (refusalBeforeFive analysis) 0 e) allowance
+    go true e h = search-kept analysis long (eqb-true (refusalBeforeFive analysis) 0 e) within allowance
     go false e h = absurd h
 
 -- ---- a sheet
 
 -- one with two sections of counts that are allowed, as those from before are (`Pinned.counts-kept`), with codes in
--- order, none listed at 0, and with an analysis that 5 and 6 let pass then, is read, with these contents
+-- order, none listed at 0, and with an analysis that 5 and 6 let pass then and within the ceiling, is read, with these
+-- contents
 pub sheet-read-kept : (s : List ℕ) (n m first : ℕ) → sectionsOf s ≡ Both n m first
     → codesReading n s 1 0 0 ≡ Read → zeroListed n s 1 ≡ false → refusalBeforeFive (readAmounts n s) ≡ 0
-    → readOf s ≡ contentOf n m first s
-sheet-read-kept s n m first sections codes none before =
+    → WithinCeiling (readAmounts n s) → readOf s ≡ contentOf n m first s
+sheet-read-kept s n m first sections codes none before within =
     read-good s n m first sections codes
-    (amounts-checked n s none ∙ passes (readAmounts n s) (amounts-long n s 1 _) before)
+    (amounts-checked n s none ∙ passes (readAmounts n s) (amounts-long n s 1 _) before within)
 
 -- and answered as before: by the search, or by its own split
 
 module _ (s : List ℕ) (h : readOf s .answer ≡ Read)
     (before : refusalBeforeFive (analysisIn s) ≡ 0) where
+  within : WithinCeiling (analysisIn s)
+  within = check.passed-within (analysisIn s) (read-long s h) (read-passed s h)
+
   pub sheet-search-kept : readOf s .split .count ≡ 0
       → sheetOutcome s ≡ searchBeforeFive (analysisIn s) ROUNDS
   sheet-search-kept e =
-      read-searched s h e ∙ search-kept (analysisIn s) (read-long s h) before ROUNDS
+      read-searched s h e ∙ search-kept (analysisIn s) (read-long s h) before within ROUNDS
 
   pub sheet-split-kept : (readOf s .split .count ≡ 0 → ⊥)
       → sheetOutcome s ≡ outcome (splitBeforeFive (analysisIn s) (readOf s .split)) noSplit
   sheet-split-kept n =
       read-own s h n
       ∙ ap (λ (x : Answer). outcome x noSplit)
-      (split-kept (analysisIn s) (read-long s h) before (readOf s .split))
+      (split-kept (analysisIn s) (read-long s h) before within (readOf s .split))

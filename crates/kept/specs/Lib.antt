@@ -6,4 +6,5 @@ pub mod Today
 pub mod Before
 pub mod WithoutHydrogen
 pub mod BeforeFive
+pub mod BeforeOne
 pub mod Laws

@@ -1,9 +1,10 @@
 -- GASES WITHOUT HYDROGEN GET THE RATING, SPLIT AND ROUNDS THEY HAD (document 02, Seven). Assumes nothing.
 --
--- The answers from before are `Before.splitBefore` and `searchBefore`: the register without code 15, four components,
--- the choice among 2, 4, 7 and 8, splits and search in rows of four cells. An analysis without hydrogen is answered
--- as it was, to every proposed split, and by the search with every allowance: rating, spread, rounds, split and
--- refusal. Of 5, which carried any code at fault then, the lowest is taken, by the register of that day.
+-- The answers from before are `Before.splitBefore` and `searchBefore`: the register without code 15 and with up to
+-- 15000 parts of hexanes+, four components, the choice among 2, 4, 7 and 8, splits and search in rows of four cells. An
+-- analysis without hydrogen, and with no more hexanes+ than is legal since One, is answered as it was, to every proposed
+-- split, and by the search with every allowance: rating, spread, rounds, split and refusal. Of 5, which carried any code
+-- at fault then, the lowest is taken, by the register of that day.
 use mathlib.Core.Path.{_≡_, refl, sym, ap, ap₂, _∙_}
 use mathlib.Core.Bool.{Bool, true, false, not, cond, _&&_}
 use mathlib.Core.List.{List}
@@ -48,11 +49,12 @@ use Rattle.outcome.specs.Rate.{sheetOutcome}
 use Rattle.outcome.specs.LeftOut.{mixture-number}
 use Rattle.outcome.specs.RatedOn.{RatedOn}
 use Rattle.outcome.specs.Laws.Ready.{choosable, chosen}
+use Rattle.outcome.specs.Laws.Ends.{read-long, read-passed}
 use Rattle.outcome.specs.declared.Outcome.{Outcome}
 use Rattle.demand.specs.Laws.Sheets.{read-searched, read-own}
 use Rattle.demand.specs.RatedSheets.{analysisIn}
 use Rattle.kept.specs.Laws.BeforeCheck as check
-use Rattle.kept.specs.BeforeCheck.{registerBefore}
+use Rattle.kept.specs.BeforeCheck.{registerBefore, WithinCeiling}
 use Rattle.kept.specs.Laws.BeforeCheck.{without-kept, lowest-kept}
 use Rattle.kept.specs.BeforeMixture.{simplifiedBefore}
 use Rattle.kept.specs.Laws.BeforeMixture.{mixture-same, no-hydrogen, inert-kept}
@@ -130,15 +132,6 @@ module _ (analysis : List ℕ) (none : getD analysis hydrogenCode 0 ≡ 0) where
       ap ones (present-before (mixOf analysis) (no-hydrogen analysis none)
       ∙ present-same (mixOf analysis) (simplifiedBefore analysis) (mixture-same analysis none) HYDROCARBONS)
 
-  -- the same refusal,
-  pub refusal-kept : ratingRefusal analysis ≡ refusalBefore analysis
-  unfolding ratingRefusal
-  refusal-kept = rw (without-kept analysis none, mixture-number (mixOf analysis), count-same)
-
-  -- with the same code,
-  pub fault-kept : lowestFault 0 analysis ≡ faultBefore analysis
-  fault-kept = sym (lowest-kept analysis none)
-
   -- and the same choice
   pub choice-kept : choiceOf (mixOf analysis) ≡ choiceBefore (simplifiedBefore analysis)
   choice-kept =
@@ -162,13 +155,25 @@ module _ (analysis : List ℕ) (none : getD analysis hydrogenCode 0 ≡ 0) where
           negation (hasOf system HYDROGEN)
           (sym (sym four ∙ offered) ∙ hydrocarbons-are system (chosen analysis on .known s h))
 
+-- ---- with no more hexanes+ than is legal now
+
+module _ (analysis : List ℕ) (none : getD analysis hydrogenCode 0 ≡ 0) (within : WithinCeiling analysis) where
+  -- it has the same refusal,
+  pub refusal-kept : ratingRefusal analysis ≡ refusalBefore analysis
+  unfolding ratingRefusal
+  refusal-kept = rw (without-kept analysis none within, mixture-number (mixOf analysis), count-same analysis none)
+
+  -- with the same code
+  pub fault-kept : lowestFault 0 analysis ≡ faultBefore analysis
+  fault-kept = sym (lowest-kept analysis none within)
+
   -- so it is answered as it was: to every proposed split,
   pub split-kept : (p : Split) → splitAnswer analysis p ≡ splitBefore analysis p
   unfolding splitAnswer splitBefore
   split-kept p =
       go (eqb (ratingRefusal analysis) 0) refl
       ∙ (λ j. checkedBy (refusal-kept j) (fault-kept j)
-      (splitWith (choice-kept j .systems) (choice-kept j .count) (simplifiedBefore analysis)
+      (splitWith (choice-kept analysis none j .systems) (choice-kept analysis none j .count) (simplifiedBefore analysis)
       (inert-kept analysis none j) p))
     where
       go : (b : Bool) → eqb (ratingRefusal analysis) 0 ≡ b
@@ -180,8 +185,8 @@ module _ (analysis : List ℕ) (none : getD analysis hydrogenCode 0 ≡ 0) where
       go true e =
           let on = eqb-true (ratingRefusal analysis) 0 e in
           ap (checkedBy (ratingRefusal analysis) (lowestFault 0 analysis))
-          (sym (split-same (systemsFor analysis) (countFor analysis) (without on) (simplifiedBefore analysis)
-          (mixOf analysis) no (inertFirst analysis) p))
+          (sym (split-same (systemsFor analysis) (countFor analysis) (without analysis none on) (simplifiedBefore analysis)
+          (mixOf analysis) (no analysis none) (inertFirst analysis) p))
       go false e = rw e
 
   -- and by the search with every allowance
@@ -190,7 +195,7 @@ module _ (analysis : List ℕ) (none : getD analysis hydrogenCode 0 ≡ 0) where
   unfolding searchOutcome searchBefore
   search-kept-all allowance =
       go (eqb (ratingRefusal analysis) 0) refl
-      ∙ (λ j. searchOutcomeWith (refusal-kept j) (fault-kept j) (choice-kept j) (simplifiedBefore analysis)
+      ∙ (λ j. searchOutcomeWith (refusal-kept j) (fault-kept j) (choice-kept analysis none j) (simplifiedBefore analysis)
       (inert-kept analysis none j) allowance)
     where
       go : (b : Bool) → eqb (ratingRefusal analysis) 0 ≡ b
@@ -202,33 +207,38 @@ module _ (analysis : List ℕ) (none : getD analysis hydrogenCode 0 ≡ 0) where
           ap (λ (x : Outcome). cond (eqb (ratingRefusal analysis) 0) x
           (outcome (Refused (ratingRefusal analysis)
           (carried (ratingRefusal analysis) (lowestFault 0 analysis) 0)) noSplit))
-          (sym (found-same (systemsFor analysis) (countFor analysis) (without on) (simplifiedBefore analysis)
-          (mixOf analysis) no (inertFirst analysis) _ _
-          (search-kept (systemsFor analysis) (countFor analysis) (without on) (simplifiedBefore analysis)
-          (mixOf analysis) no LIMIT FIRST_LEVEL (min allowance ROUNDS))))
+          (sym (found-same (systemsFor analysis) (countFor analysis) (without analysis none on) (simplifiedBefore analysis)
+          (mixOf analysis) (no analysis none) (inertFirst analysis) _ _
+          (search-kept (systemsFor analysis) (countFor analysis) (without analysis none on) (simplifiedBefore analysis)
+          (mixOf analysis) (no analysis none) LIMIT FIRST_LEVEL (min allowance ROUNDS))))
       go false e = rw e
 
 -- ---- a sheet
 
 -- one with two sections of counts that are allowed, as those from before are (`Pinned.counts-kept`), with codes in
--- order, none listed at 0, and with an analysis that 5 and 6 let pass then, is read, with these contents
+-- order, none listed at 0, and with an analysis that 5 and 6 let pass then and within the ceiling, is read, with these
+-- contents
 pub sheet-read-kept : (s : List ℕ) (n m first : ℕ) → sectionsOf s ≡ Both n m first
     → codesReading n s 1 0 0 ≡ Read → zeroListed n s 1 ≡ false
-    → refusalIn registerBefore (readAmounts n s) ≡ 0
+    → refusalIn registerBefore (readAmounts n s) ≡ 0 → WithinCeiling (readAmounts n s)
     → readOf s ≡ contentOf n m first s
-sheet-read-kept s n m first sections codes none before =
+sheet-read-kept s n m first sections codes none before within =
     read-good s n m first sections codes
-    (amounts-checked n s none ∙ check.before-exactly-when (readAmounts n s) (amounts-long n s 1 _) .0 before .0)
+    (amounts-checked n s none
+    ∙ check.before-exactly-when (readAmounts n s) (amounts-long n s 1 _) .0 (before, within) .0)
 
 -- and answered as it was: by the search, or by its own split
 module _ (s : List ℕ) (h : readOf s .answer ≡ Read)
     (none : getD (analysisIn s) hydrogenCode 0 ≡ 0) where
+  within : WithinCeiling (analysisIn s)
+  within = check.passed-within (analysisIn s) (read-long s h) (read-passed s h)
+
   pub sheet-search-kept : readOf s .split .count ≡ 0
       → sheetOutcome s ≡ searchBefore (analysisIn s) ROUNDS
-  sheet-search-kept e = read-searched s h e ∙ search-kept-all (analysisIn s) none ROUNDS
+  sheet-search-kept e = read-searched s h e ∙ search-kept-all (analysisIn s) none within ROUNDS
 
   pub sheet-split-kept : (readOf s .split .count ≡ 0 → ⊥)
       → sheetOutcome s ≡ outcome (splitBefore (analysisIn s) (readOf s .split)) noSplit
   sheet-split-kept n =
       read-own s h n
-      ∙ ap (λ (x : Answer). outcome x noSplit) (split-kept (analysisIn s) none (readOf s .split))
+      ∙ ap (λ (x : Answer). outcome x noSplit) (split-kept (analysisIn s) none within (readOf s .split))

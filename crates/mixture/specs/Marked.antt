@@ -1,14 +1,16 @@
 -- The marked figures of simplification and of the inert mixture (document 01, "Gases and their figures"): the gas of
--- 001 Table A.1; two analyses in range at the rules for equal remainders and for halves; and one with absent
--- components. Assumes nothing.
+-- 001 Table A.1; two analyses in range at the rules for equal remainders and for halves; one with absent components;
+-- one rich in butane; and one with the greatest T. Assumes nothing.
 use Prim.Native.Nat.{ℕ}
 use mathlib.Core.Path.{_≡_, refl}
 use mathlib.Core.List.{List, [], _∷_}
-use Rattle.analysis.specs.Check.{totalOf}
+use Rattle.analysis.specs.Register.{statusOf}
+use Rattle.analysis.specs.Check.{totalOf, inRange, totalFits, analysisRefusal}
 use Rattle.analysis.specs.Examples.{tableA1}
 use Rattle.mixture.specs.Scaling.{largestTo, distributed, scaledOf}
-use Rattle.mixture.specs.Simplification.{tenthsOf, simplifiedOf}
+use Rattle.mixture.specs.Simplification.{tenthsOf, tenthsTotal, simplifiedOf}
 use Rattle.mixture.specs.Inert.{methaneShare, inertOf}
+use Rattle.mixture.specs.Laws.Bounds.{GREATEST_TENTHS, LEAST_PARTS}
 
 pub total : totalOf tableA1 ≡ 999999
 total = refl
@@ -39,3 +41,25 @@ methaneEthane = 0 ∷ 970000 ∷ 10000 ∷ 0 ∷ 0 ∷ 0 ∷ 0 ∷ 0 ∷ 0 ∷ 0
 pub methane-ethane : simplifiedOf methaneEthane ≡ 989796 ∷ 10204 ∷ 0 ∷ 0 ∷ 0 ∷ []
 unfolding largestTo distributed scaledOf tenthsOf
 methane-ethane = refl
+
+-- a gas rich in butane, with 6100 parts of hexanes+, in range; it chooses system 2 (`demand/specs/Marked`)
+abbrev pub butaneRich : List ℕ
+butaneRich =
+    0 ∷ 413400 ∷ 150000 ∷ 60000 ∷ 40000 ∷ 40000 ∷ 500 ∷ 20000 ∷ 20000 ∷ 0 ∷ 6100 ∷ 100000 ∷ 150000 ∷ 0 ∷ 0 ∷ 0 ∷ []
+
+pub butane-rich : (analysisRefusal butaneRich ≡ 0)
+    × (simplifiedOf butaneRich ≡ 498745 ∷ 180967 ∷ 72387 ∷ 247901 ∷ 0 ∷ [])
+unfolding analysisRefusal inRange totalFits statusOf largestTo distributed scaledOf tenthsOf
+butane-rich = (refl, refl)
+
+-- the greatest T, by the register's ranges (document 02, One), is 10789800 tenths of a part, and what is present has 9
+-- parts at least: both bounds hold of every analysis in range (`Bounds.tenths-greatest`, `simplified-least`), and one
+-- has them, with 10 parts of hydrogen
+abbrev pub heaviest : List ℕ
+heaviest = 0 ∷ 953390 ∷ 100 ∷ 0 ∷ 0 ∷ 0 ∷ 500 ∷ 20000 ∷ 20000 ∷ 0 ∷ 6100 ∷ 0 ∷ 0 ∷ 0 ∷ 0 ∷ 10 ∷ []
+
+pub bounds-reached : (analysisRefusal heaviest ≡ 0)
+    × (tenthsTotal heaviest ≡ GREATEST_TENTHS) × (GREATEST_TENTHS ≡ 10789800)
+    × (simplifiedOf heaviest ≡ 883603 ∷ 93 ∷ 0 ∷ 116295 ∷ LEAST_PARTS ∷ []) × (LEAST_PARTS ≡ 9)
+unfolding analysisRefusal inRange totalFits statusOf largestTo distributed scaledOf tenthsOf
+bounds-reached = (refl, refl, refl, refl, refl)

@@ -20,8 +20,8 @@ use c_reply::Reply;
 use controller::ControllerRecord;
 use sheet::RECORDS;
 
-// The version, 1.4.0: 10000, 100 and 1 times its three figures.
-const VERSION: u32 = 10400;
+// The version, 1.5.0: 10000, 100 and 1 times its three figures.
+const VERSION: u32 = 10500;
 
 // The library's version.
 #[no_mangle]

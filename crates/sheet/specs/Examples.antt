@@ -10,7 +10,7 @@ use Rattle.analysis.specs.Register.{statusOf}
 use Rattle.analysis.specs.Check.{inRange, totalFits, analysisRefusal}
 use Rattle.analysis.specs.Examples.{tableA1}
 use Rattle.section.specs.Section.{endAt, sectionAt}
-use Rattle.sheet.specs.declared.Reading.the-variants.{Refused}
+use Rattle.sheet.specs.declared.Reading.the-variants.{Read, Refused}
 use Rattle.sheet.specs.declared.Split.{Split}
 use Rattle.sheet.specs.Split.{RECORDS, LONGEST_SPLIT, allowedCount, noSplit}
 use Rattle.sheet.specs.Components.{codeRefusal}
@@ -55,6 +55,13 @@ lowest-first : (readOf listedZero ≡ refusedSheet (Refused 5 0 6))
 unfolding readOf readBy sectionsOf sectionAt endAt allowedCount amountsRefusal lowestIn analysisRefusal inRange
     codeRefusal statusOf isIn
 lowest-first = (refl, refl, refl, refl)
+
+-- 6101 parts of hexanes+ beside 993899 of methane are refused 5, 6100 beside 993900 are read (document 02, One)
+heavy-sheets : (readOf (2 ∷ 1 ∷ 0 ∷ 15 ∷ 42 ∷ 107 ∷ 10 ∷ 0 ∷ 0 ∷ 23 ∷ 213 ∷ 0 ∷ []) ≡ refusedSheet (Refused 5 0 10))
+    × (readOf (2 ∷ 1 ∷ 0 ∷ 15 ∷ 42 ∷ 108 ∷ 10 ∷ 0 ∷ 0 ∷ 23 ∷ 212 ∷ 0 ∷ []) .answer ≡ Read)
+unfolding readOf readBy sectionsOf sectionAt endAt allowedCount amountsRefusal lowestIn analysisRefusal inRange
+    totalFits codeRefusal statusOf isIn
+heavy-sheets = (refl, refl)
 
 -- a byte left over
 byte-over : readOf (0 ∷ 0 ∷ 0 ∷ []) ≡ refusedSheet (Refused 1 0 0)

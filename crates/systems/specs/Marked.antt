@@ -59,3 +59,12 @@ pub choices : (chooseOf weighed ≡ 1 ∷ 4 ∷ 5 ∷ 6 ∷ 8 ∷ [])
 unfolding chooseOf marksOf passOf takeOf containingOf fittestOf betterOf scoreOf chosenOf listOf fold fitnessOf
     standingOf weightedTo keep inMask presentOf presentIn maskOf maskFrom ones hasOf memberOf candidatesOf
 choices = (refl, refl, refl, refl, refl)
+
+-- a mixture rich in butane (`mixture/specs/Marked.butaneRich`) takes system 2 for 4
+abbrev pub butaneRichMixture : List ℕ
+butaneRichMixture = 498745 ∷ 180967 ∷ 72387 ∷ 247901 ∷ 0 ∷ []
+
+pub rich-choice : chooseOf butaneRichMixture ≡ 2 ∷ 7 ∷ 8 ∷ []
+unfolding chooseOf marksOf passOf takeOf containingOf fittestOf betterOf scoreOf chosenOf listOf fold fitnessOf
+    standingOf weightedTo keep inMask presentOf presentIn maskOf maskFrom ones hasOf memberOf candidatesOf
+rich-choice = refl

@@ -74,6 +74,14 @@ module _ (code x : ℕ) (h : inRange code x ≡ true) where
       go true e = inl (eqb-true x 0 e)
       go false e = inr (range-least (eqb-false x 0 e))
 
+-- an amount above the greatest is out of range
+pub above-greatest : (code x : ℕ) → greatestOf code < x → inRange code x ≡ false
+above-greatest code x h = go (inRange code x) refl
+  where
+    go : (b : Bool) → inRange code x ≡ b → inRange code x ≡ false
+    go true e = absurd (omega (arith, range-greatest code x e))
+    go false e = e
+
 -- each amount of an analysis whose amounts are all in range
 pub all-at : (a : List ℕ) (k : ℕ) → allInRange 0 a ≡ true → k < length a → inRange k (getD a k 0) ≡ true
 unfolding inRange statusOf

@@ -1,19 +1,21 @@
--- The check before document 02's Seven and the check of today. Assumes nothing.
+-- The checks before document 02's One and Seven and the check of today. Assumes nothing.
 use mathlib.Core.Path.{_≡_, refl, sym, ap, _∙_}
 use mathlib.Core.List.{List, [], _∷_, _++_}
 use mathlib.Core.Bool.{Bool, true, false, _&&_, cond, and-eq-true-iff}
 use mathlib.Core.Logic.{_↔_}
-use Prim.Native.Nat.{ℕ, suc, _+_}
+use Prim.Native.Nat.{ℕ, suc, _+_, _≤_}
 use native.Mathlib.Nat.{add-zero}
 use native.Mathlib.Omega.{arith}
 use lib.Dec.{eqb, leb}
 use lib.ListN.{length, getD, drop}
-use borrow.Author.Tests.{eqb-true, eqb-false, ne-eqb, leb-true}
-use Rattle.analysis.specs.Register.{CODES, BASE, Status, unknown, Entry, register, statusIn, hydrogenCode}
-use Rattle.analysis.specs.Check.{totalOf, totalFits, refusalByTests, analysisRefusal, lowestFault}
+use borrow.Author.Tests.{eqb-true, eqb-false, ne-eqb, leb-true, le-leb}
+use Rattle.analysis.specs.Register.{CODES, BASE, Status, live, unknown, Entry, register, statusIn, statusOf}
+use Rattle.analysis.specs.Register.{hexanesCode, hydrogenCode}
+use Rattle.analysis.specs.Check.{greatestOf, totalOf, totalFits, refusalByTests, analysisRefusal, lowestFault}
 use Rattle.analysis.specs.Required.{inRangeBy, allInRangeIn, lowestFaultIn, refusalIn}
 use Rattle.analysis.specs.Laws.Required.{refusal-register, lowest-register, all-from, refusal-none}
-use Rattle.kept.specs.BeforeCheck.{registerBefore}
+use Rattle.analysis.specs.Laws.Ranges.{at-most}
+use Rattle.kept.specs.BeforeCheck.{upTo, withGreatest, registerBeforeOne, registerBefore, WithinCeiling}
 
 -- ---- two registers
 
@@ -45,40 +47,93 @@ lowest-alike es fs code (x ∷ xs) h =
     ∙ ap (λ (n : ℕ). cond (inRangeBy (statusIn fs code) x) n code)
     (lowest-alike es fs (suc code) xs (λ k. let e : code + suc k ≡ suc code + k = omega arith in rw e at (h (suc k))))
 
--- ---- the register and the one before
-
--- every code but 15 is what it was
-pub status-kept : (c : ℕ) → (c ≡ hydrogenCode → ⊥) → statusIn register c ≡ statusIn registerBefore c
-status-kept c n = status-added registerBefore (drop BASE register) c (rw (ne-eqb c hydrogenCode n))
-
-code-alike : (c x : ℕ) → (c ≡ hydrogenCode → x ≡ 0)
-    → inRangeBy (statusIn registerBefore c) x ≡ inRangeBy (statusIn register c) x
-code-alike c x none = go (eqb c hydrogenCode) refl
-  where
-    go : (b : Bool) → eqb c hydrogenCode ≡ b
-        → inRangeBy (statusIn registerBefore c) x ≡ inRangeBy (statusIn register c) x
-    go true e =
-        let p = eqb-true c hydrogenCode e in
-        let q = none p in
-        rw (p, q)
-    go false e = ap (λ (s : Status). inRangeBy s x) (sym (status-kept c (eqb-false c hydrogenCode e)))
-
-none-at : (a : List ℕ) → getD a hydrogenCode 0 ≡ 0 → (k : ℕ) → 0 + k ≡ hydrogenCode → getD a k 0 ≡ 0
-none-at a none k e = let p : k ≡ hydrogenCode = omega arith in rw p none
-
--- an analysis without hydrogen is checked as before
-pub without-kept : (a : List ℕ) → getD a hydrogenCode 0 ≡ 0 → refusalIn registerBefore a ≡ analysisRefusal a
+refusal-alike : (es fs : List Entry) (a : List ℕ)
+    → ((k : ℕ) → inRangeBy (statusIn es (0 + k)) (getD a k 0) ≡ inRangeBy (statusIn fs (0 + k)) (getD a k 0))
+    → refusalIn es a ≡ refusalIn fs a
 unfolding refusalIn
-without-kept a none =
-    ap (λ (b : Bool). refusalByTests b (totalFits (totalOf a)))
-    (all-alike registerBefore register 0 a (λ k. code-alike (0 + k) (getD a k 0) (none-at a none k)))
-    ∙ refusal-register a
+refusal-alike es fs a h = ap (λ (b : Bool). refusalByTests b (totalFits (totalOf a))) (all-alike es fs 0 a h)
+
+-- another greatest amount of a code says nothing of the others
+status-others : (es : List Entry) (code greatest c : ℕ) → (c ≡ code → ⊥)
+    → statusIn (withGreatest code greatest es) c ≡ statusIn es c
+status-others [] code greatest c n = refl
+status-others (e ∷ es) code greatest c n =
+    go (status-others es code greatest c n) (eqb c (e .code)) (eqb code (e .code)) refl refl
+  where
+    go : statusIn (withGreatest code greatest es) c ≡ statusIn es c
+        → (t u : Bool) → eqb c (e .code) ≡ t → eqb code (e .code) ≡ u
+        → cond t (cond u (upTo greatest (e .status)) (e .status)) (statusIn (withGreatest code greatest es) c)
+        ≡ cond t (e .status) (statusIn es c)
+    go rest false u p q = rest
+    go rest true false p q = refl
+    go rest true true p q = absurd (n (eqb-true c (e .code) p ∙ sym (eqb-true code (e .code) q)))
+
+-- an amount up to two greatest ones is in range by both or by none
+greatest-alike : (least most more x : ℕ) (required : Bool) → x ≤ most → x ≤ more
+    → inRangeBy (live least most required) x ≡ inRangeBy (live least more required) x
+greatest-alike least most more x required h k = rw (le-leb x most h, le-leb x more k)
+
+-- ---- before One: a code has the status it had but hexanes+, in range alike up to the ceiling
+
+ceiling-alike : (x : ℕ) → x ≤ greatestOf hexanesCode
+    → inRangeBy (statusIn registerBeforeOne hexanesCode) x ≡ inRangeBy (statusIn register hexanesCode) x
+unfolding statusOf
+ceiling-alike x h = greatest-alike 10 15000 (greatestOf hexanesCode) x false (omega arith) h
+
+one-alike : (a : List ℕ) → WithinCeiling a → (k : ℕ)
+    → inRangeBy (statusIn registerBeforeOne (0 + k)) (getD a k 0) ≡ inRangeBy (statusIn register (0 + k)) (getD a k 0)
+one-alike a within k = go (eqb (0 + k) hexanesCode) refl
+  where
+    go : (b : Bool) → eqb (0 + k) hexanesCode ≡ b
+        → inRangeBy (statusIn registerBeforeOne (0 + k)) (getD a k 0)
+        ≡ inRangeBy (statusIn register (0 + k)) (getD a k 0)
+    go true e =
+        let p = eqb-true (0 + k) hexanesCode e in
+        let q : k ≡ hexanesCode = omega arith in
+        rw (p, q) (ceiling-alike (getD a hexanesCode 0) within)
+    go false e =
+        ap (λ (s : Status). inRangeBy s (getD a k 0))
+        (status-others register hexanesCode 15000 (0 + k) (eqb-false (0 + k) hexanesCode e))
+
+-- an analysis within the ceiling is checked as before,
+pub one-kept : (a : List ℕ) → WithinCeiling a → refusalIn registerBeforeOne a ≡ analysisRefusal a
+one-kept a within = refusal-alike registerBeforeOne register a (one-alike a within) ∙ refusal-register a
 
 -- and has the lowest code at fault that it had
-pub lowest-kept : (a : List ℕ) → getD a hydrogenCode 0 ≡ 0 → lowestFaultIn registerBefore 0 a ≡ lowestFault 0 a
-lowest-kept a none =
-    lowest-alike registerBefore register 0 a (λ k. code-alike (0 + k) (getD a k 0) (none-at a none k))
-    ∙ lowest-register 0 a
+pub one-lowest : (a : List ℕ) → WithinCeiling a → lowestFaultIn registerBeforeOne 0 a ≡ lowestFault 0 a
+one-lowest a within = lowest-alike registerBeforeOne register 0 a (one-alike a within) ∙ lowest-register 0 a
+
+-- ---- before Seven: every code but 15 is what it was before One
+
+status-kept : (c : ℕ) → (c ≡ hydrogenCode → ⊥) → statusIn registerBeforeOne c ≡ statusIn registerBefore c
+status-kept c n = status-added registerBefore (drop BASE registerBeforeOne) c (rw (ne-eqb c hydrogenCode n))
+
+seven-alike : (a : List ℕ) → getD a hydrogenCode 0 ≡ 0 → (k : ℕ)
+    → inRangeBy (statusIn registerBefore (0 + k)) (getD a k 0)
+    ≡ inRangeBy (statusIn registerBeforeOne (0 + k)) (getD a k 0)
+seven-alike a none k = go (eqb (0 + k) hydrogenCode) refl
+  where
+    go : (b : Bool) → eqb (0 + k) hydrogenCode ≡ b
+        → inRangeBy (statusIn registerBefore (0 + k)) (getD a k 0)
+        ≡ inRangeBy (statusIn registerBeforeOne (0 + k)) (getD a k 0)
+    go true e =
+        let p = eqb-true (0 + k) hydrogenCode e in
+        let q : k ≡ hydrogenCode = omega arith in
+        rw (p, q, none)
+    go false e =
+        ap (λ (s : Status). inRangeBy s (getD a k 0)) (sym (status-kept (0 + k) (eqb-false (0 + k) hydrogenCode e)))
+
+-- an analysis without hydrogen and within the ceiling is checked as before
+pub without-kept : (a : List ℕ) → getD a hydrogenCode 0 ≡ 0 → WithinCeiling a
+    → refusalIn registerBefore a ≡ analysisRefusal a
+without-kept a none within =
+    refusal-alike registerBefore registerBeforeOne a (seven-alike a none) ∙ one-kept a within
+
+-- and has the lowest code at fault that it had
+pub lowest-kept : (a : List ℕ) → getD a hydrogenCode 0 ≡ 0 → WithinCeiling a
+    → lowestFaultIn registerBefore 0 a ≡ lowestFault 0 a
+lowest-kept a none within =
+    lowest-alike registerBefore registerBeforeOne 0 a (seven-alike a none) ∙ one-lowest a within
 
 -- no amount of a code that is no key
 unknown-none : (x : ℕ) → inRangeBy unknown x ≡ true → x ≡ 0
@@ -95,10 +150,23 @@ before-none a l h =
     let t = refusal-none (allInRangeIn registerBefore 0 a) (totalFits (totalOf a)) h .0 in
     unknown-none (getD a hydrogenCode 0) (all-from registerBefore a 0 hydrogenCode t (omega arith))
 
--- what passed before: what passes, without hydrogen
+-- what passes is within the ceiling
+pub passed-within : (a : List ℕ) → length a ≡ CODES → analysisRefusal a ≡ 0 → WithinCeiling a
+passed-within a l h = at-most a l h hexanesCode (omega arith)
+
+-- what passed before One, within the ceiling: what passes
+pub one-exactly-when : (a : List ℕ) → length a ≡ CODES
+    → ((refusalIn registerBeforeOne a ≡ 0) × WithinCeiling a) ↔ (analysisRefusal a ≡ 0)
+one-exactly-when a l = (
+  λ h. sym (one-kept a (h .1)) ∙ h .0,
+  λ h. let within = passed-within a l h in (one-kept a within ∙ h, within),
+)
+
+-- what passed before Seven, within the ceiling: what passes, without hydrogen
 pub before-exactly-when : (a : List ℕ) → length a ≡ CODES
-    → (refusalIn registerBefore a ≡ 0) ↔ ((analysisRefusal a ≡ 0) × (getD a hydrogenCode 0 ≡ 0))
+    → ((refusalIn registerBefore a ≡ 0) × WithinCeiling a)
+    ↔ ((analysisRefusal a ≡ 0) × (getD a hydrogenCode 0 ≡ 0))
 before-exactly-when a l = (
-  λ h. let none = before-none a l h in (sym (without-kept a none) ∙ h, none),
-  λ h. without-kept a (h .1) ∙ h .0,
+  λ h. let none = before-none a l (h .0) in (sym (without-kept a none (h .1)) ∙ h .0, none),
+  λ h. let within = passed-within a l (h .0) in (without-kept a (h .1) within ∙ h .0, within),
 )

@@ -49,7 +49,7 @@ least code = leastBy (statusIn register code)
 abbrev most : ℕ → ℕ
 most code = greatestBy (statusIn register code)
 
--- the least T, at the least methane
+-- a bound of T from below: methane's alone
 abbrev pub LEAST_TENTHS : ℕ
 LEAST_TENTHS = 10 * least 1
 
