@@ -1,5 +1,5 @@
--- WHERE ANY CODE IS AT FAULT IT IS REFUSED 5 (document 01, "What is turned away"; document 02, One: "A sheet with 6101 of
--- it that passes 1 to 4 gets refusal 5"). Assumes nothing.
+-- WHERE ANY CODE IS AT FAULT IT IS REFUSED 5 (document 01, "What is turned away"; document 02, One: "A sheet with 6101
+-- of it that passes 1 to 4 gets refusal 5"). Assumes nothing.
 --
 -- By the check, by every proposed split, by the search with every allowance, by writing where the split has a count of
 -- records that a sheet may have; and a sheet that 1 to 4 let pass, by reading and by rating. 5 carries the lowest code

@@ -22,8 +22,11 @@ withGreatest code greatest (e ∷ es) =
     ∷ withGreatest code greatest es
 
 -- before One the greatest amount of hexanes+ was 15000 parts
+abbrev pub CEILING_BEFORE : ℕ
+CEILING_BEFORE = 15000
+
 abbrev pub registerBeforeOne : List Entry
-registerBeforeOne = withGreatest hexanesCode 15000 register
+registerBeforeOne = withGreatest hexanesCode CEILING_BEFORE register
 
 -- and before Seven there were document 01's entries alone
 abbrev pub registerBefore : List Entry

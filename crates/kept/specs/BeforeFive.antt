@@ -2,10 +2,10 @@
 --
 -- Before, codes 2 to 5 could not be absent, there was no 16, and the choice was that by fitness alone; there was no
 -- hydrogen, and hexanes+ went up to 15000 parts. `splitBeforeFive` and `searchBeforeFive` are the answers of four
--- components (`Before.splitAnswerWith` and `searchOutcomeWith`) at that refusal and that choice. For every analysis that
--- 5 and 6 let pass then, with no more hexanes+ than is legal since One, all four components are present, the choice by
--- presence and fitness is the choice by fitness alone, and the answers are the same: to every proposed split, and by
--- the search with every allowance, rating, spread, rounds and split.
+-- components (`Before.splitAnswerWith` and `searchOutcomeWith`) at that refusal and that choice. For every analysis
+-- that 5 and 6 let pass then, with no more hexanes+ than is legal since One, all four components are present, the
+-- choice by presence and fitness is the choice by fitness alone, and the answers are the same: to every proposed split,
+-- and by the search with every allowance, rating, spread, rounds and split.
 use mathlib.Core.Path.{_≡_, refl, sym, ap, _∙_, subst}
 use mathlib.Core.Bool.{Bool, true, false, cond}
 use mathlib.Core.Logic.{_↔_}
@@ -192,7 +192,8 @@ not-refused n code x h = go (eqb n 0) refl h
     go false e h = absurd h
 
 -- a split rated before gets the same rating and the same spread
-pub split-rated-before : (analysis : List ℕ) → length analysis ≡ CODES → WithinCeiling analysis → (p : Split) (w : ℤ) (s r : ℕ)
+pub split-rated-before : (analysis : List ℕ) → length analysis ≡ CODES → WithinCeiling analysis
+    → (p : Split) (w : ℤ) (s r : ℕ)
     → splitBeforeFive analysis p ≡ Rated w s r → splitAnswer analysis p ≡ Rated w s r
 unfolding splitBeforeFive
 split-rated-before analysis long within p w s r is =

@@ -1,10 +1,10 @@
 -- GASES WITHOUT HYDROGEN GET THE RATING, SPLIT AND ROUNDS THEY HAD (document 02, Seven). Assumes nothing.
 --
 -- The answers from before are `Before.splitBefore` and `searchBefore`: the register without code 15 and with up to
--- 15000 parts of hexanes+, four components, the choice among 2, 4, 7 and 8, splits and search in rows of four cells. An
--- analysis without hydrogen, and with no more hexanes+ than is legal since One, is answered as it was, to every proposed
--- split, and by the search with every allowance: rating, spread, rounds, split and refusal. Of 5, which carried any code
--- at fault then, the lowest is taken, by the register of that day.
+-- 15000 parts of hexanes+, four components, the choice among 2, 4, 7 and 8, splits and search in rows of four cells.
+-- An analysis without hydrogen, and with no more hexanes+ than is legal since One, is answered as it was, to every
+-- proposed split, and by the search with every allowance: rating, spread, rounds, split and refusal. Of 5, which
+-- carried any code at fault then, the lowest is taken, by the register of that day.
 use mathlib.Core.Path.{_≡_, refl, sym, ap, ap₂, _∙_}
 use mathlib.Core.Bool.{Bool, true, false, not, cond, _&&_}
 use mathlib.Core.List.{List}
@@ -132,6 +132,15 @@ module _ (analysis : List ℕ) (none : getD analysis hydrogenCode 0 ≡ 0) where
       ap ones (present-before (mixOf analysis) (no-hydrogen analysis none)
       ∙ present-same (mixOf analysis) (simplifiedBefore analysis) (mixture-same analysis none) HYDROCARBONS)
 
+  -- within the ceiling of hexanes+ the same refusal,
+  pub refusal-kept : WithinCeiling analysis → ratingRefusal analysis ≡ refusalBefore analysis
+  unfolding ratingRefusal
+  refusal-kept within = rw (without-kept analysis none within, mixture-number (mixOf analysis), count-same)
+
+  -- with the same code,
+  pub fault-kept : WithinCeiling analysis → lowestFault 0 analysis ≡ faultBefore analysis
+  fault-kept within = sym (lowest-kept analysis none within)
+
   -- and the same choice
   pub choice-kept : choiceOf (mixOf analysis) ≡ choiceBefore (simplifiedBefore analysis)
   choice-kept =
@@ -155,25 +164,13 @@ module _ (analysis : List ℕ) (none : getD analysis hydrogenCode 0 ≡ 0) where
           negation (hasOf system HYDROGEN)
           (sym (sym four ∙ offered) ∙ hydrocarbons-are system (chosen analysis on .known s h))
 
--- ---- with no more hexanes+ than is legal now
-
-module _ (analysis : List ℕ) (none : getD analysis hydrogenCode 0 ≡ 0) (within : WithinCeiling analysis) where
-  -- it has the same refusal,
-  pub refusal-kept : ratingRefusal analysis ≡ refusalBefore analysis
-  unfolding ratingRefusal
-  refusal-kept = rw (without-kept analysis none within, mixture-number (mixOf analysis), count-same analysis none)
-
-  -- with the same code
-  pub fault-kept : lowestFault 0 analysis ≡ faultBefore analysis
-  fault-kept = sym (lowest-kept analysis none within)
-
-  -- so it is answered as it was: to every proposed split,
-  pub split-kept : (p : Split) → splitAnswer analysis p ≡ splitBefore analysis p
+  -- so within the ceiling it is answered as it was: to every proposed split,
+  pub split-kept : WithinCeiling analysis → (p : Split) → splitAnswer analysis p ≡ splitBefore analysis p
   unfolding splitAnswer splitBefore
-  split-kept p =
+  split-kept within p =
       go (eqb (ratingRefusal analysis) 0) refl
-      ∙ (λ j. checkedBy (refusal-kept j) (fault-kept j)
-      (splitWith (choice-kept analysis none j .systems) (choice-kept analysis none j .count) (simplifiedBefore analysis)
+      ∙ (λ j. checkedBy (refusal-kept within j) (fault-kept within j)
+      (splitWith (choice-kept j .systems) (choice-kept j .count) (simplifiedBefore analysis)
       (inert-kept analysis none j) p))
     where
       go : (b : Bool) → eqb (ratingRefusal analysis) 0 ≡ b
@@ -185,17 +182,17 @@ module _ (analysis : List ℕ) (none : getD analysis hydrogenCode 0 ≡ 0) (with
       go true e =
           let on = eqb-true (ratingRefusal analysis) 0 e in
           ap (checkedBy (ratingRefusal analysis) (lowestFault 0 analysis))
-          (sym (split-same (systemsFor analysis) (countFor analysis) (without analysis none on) (simplifiedBefore analysis)
-          (mixOf analysis) (no analysis none) (inertFirst analysis) p))
+          (sym (split-same (systemsFor analysis) (countFor analysis) (without on) (simplifiedBefore analysis)
+          (mixOf analysis) no (inertFirst analysis) p))
       go false e = rw e
 
   -- and by the search with every allowance
-  pub search-kept-all : (allowance : ℕ)
+  pub search-kept-all : WithinCeiling analysis → (allowance : ℕ)
       → searchOutcome analysis allowance ≡ searchBefore analysis allowance
   unfolding searchOutcome searchBefore
-  search-kept-all allowance =
+  search-kept-all within allowance =
       go (eqb (ratingRefusal analysis) 0) refl
-      ∙ (λ j. searchOutcomeWith (refusal-kept j) (fault-kept j) (choice-kept analysis none j) (simplifiedBefore analysis)
+      ∙ (λ j. searchOutcomeWith (refusal-kept within j) (fault-kept within j) (choice-kept j) (simplifiedBefore analysis)
       (inert-kept analysis none j) allowance)
     where
       go : (b : Bool) → eqb (ratingRefusal analysis) 0 ≡ b
@@ -207,10 +204,10 @@ module _ (analysis : List ℕ) (none : getD analysis hydrogenCode 0 ≡ 0) (with
           ap (λ (x : Outcome). cond (eqb (ratingRefusal analysis) 0) x
           (outcome (Refused (ratingRefusal analysis)
           (carried (ratingRefusal analysis) (lowestFault 0 analysis) 0)) noSplit))
-          (sym (found-same (systemsFor analysis) (countFor analysis) (without analysis none on) (simplifiedBefore analysis)
-          (mixOf analysis) (no analysis none) (inertFirst analysis) _ _
-          (search-kept (systemsFor analysis) (countFor analysis) (without analysis none on) (simplifiedBefore analysis)
-          (mixOf analysis) (no analysis none) LIMIT FIRST_LEVEL (min allowance ROUNDS))))
+          (sym (found-same (systemsFor analysis) (countFor analysis) (without on) (simplifiedBefore analysis)
+          (mixOf analysis) no (inertFirst analysis) _ _
+          (search-kept (systemsFor analysis) (countFor analysis) (without on) (simplifiedBefore analysis)
+          (mixOf analysis) no LIMIT FIRST_LEVEL (min allowance ROUNDS))))
       go false e = rw e
 
 -- ---- a sheet

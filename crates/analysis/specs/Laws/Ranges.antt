@@ -94,11 +94,18 @@ module _ (a : List ℕ) (h : analysisRefusal a ≡ 0) where
   unfolding analysisRefusal
   passed-ranges = refusal-none (allInRange 0 a) (totalFits (totalOf a)) h .0
 
-  pub passed-greatest : totalOf a ≤ GREATEST_SUM
+  passed-total : (LEAST_SUM ≤ totalOf a) × (totalOf a ≤ GREATEST_SUM)
   unfolding analysisRefusal totalFits
-  passed-greatest =
+  passed-total =
       let fits = refusal-none (allInRange 0 a) (totalFits (totalOf a)) h .1 in
-      leb-true (totalOf a) GREATEST_SUM (and-eq-true-iff (leb LEAST_SUM (totalOf a)) _ .0 fits .1)
+      let (low, high) = and-eq-true-iff (leb LEAST_SUM (totalOf a)) (leb (totalOf a) GREATEST_SUM) .0 fits in
+      (leb-true LEAST_SUM (totalOf a) low, leb-true (totalOf a) GREATEST_SUM high)
+
+  pub passed-least : LEAST_SUM ≤ totalOf a
+  passed-least = passed-total .0
+
+  pub passed-greatest : totalOf a ≤ GREATEST_SUM
+  passed-greatest = passed-total .1
 
 module _ (a : List ℕ) (l : length a ≡ CODES) where
   -- the total is the sum over the codes

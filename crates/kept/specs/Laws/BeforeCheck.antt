@@ -11,11 +11,13 @@ use lib.ListN.{length, getD, drop}
 use borrow.Author.Tests.{eqb-true, eqb-false, ne-eqb, leb-true, le-leb}
 use Rattle.analysis.specs.Register.{CODES, BASE, Status, live, unknown, Entry, register, statusIn, statusOf}
 use Rattle.analysis.specs.Register.{hexanesCode, hydrogenCode}
-use Rattle.analysis.specs.Check.{greatestOf, totalOf, totalFits, refusalByTests, analysisRefusal, lowestFault}
+use Rattle.analysis.specs.Check.{leastOf, greatestOf, requiredOf, totalOf, totalFits, refusalByTests}
+use Rattle.analysis.specs.Check.{analysisRefusal, lowestFault}
 use Rattle.analysis.specs.Required.{inRangeBy, allInRangeIn, lowestFaultIn, refusalIn}
 use Rattle.analysis.specs.Laws.Required.{refusal-register, lowest-register, all-from, refusal-none}
 use Rattle.analysis.specs.Laws.Ranges.{at-most}
-use Rattle.kept.specs.BeforeCheck.{upTo, withGreatest, registerBeforeOne, registerBefore, WithinCeiling}
+use Rattle.kept.specs.BeforeCheck.{upTo, withGreatest, CEILING_BEFORE, registerBeforeOne, registerBefore}
+use Rattle.kept.specs.BeforeCheck.{WithinCeiling}
 
 -- ---- two registers
 
@@ -78,7 +80,9 @@ greatest-alike least most more x required h k = rw (le-leb x most h, le-leb x mo
 ceiling-alike : (x : ℕ) → x ≤ greatestOf hexanesCode
     → inRangeBy (statusIn registerBeforeOne hexanesCode) x ≡ inRangeBy (statusIn register hexanesCode) x
 unfolding statusOf
-ceiling-alike x h = greatest-alike 10 15000 (greatestOf hexanesCode) x false (omega arith) h
+ceiling-alike x h =
+    greatest-alike (leastOf hexanesCode) CEILING_BEFORE (greatestOf hexanesCode) x (requiredOf hexanesCode)
+    (omega arith) h
 
 one-alike : (a : List ℕ) → WithinCeiling a → (k : ℕ)
     → inRangeBy (statusIn registerBeforeOne (0 + k)) (getD a k 0) ≡ inRangeBy (statusIn register (0 + k)) (getD a k 0)
@@ -93,7 +97,7 @@ one-alike a within k = go (eqb (0 + k) hexanesCode) refl
         rw (p, q) (ceiling-alike (getD a hexanesCode 0) within)
     go false e =
         ap (λ (s : Status). inRangeBy s (getD a k 0))
-        (status-others register hexanesCode 15000 (0 + k) (eqb-false (0 + k) hexanesCode e))
+        (status-others register hexanesCode CEILING_BEFORE (0 + k) (eqb-false (0 + k) hexanesCode e))
 
 -- an analysis within the ceiling is checked as before,
 pub one-kept : (a : List ℕ) → WithinCeiling a → refusalIn registerBeforeOne a ≡ analysisRefusal a

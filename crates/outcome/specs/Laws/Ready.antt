@@ -94,7 +94,7 @@ module _ (a : List ℕ) (long : length a ≡ CODES) (on : RatedOn a) where
       let methane = simplified-methane a long (on-passed a on .0) in
       choice-filled (mixOf a) (on-passed a on .1) (omega (arith, methane))
 
-  -- each chosen system contains a component that is present, and has enough of it. A present component has 8 parts at
+  -- each chosen system contains a component that is present, and has enough of it. A present component has 9 parts at
   -- least, and five systems at most share it; 5 parts would do.
   supplied : (s : ℕ) → s < countFor a → Supplied (mixOf a) (systemsFor a) (countFor a) s
   supplied s h =
