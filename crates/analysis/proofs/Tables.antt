@@ -1,5 +1,5 @@
--- The code's table agrees with the register, tested at each code by one computation, and the range test by it.
--- Assumes nothing.
+-- The table that the register gives, which the code's must be (`check` compares them), its ranges at each code by one
+-- computation, and the range test by it. Assumes nothing.
 use mathlib.Core.Path.{_≡_, refl, sym, _∙_}
 use mathlib.Core.Bool.{Bool, true, false, not, _&&_, _||_, Bool·beq, cond, or-false}
 use mathlib.Core.List.{List, [], _∷_}

@@ -63,7 +63,7 @@ hydrogen-ends : (analysisRefusal (blend 999700 10) ≡ 6) × (analysisRefusal (b
 unfolding analysisRefusal inRange totalFits statusOf
 hydrogen-ends = (refl, refl, refl, refl)
 
--- hexanes+ 6100 pass, 6101 and the old 15000 are 5 (document 02, One); 10 are in range, where the total is not, 9 are 5
+-- hexanes+ 6100 pass, 6101 and the old 15000 are 5 (document 02, One); 9 are 5, 10 are not (the total is 6)
 abbrev heavy : ℕ → ℕ → List ℕ
 heavy methane hexanes = 0 ∷ methane ∷ replicate 8 0 ++ (hexanes ∷ replicate (CODES - 11) 0)
 

@@ -1,5 +1,5 @@
--- The register of component codes (document 01, "The register and the sheet"; ranges of 001 Table 1): every key ever
--- given, retired ones included, for a key is never given again. Assumes nothing.
+-- The register of component codes (document 01, "The register and the sheet"; ranges of 001 Table 1, but for hexanes+
+-- and hydrogen): every key ever given, retired ones included, for a key is never given again. Assumes nothing.
 use mathlib.Core.Path.{_≡_, refl}
 use mathlib.Core.List.{List, [], _∷_}
 use mathlib.Core.Bool.{Bool, true, false, cond}

@@ -82,8 +82,9 @@ module _ (s : List ℕ) (n m first : ℕ) (sections : sectionsOf s ≡ Both n m 
 
 -- one with more hexanes+ than the greatest amount (document 02, One)
 pub hexanes-above : (s : List ℕ) (n m first : ℕ) → sectionsOf s ≡ Both n m first
-    → codesReading n s 1 0 0 ≡ reading.Read → greatestOf hexanesCode < getD (readAmounts n s) hexanesCode 0
+    → codesReading n s 1 0 0 ≡ reading.Read → 6100 < getD (readAmounts n s) hexanesCode 0
     → (readOf s .answer ≡ reading.Refused 5 0 (lowestIn n s)) × (sheetOutcome s .answer ≡ Refused 5 (lowestIn n s))
+unfolding statusOf
 hexanes-above s n m first sections codes h =
     let fault : FaultIn n s hexanesCode = inr (above-fault (readAmounts n s) hexanesCode h) in
     (fault-read s n m first sections codes hexanesCode fault, fault-rated s n m first sections codes hexanesCode fault)

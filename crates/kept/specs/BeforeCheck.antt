@@ -1,11 +1,11 @@
 -- The registers before document 02's One and before its Seven. Assumes nothing.
 use mathlib.Core.Bool.{cond}
 use mathlib.Core.List.{List, [], _∷_}
-use Prim.Native.Nat.{ℕ, _≤_}
+use mathlib.Core.Logic.{_⊎_}
+use Prim.Native.Nat.{ℕ, _≤_, _<_}
 use lib.Dec.{eqb}
 use lib.ListN.{take, getD}
 use Rattle.analysis.specs.Register.{Status, live, retired, splitsOnly, unknown, BASE, Entry, register, hexanesCode}
-use Rattle.analysis.specs.Check.{greatestOf}
 
 -- a live code with another greatest amount
 abbrev pub upTo : ℕ → Status → Status
@@ -32,6 +32,6 @@ registerBeforeOne = withGreatest hexanesCode CEILING_BEFORE register
 abbrev pub registerBefore : List Entry
 registerBefore = take BASE registerBeforeOne
 
--- no more hexanes+ than is legal since One
-abbrev pub WithinCeiling : List ℕ → Type 0
-WithinCeiling a = getD a hexanesCode 0 ≤ greatestOf hexanesCode
+-- hexanes+ that One leaves as they were: no more than is legal now, or more than was legal then
+abbrev pub HexanesKept : List ℕ → Type 0
+HexanesKept a = (getD a hexanesCode 0 ≤ 6100) ⊎ (CEILING_BEFORE < getD a hexanesCode 0)

@@ -3,7 +3,7 @@
 -- Before, codes 2 to 5 could not be absent, there was no 16, and the choice was that by fitness alone; there was no
 -- hydrogen, and hexanes+ went up to 15000 parts. `splitBeforeFive` and `searchBeforeFive` are the answers of four
 -- components (`Before.splitAnswerWith` and `searchOutcomeWith`) at that refusal and that choice. For every analysis
--- that 5 and 6 let pass then, with no more hexanes+ than is legal since One, all four components are present, the
+-- that 5 and 6 let pass then, with no more hexanes+ than are legal since One, all four components are present, the
 -- choice by presence and fitness is the choice by fitness alone, and the answers are the same: to every proposed split,
 -- and by the search with every allowance, rating, spread, rounds and split.
 use mathlib.Core.Path.{_≡_, refl, sym, ap, _∙_, subst}
@@ -48,12 +48,12 @@ use Rattle.split.specs.declared.Answer.the-variants.{Rated, Refused}
 use Rattle.outcome.specs.Rate.{ROUNDS, mixOf, checkedBy, splitAnswer, outcome, searchOutcome, sheetOutcome}
 use Rattle.outcome.specs.RatedOn.{InRange, RatedOn}
 use Rattle.outcome.specs.Laws.RatedOn.{enough-on}
-use Rattle.outcome.specs.Laws.Ends.{read-long, read-passed}
+use Rattle.outcome.specs.Laws.Ends.{read-long}
 use Rattle.outcome.specs.declared.Outcome.{Outcome}
 use Rattle.demand.specs.Laws.Sheets.{read-searched, read-own}
 use Rattle.demand.specs.RatedSheets.{analysisIn}
 use Rattle.kept.specs.Laws.BeforeCheck as check
-use Rattle.kept.specs.BeforeCheck.{registerBefore, WithinCeiling}
+use Rattle.kept.specs.BeforeCheck.{registerBefore, HexanesKept}
 use Rattle.kept.specs.BeforeMixture.{simplifiedBefore, inertBefore}
 use Rattle.kept.specs.Laws.BeforeMixture.{mixture-same, no-hydrogen}
 use Rattle.kept.specs.Before.{splitAnswerWith, searchOutcomeWith, choiceBefore, splitBefore, searchBefore}
@@ -68,9 +68,10 @@ requiredBefore = 2 ∷ 3 ∷ 4 ∷ 5 ∷ []
 abbrev pub refusalBeforeFive : List ℕ → ℕ
 refusalBeforeFive analysis = refusalIn (requiring requiredBefore registerBefore) analysis
 
--- what 5 and 6 let pass then, within the ceiling: what is in range, with an amount of each of these and no hydrogen
+-- what 5 and 6 let pass then, with hexanes+ as legal now: what is in range, with an amount of each of these and no
+-- hydrogen
 pub before-exactly-when : (analysis : List ℕ) → length analysis ≡ CODES
-    → ((refusalBeforeFive analysis ≡ 0) × WithinCeiling analysis)
+    → ((refusalBeforeFive analysis ≡ 0) × HexanesKept analysis)
     ↔ ((InRange analysis × (getD analysis hydrogenCode 0 ≡ 0))
     × ((k : ℕ) → isIn k requiredBefore ≡ true → 0 < getD analysis k 0))
 unfolding isIn
@@ -123,7 +124,7 @@ passed-before = (refl, refl)
 -- ---- an analysis that 5 and 6 let pass before, with no more hexanes+ than is legal now
 
 module _ (analysis : List ℕ) (long : length analysis ≡ CODES) (before : refusalBeforeFive analysis ≡ 0)
-    (within : WithinCeiling analysis) where
+    (within : HexanesKept analysis) where
   then : (InRange analysis × (getD analysis hydrogenCode 0 ≡ 0))
       × ((k : ℕ) → isIn k requiredBefore ≡ true → 0 < getD analysis k 0)
   then = before-exactly-when analysis long .0 (before, within)
@@ -192,7 +193,7 @@ not-refused n code x h = go (eqb n 0) refl h
     go false e h = absurd h
 
 -- a split rated before gets the same rating and the same spread
-pub split-rated-before : (analysis : List ℕ) → length analysis ≡ CODES → WithinCeiling analysis
+pub split-rated-before : (analysis : List ℕ) → length analysis ≡ CODES → HexanesKept analysis
     → (p : Split) (w : ℤ) (s r : ℕ)
     → splitBeforeFive analysis p ≡ Rated w s r → splitAnswer analysis p ≡ Rated w s r
 unfolding splitBeforeFive
@@ -201,7 +202,7 @@ split-rated-before analysis long within p w s r is =
     split-kept analysis long passed within p ∙ is
 
 -- a gas rated by the search gets the same rating, spread, rounds and split
-pub search-rated-before : (analysis : List ℕ) → length analysis ≡ CODES → WithinCeiling analysis → (allowance : ℕ)
+pub search-rated-before : (analysis : List ℕ) → length analysis ≡ CODES → HexanesKept analysis → (allowance : ℕ)
     → IsRated (searchBeforeFive analysis allowance .answer)
     → searchOutcome analysis allowance ≡ searchBeforeFive analysis allowance
 unfolding searchBeforeFive
@@ -219,11 +220,11 @@ search-rated-before analysis long within allowance is = go (eqb (refusalBeforeFi
 -- ---- a sheet
 
 -- one with two sections of counts that are allowed, as those from before are (`Pinned.counts-kept`), with codes in
--- order, none listed at 0, and with an analysis that 5 and 6 let pass then and within the ceiling, is read, with these
--- contents
+-- order, none listed at 0, and with an analysis that 5 and 6 let pass then and hexanes+ as legal now, is read, with
+-- these contents
 pub sheet-read-kept : (s : List ℕ) (n m first : ℕ) → sectionsOf s ≡ Both n m first
     → codesReading n s 1 0 0 ≡ Read → zeroListed n s 1 ≡ false → refusalBeforeFive (readAmounts n s) ≡ 0
-    → WithinCeiling (readAmounts n s) → readOf s ≡ contentOf n m first s
+    → HexanesKept (readAmounts n s) → readOf s ≡ contentOf n m first s
 sheet-read-kept s n m first sections codes none before within =
     read-good s n m first sections codes
     (amounts-checked n s none ∙ passes (readAmounts n s) (amounts-long n s 1 _) before within)
@@ -232,8 +233,8 @@ sheet-read-kept s n m first sections codes none before within =
 
 module _ (s : List ℕ) (h : readOf s .answer ≡ Read)
     (before : refusalBeforeFive (analysisIn s) ≡ 0) where
-  within : WithinCeiling (analysisIn s)
-  within = check.passed-within (analysisIn s) (read-long s h) (read-passed s h)
+  within : HexanesKept (analysisIn s)
+  within = check.read-passed-kept s h
 
   pub sheet-search-kept : readOf s .split .count ≡ 0
       → sheetOutcome s ≡ searchBeforeFive (analysisIn s) ROUNDS

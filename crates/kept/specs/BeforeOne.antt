@@ -1,16 +1,16 @@
 -- THE CEILING OF HEXANES+ (document 02, One): 6100 parts in place of 15000. Assumes nothing.
 --
 -- The answers from before are today's definitions by the register of that day (`BeforeCheck.registerBeforeOne`). What
--- has no more hexanes+ than is legal now is answered as it was, with or without hydrogen: the check, every proposed
--- split, the search with every allowance, writing, a sheet's reading and its rating. What has more is refused 5
--- (`demand/specs/AnyFault`).
+-- has at most 6100 parts of hexanes+, or more than 15000, is answered as it was, with or without hydrogen: the check,
+-- the simplified mixture, every proposed split, the search with every allowance, writing, a sheet's reading and its
+-- rating. What is between is refused 5, as all that is above 6100 (`demand/specs/AnyFault`).
 use mathlib.Core.Path.{_≡_, refl, ap, ap₂, _∙_}
 use mathlib.Core.Bool.{cond}
 use mathlib.Core.Logic.{_↔_}
 use mathlib.Core.List.{List, _++_}
 use Prim.Native.Nat.{ℕ, min}
 use lib.Dec.{eqb, leb}
-use lib.ListN.{length, drop}
+use lib.ListN.{length, drop, replicate}
 use Rattle.refusal.specs.Register.{TORN, OUT_OF_RANGE, SHORT_BLANK, carried}
 use Rattle.analysis.specs.Register.{CODES}
 use Rattle.analysis.specs.Check.{answerBy, checkedOf}
@@ -31,6 +31,8 @@ use Rattle.sheet.specs.declared.Reading.{Reading}
 use Rattle.sheet.specs.declared.Reading.the-variants as reading
 use Rattle.sheet.specs.declared.Written.{Written}
 use Rattle.mixture.specs.Inert.{inertFirst}
+use Rattle.mixture.specs.Simplification.{COMPONENTS}
+use Rattle.mixture.specs.Answers.{mixtureOf, inertN1}
 use Rattle.systems.specs.Choice.{choiceOf}
 use Rattle.split.specs.declared.Answer.{Answer}
 use Rattle.split.specs.declared.Answer.the-variants.{Refused}
@@ -38,10 +40,9 @@ use Rattle.outcome.specs.Rate.{ROUNDS, mixOf, systemsFor, countFor, mixtureRefu
 use Rattle.outcome.specs.Rate.{splitAnswer, outcome, foundOutcome, searchedBy, searchOutcome, sheetOutcomeBy}
 use Rattle.outcome.specs.Rate.{sheetOutcome}
 use Rattle.outcome.specs.RatedOn.{InRange}
-use Rattle.outcome.specs.Laws.Ends.{read-passed, read-long}
 use Rattle.outcome.specs.declared.Outcome.{Outcome}
-use Rattle.kept.specs.BeforeCheck.{registerBeforeOne, WithinCeiling}
-use Rattle.kept.specs.Laws.BeforeCheck.{one-kept, one-lowest, one-exactly-when, passed-within}
+use Rattle.kept.specs.BeforeCheck.{registerBeforeOne, HexanesKept}
+use Rattle.kept.specs.Laws.BeforeCheck.{one-kept, one-lowest, one-exactly-when, read-passed-kept}
 
 -- ---- as it was
 
@@ -55,6 +56,14 @@ faultBeforeOne analysis = lowestFaultIn registerBeforeOne 0 analysis
 -- the check
 unfoldable pub checkedBeforeOne : List ℕ → Checked
 checkedBeforeOne analysis = answerBy (numberBeforeOne analysis) (faultBeforeOne analysis)
+
+-- the simplified mixture and n1, zeros beside a refusal
+abbrev pub mixtureBeforeOne : List ℕ → List ℕ
+mixtureBeforeOne analysis =
+    cond (eqb (numberBeforeOne analysis) 0) (mixOf analysis) (replicate COMPONENTS 0)
+
+abbrev pub inertBeforeOne : List ℕ → ℕ
+inertBeforeOne analysis = cond (eqb (numberBeforeOne analysis) 0) (inertFirst analysis) 0
 
 -- 5 or 6, then 16 or 13
 unfoldable pub refusalBeforeOne : List ℕ → ℕ
@@ -123,19 +132,25 @@ unfoldable pub sheetBeforeOne : List ℕ → Outcome
 sheetBeforeOne s =
     sheetByBeforeOne (readBeforeOne s .answer) (readBeforeOne s .analysis .amounts) (readBeforeOne s .split)
 
--- ---- what passed then and has no more hexanes+ than is legal now is in range, and nothing else is
+-- ---- what passed then with no more hexanes+ than are legal now is in range, and nothing else is
 
 pub in-range-exactly-when : (analysis : List ℕ) → length analysis ≡ CODES
-    → ((numberBeforeOne analysis ≡ 0) × WithinCeiling analysis) ↔ InRange analysis
+    → ((numberBeforeOne analysis ≡ 0) × HexanesKept analysis) ↔ InRange analysis
 in-range-exactly-when analysis long = one-exactly-when analysis long
 
--- ---- an analysis with no more hexanes+ than is legal now is answered as it was
+-- ---- an analysis with hexanes+ that One leaves as they were is answered as it was
 
-module _ (analysis : List ℕ) (within : WithinCeiling analysis) where
-  -- by the check,
+module _ (analysis : List ℕ) (within : HexanesKept analysis) where
+  -- by the check, and simplified,
   pub checked-kept : checkedOf analysis ≡ checkedBeforeOne analysis
   unfolding checkedOf checkedBeforeOne
   checked-kept = rw (one-kept analysis within, one-lowest analysis within)
+
+  pub mixture-kept : mixtureOf analysis ≡ mixtureBeforeOne analysis
+  mixture-kept = rw (one-kept analysis within)
+
+  pub inert-kept : inertN1 analysis ≡ inertBeforeOne analysis
+  inert-kept = rw (one-kept analysis within)
 
   refusal-kept : ratingRefusal analysis ≡ refusalBeforeOne analysis
   unfolding ratingRefusal refusalBeforeOne
@@ -164,26 +179,26 @@ module _ (analysis : List ℕ) (within : WithinCeiling analysis) where
   unfolding leftOf leftBeforeOne
   left-kept p lent = rw (write-kept p (length lent))
 
--- ---- and so is a sheet, read and rated
+-- ---- and so is a sheet, read and rated: where its codes are refused whatever its amounts
 
 module _ (s : List ℕ)
-    (within : (n m first : ℕ) → sectionsOf s ≡ Both n m first → WithinCeiling (readAmounts n s)) where
+    (within : (n m first : ℕ) → sectionsOf s ≡ Both n m first → codesReading n s 1 0 0 ≡ reading.Read
+    → HexanesKept (readAmounts n s)) where
   pub read-kept : readOf s ≡ readBeforeOne s
   unfolding readOf readBy readBeforeOne amountsBeforeOne amountsRefusal lowestIn
   read-kept = go (sectionsOf s) refl
     where
       go : (x : Sections) → sectionsOf s ≡ x → readBy x s ≡ readByBeforeOne x s
       go Torn e = refl
-      go (Both n m first) e = codes (codesReading n s 1 0 0)
+      go (Both n m first) e = codes (codesReading n s 1 0 0) refl
         where
-          w : WithinCeiling (readAmounts n s)
-          w = within n m first e
-
-          codes : (x : Reading)
+          codes : (x : Reading) → codesReading n s 1 0 0 ≡ x
               → withAnswer (afterCodes x n s) (contentOf n m first s)
               ≡ withAnswer (afterCodesBeforeOne x n s) (contentOf n m first s)
-          codes (reading.Refused number place code) = refl
-          codes reading.Read = rw (one-kept (readAmounts n s) w, one-lowest (readAmounts n s) w)
+          codes (reading.Refused number place code) c = refl
+          codes reading.Read c =
+              let w = within n m first e c in
+              rw (one-kept (readAmounts n s) w, one-lowest (readAmounts n s) w)
 
   pub sheet-kept : sheetOutcome s ≡ sheetBeforeOne s
   unfolding sheetOutcome sheetBeforeOne
@@ -197,6 +212,6 @@ module _ (s : List ℕ)
       go (reading.Refused number place code) e = refl
       go reading.Read e =
           let a = readOf s .analysis .amounts in
-          let w = passed-within a (read-long s e) (read-passed s e) in
+          let w = read-passed-kept s e in
           ap₂ (λ (x : Outcome) (y : Answer). cond (eqb (readOf s .split .count) 0) x (outcome y noSplit))
           (search-kept a w ROUNDS) (split-kept a w (readOf s .split))

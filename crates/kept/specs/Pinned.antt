@@ -1,5 +1,6 @@
--- What today's definitions share with those from before request Seven, as it was: the register's fourteen entries, the
--- weights, order and members of the choice, a split's codes, the counts of a sheet. Assumes nothing.
+-- What today's definitions share with those from before request Seven, as it was: the register's fourteen entries, but
+-- that hexanes+ have the greatest amount of that day, the weights, order and members of the choice, a split's codes,
+-- the counts of a sheet. Assumes nothing.
 use mathlib.Core.Path.{_≡_, refl}
 use mathlib.Core.Bool.{true, false}
 use mathlib.Core.List.{List, [], _∷_}

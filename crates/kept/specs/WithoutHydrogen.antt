@@ -2,9 +2,9 @@
 --
 -- The answers from before are `Before.splitBefore` and `searchBefore`: the register without code 15 and with up to
 -- 15000 parts of hexanes+, four components, the choice among 2, 4, 7 and 8, splits and search in rows of four cells.
--- An analysis without hydrogen, and with no more hexanes+ than is legal since One, is answered as it was, to every
--- proposed split, and by the search with every allowance: rating, spread, rounds, split and refusal. Of 5, which
--- carried any code at fault then, the lowest is taken, by the register of that day.
+-- An analysis without hydrogen, with hexanes+ that One leaves as they were (at most 6100 parts, or above 15000), is
+-- answered as it was, to every proposed split, and by the search with every allowance: rating, spread, rounds, split
+-- and refusal. Of 5, which carried any code at fault then, the lowest is taken, by the register of that day.
 use mathlib.Core.Path.{_≡_, refl, sym, ap, ap₂, _∙_}
 use mathlib.Core.Bool.{Bool, true, false, not, cond, _&&_}
 use mathlib.Core.List.{List}
@@ -49,12 +49,11 @@ use Rattle.outcome.specs.Rate.{sheetOutcome}
 use Rattle.outcome.specs.LeftOut.{mixture-number}
 use Rattle.outcome.specs.RatedOn.{RatedOn}
 use Rattle.outcome.specs.Laws.Ready.{choosable, chosen}
-use Rattle.outcome.specs.Laws.Ends.{read-long, read-passed}
 use Rattle.outcome.specs.declared.Outcome.{Outcome}
 use Rattle.demand.specs.Laws.Sheets.{read-searched, read-own}
 use Rattle.demand.specs.RatedSheets.{analysisIn}
 use Rattle.kept.specs.Laws.BeforeCheck as check
-use Rattle.kept.specs.BeforeCheck.{registerBefore, WithinCeiling}
+use Rattle.kept.specs.BeforeCheck.{registerBefore, HexanesKept}
 use Rattle.kept.specs.Laws.BeforeCheck.{without-kept, lowest-kept}
 use Rattle.kept.specs.BeforeMixture.{simplifiedBefore}
 use Rattle.kept.specs.Laws.BeforeMixture.{mixture-same, no-hydrogen, inert-kept}
@@ -132,13 +131,13 @@ module _ (analysis : List ℕ) (none : getD analysis hydrogenCode 0 ≡ 0) where
       ap ones (present-before (mixOf analysis) (no-hydrogen analysis none)
       ∙ present-same (mixOf analysis) (simplifiedBefore analysis) (mixture-same analysis none) HYDROCARBONS)
 
-  -- within the ceiling of hexanes+ the same refusal,
-  pub refusal-kept : WithinCeiling analysis → ratingRefusal analysis ≡ refusalBefore analysis
+  -- with hexanes+ as they were the same refusal,
+  pub refusal-kept : HexanesKept analysis → ratingRefusal analysis ≡ refusalBefore analysis
   unfolding ratingRefusal
   refusal-kept within = rw (without-kept analysis none within, mixture-number (mixOf analysis), count-same)
 
   -- with the same code,
-  pub fault-kept : WithinCeiling analysis → lowestFault 0 analysis ≡ faultBefore analysis
+  pub fault-kept : HexanesKept analysis → lowestFault 0 analysis ≡ faultBefore analysis
   fault-kept within = sym (lowest-kept analysis none within)
 
   -- and the same choice
@@ -164,8 +163,8 @@ module _ (analysis : List ℕ) (none : getD analysis hydrogenCode 0 ≡ 0) where
           negation (hasOf system HYDROGEN)
           (sym (sym four ∙ offered) ∙ hydrocarbons-are system (chosen analysis on .known s h))
 
-  -- so within the ceiling it is answered as it was: to every proposed split,
-  pub split-kept : WithinCeiling analysis → (p : Split) → splitAnswer analysis p ≡ splitBefore analysis p
+  -- so with such hexanes+ it is answered as it was: to every proposed split,
+  pub split-kept : HexanesKept analysis → (p : Split) → splitAnswer analysis p ≡ splitBefore analysis p
   unfolding splitAnswer splitBefore
   split-kept within p =
       go (eqb (ratingRefusal analysis) 0) refl
@@ -187,13 +186,13 @@ module _ (analysis : List ℕ) (none : getD analysis hydrogenCode 0 ≡ 0) where
       go false e = rw e
 
   -- and by the search with every allowance
-  pub search-kept-all : WithinCeiling analysis → (allowance : ℕ)
+  pub search-kept-all : HexanesKept analysis → (allowance : ℕ)
       → searchOutcome analysis allowance ≡ searchBefore analysis allowance
   unfolding searchOutcome searchBefore
   search-kept-all within allowance =
       go (eqb (ratingRefusal analysis) 0) refl
-      ∙ (λ j. searchOutcomeWith (refusal-kept within j) (fault-kept within j) (choice-kept j) (simplifiedBefore analysis)
-      (inert-kept analysis none j) allowance)
+      ∙ (λ j. searchOutcomeWith (refusal-kept within j) (fault-kept within j) (choice-kept j)
+      (simplifiedBefore analysis) (inert-kept analysis none j) allowance)
     where
       go : (b : Bool) → eqb (ratingRefusal analysis) 0 ≡ b
           → searchOutcomeBy (ratingRefusal analysis) (choiceOf (mixOf analysis)) analysis allowance
@@ -213,11 +212,11 @@ module _ (analysis : List ℕ) (none : getD analysis hydrogenCode 0 ≡ 0) where
 -- ---- a sheet
 
 -- one with two sections of counts that are allowed, as those from before are (`Pinned.counts-kept`), with codes in
--- order, none listed at 0, and with an analysis that 5 and 6 let pass then and within the ceiling, is read, with these
+-- order, none listed at 0, and with an analysis that 5 and 6 let pass then and such hexanes+, is read, with these
 -- contents
 pub sheet-read-kept : (s : List ℕ) (n m first : ℕ) → sectionsOf s ≡ Both n m first
     → codesReading n s 1 0 0 ≡ Read → zeroListed n s 1 ≡ false
-    → refusalIn registerBefore (readAmounts n s) ≡ 0 → WithinCeiling (readAmounts n s)
+    → refusalIn registerBefore (readAmounts n s) ≡ 0 → HexanesKept (readAmounts n s)
     → readOf s ≡ contentOf n m first s
 sheet-read-kept s n m first sections codes none before within =
     read-good s n m first sections codes
@@ -227,8 +226,8 @@ sheet-read-kept s n m first sections codes none before within =
 -- and answered as it was: by the search, or by its own split
 module _ (s : List ℕ) (h : readOf s .answer ≡ Read)
     (none : getD (analysisIn s) hydrogenCode 0 ≡ 0) where
-  within : WithinCeiling (analysisIn s)
-  within = check.passed-within (analysisIn s) (read-long s h) (read-passed s h)
+  within : HexanesKept (analysisIn s)
+  within = check.read-passed-kept s h
 
   pub sheet-search-kept : readOf s .split .count ≡ 0
       → sheetOutcome s ≡ searchBefore (analysisIn s) ROUNDS

@@ -53,8 +53,8 @@ unfolding analysisRefusal inRange totalFits statusOf largestTo distributed scale
 butane-rich = (refl, refl)
 
 -- the greatest T, by the register's ranges (document 02, One), is 10789800 tenths of a part, and what is present has 9
--- parts at least: both bounds hold of every analysis in range (`Bounds.tenths-greatest`, `simplified-least`), and one
--- has them, with 10 parts of hydrogen
+-- parts at least: both bounds hold of every analysis in range (`Total.tenths-total`, `Bounds.simplified-least`), and
+-- one has them, with 10 parts of hydrogen
 abbrev pub heaviest : List ℕ
 heaviest = 0 ∷ 953390 ∷ 100 ∷ 0 ∷ 0 ∷ 0 ∷ 500 ∷ 20000 ∷ 20000 ∷ 0 ∷ 6100 ∷ 0 ∷ 0 ∷ 0 ∷ 0 ∷ 10 ∷ []
 

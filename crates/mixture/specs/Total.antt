@@ -1,6 +1,6 @@
 -- What the simplified mixture and the inert mixture add up to (document 01, "Simplification": "The total is exactly
 -- 1000000"; "The split and the rating": the inert mixture), and how near each amount is to its share: of any amounts
--- whose T is not 0. Of an analysis in range the inert mixture has methane. Assumes nothing.
+-- whose T is not 0. Of an analysis in range the greatest T, and that the inert mixture has methane. Assumes nothing.
 use Prim.Native.Nat.{ℕ, _+_, _≤_, _<_}
 use mathlib.Core.Path.{_≡_}
 use mathlib.Core.List.{List}
@@ -16,7 +16,7 @@ use Rattle.mixture.specs.Inert.{inertFirst, inertSecond, inertOf}
 use Rattle.mixture.specs.Largest.{Precedes, largest-first}
 use Rattle.mixture.specs.Laws.Total.{scaled-sum}
 use Rattle.mixture.specs.Laws.Share.{scaled-near}
-use Rattle.mixture.specs.Laws.Bounds.{share-least, inert-greatest, tenths-least, tenths-positive}
+use Rattle.mixture.specs.Laws.Bounds.{share-least, inert-greatest, tenths-least, tenths-greatest, tenths-positive}
 
 module _ (a : List ℕ) (p : 0 < tenthsTotal a) where
   -- the total is exactly 1000000
@@ -44,6 +44,10 @@ module _ (a : List ℕ) (p : 0 < tenthsTotal a) where
   -- and so do n1, n2 and n3, for n3 is 0
   pub inert-sum : totalOf (inertOf a) ≡ MILLION
   inert-sum = let l = inert-greatest a p in omega arith
+
+-- T of an analysis in range has at most so many tenths of a part (document 02, One); `Marked.heaviest` has them
+pub tenths-total : (a : List ℕ) → length a ≡ CODES → analysisRefusal a ≡ 0 → tenthsTotal a ≤ 10789800
+tenths-total a l h = tenths-greatest a l h
 
 -- n1 of an analysis in range is not 0
 pub inert-least : (a : List ℕ) → length a ≡ CODES → analysisRefusal a ≡ 0 → 1 ≤ inertFirst a

@@ -2,13 +2,13 @@
 use mathlib.Core.Path.{_≡_, refl, sym, ap, _∙_}
 use mathlib.Core.List.{List, [], _∷_, _++_}
 use mathlib.Core.Bool.{Bool, true, false, _&&_, cond, and-eq-true-iff}
-use mathlib.Core.Logic.{_↔_}
-use Prim.Native.Nat.{ℕ, suc, _+_, _≤_}
+use mathlib.Core.Logic.{_↔_, _⊎_, inl, inr}
+use Prim.Native.Nat.{ℕ, suc, _+_, _≤_, _<_}
 use native.Mathlib.Nat.{add-zero}
 use native.Mathlib.Omega.{arith}
 use lib.Dec.{eqb, leb}
 use lib.ListN.{length, getD, drop}
-use borrow.Author.Tests.{eqb-true, eqb-false, ne-eqb, leb-true, le-leb}
+use borrow.Author.Tests.{eqb-true, eqb-false, ne-eqb, leb-true, le-leb, lt-leb}
 use Rattle.analysis.specs.Register.{CODES, BASE, Status, live, unknown, Entry, register, statusIn, statusOf}
 use Rattle.analysis.specs.Register.{hexanesCode, hydrogenCode}
 use Rattle.analysis.specs.Check.{leastOf, greatestOf, requiredOf, totalOf, totalFits, refusalByTests}
@@ -16,8 +16,11 @@ use Rattle.analysis.specs.Check.{analysisRefusal, lowestFault}
 use Rattle.analysis.specs.Required.{inRangeBy, allInRangeIn, lowestFaultIn, refusalIn}
 use Rattle.analysis.specs.Laws.Required.{refusal-register, lowest-register, all-from, refusal-none}
 use Rattle.analysis.specs.Laws.Ranges.{at-most}
+use Rattle.sheet.specs.Read.{readOf}
+use Rattle.sheet.specs.declared.Reading.the-variants.{Read}
+use Rattle.outcome.specs.Laws.Ends.{read-passed, read-long}
 use Rattle.kept.specs.BeforeCheck.{upTo, withGreatest, CEILING_BEFORE, registerBeforeOne, registerBefore}
-use Rattle.kept.specs.BeforeCheck.{WithinCeiling}
+use Rattle.kept.specs.BeforeCheck.{HexanesKept}
 
 -- ---- two registers
 
@@ -55,6 +58,21 @@ refusal-alike : (es fs : List Entry) (a : List ℕ)
 unfolding refusalIn
 refusal-alike es fs a h = ap (λ (b : Bool). refusalByTests b (totalFits (totalOf a))) (all-alike es fs 0 a h)
 
+-- two registers that differ in one code alone, whose amount is in range by both or by none
+alike-but : (es fs : List Entry) (code : ℕ) (a : List ℕ)
+    → ((c : ℕ) → (c ≡ code → ⊥) → statusIn es c ≡ statusIn fs c)
+    → inRangeBy (statusIn es code) (getD a code 0) ≡ inRangeBy (statusIn fs code) (getD a code 0)
+    → (k : ℕ) → inRangeBy (statusIn es (0 + k)) (getD a k 0) ≡ inRangeBy (statusIn fs (0 + k)) (getD a k 0)
+alike-but es fs code a others here k = go (eqb (0 + k) code) refl
+  where
+    go : (b : Bool) → eqb (0 + k) code ≡ b
+        → inRangeBy (statusIn es (0 + k)) (getD a k 0) ≡ inRangeBy (statusIn fs (0 + k)) (getD a k 0)
+    go true e =
+        let p = eqb-true (0 + k) code e in
+        let q : k ≡ code = omega arith in
+        rw (p, q) here
+    go false e = ap (λ (s : Status). inRangeBy s (getD a k 0)) (others (0 + k) (eqb-false (0 + k) code e))
+
 -- another greatest amount of a code says nothing of the others
 status-others : (es : List Entry) (code greatest c : ℕ) → (c ≡ code → ⊥)
     → statusIn (withGreatest code greatest es) c ≡ statusIn es c
@@ -70,41 +88,39 @@ status-others (e ∷ es) code greatest c n =
     go rest true false p q = refl
     go rest true true p q = absurd (n (eqb-true c (e .code) p ∙ sym (eqb-true code (e .code) q)))
 
--- an amount up to two greatest ones is in range by both or by none
+-- an amount up to two greatest ones is in range by both or by none, and so is one above both
 greatest-alike : (least most more x : ℕ) (required : Bool) → x ≤ most → x ≤ more
     → inRangeBy (live least most required) x ≡ inRangeBy (live least more required) x
 greatest-alike least most more x required h k = rw (le-leb x most h, le-leb x more k)
 
--- ---- before One: a code has the status it had but hexanes+, in range alike up to the ceiling
+above-alike : (least most more x : ℕ) (required : Bool) → most < x → more < x
+    → inRangeBy (live least most required) x ≡ inRangeBy (live least more required) x
+above-alike least most more x required h k = rw (lt-leb x most h, lt-leb x more k)
 
-ceiling-alike : (x : ℕ) → x ≤ greatestOf hexanesCode
+-- ---- before One: every code but hexanes+ is what it was, and hexanes+ that are kept are in range alike
+
+ceiling-alike : (x : ℕ) → (x ≤ 6100) ⊎ (CEILING_BEFORE < x)
     → inRangeBy (statusIn registerBeforeOne hexanesCode) x ≡ inRangeBy (statusIn register hexanesCode) x
 unfolding statusOf
-ceiling-alike x h =
+ceiling-alike x (inl h) =
     greatest-alike (leastOf hexanesCode) CEILING_BEFORE (greatestOf hexanesCode) x (requiredOf hexanesCode)
     (omega arith) h
+ceiling-alike x (inr h) =
+    above-alike (leastOf hexanesCode) CEILING_BEFORE (greatestOf hexanesCode) x (requiredOf hexanesCode)
+    h (omega arith)
 
-one-alike : (a : List ℕ) → WithinCeiling a → (k : ℕ)
+one-alike : (a : List ℕ) → HexanesKept a → (k : ℕ)
     → inRangeBy (statusIn registerBeforeOne (0 + k)) (getD a k 0) ≡ inRangeBy (statusIn register (0 + k)) (getD a k 0)
-one-alike a within k = go (eqb (0 + k) hexanesCode) refl
-  where
-    go : (b : Bool) → eqb (0 + k) hexanesCode ≡ b
-        → inRangeBy (statusIn registerBeforeOne (0 + k)) (getD a k 0)
-        ≡ inRangeBy (statusIn register (0 + k)) (getD a k 0)
-    go true e =
-        let p = eqb-true (0 + k) hexanesCode e in
-        let q : k ≡ hexanesCode = omega arith in
-        rw (p, q) (ceiling-alike (getD a hexanesCode 0) within)
-    go false e =
-        ap (λ (s : Status). inRangeBy s (getD a k 0))
-        (status-others register hexanesCode CEILING_BEFORE (0 + k) (eqb-false (0 + k) hexanesCode e))
+one-alike a within =
+    alike-but registerBeforeOne register hexanesCode a (status-others register hexanesCode CEILING_BEFORE)
+    (ceiling-alike (getD a hexanesCode 0) within)
 
--- an analysis within the ceiling is checked as before,
-pub one-kept : (a : List ℕ) → WithinCeiling a → refusalIn registerBeforeOne a ≡ analysisRefusal a
+-- an analysis with such hexanes+ is checked as before,
+pub one-kept : (a : List ℕ) → HexanesKept a → refusalIn registerBeforeOne a ≡ analysisRefusal a
 one-kept a within = refusal-alike registerBeforeOne register a (one-alike a within) ∙ refusal-register a
 
 -- and has the lowest code at fault that it had
-pub one-lowest : (a : List ℕ) → WithinCeiling a → lowestFaultIn registerBeforeOne 0 a ≡ lowestFault 0 a
+pub one-lowest : (a : List ℕ) → HexanesKept a → lowestFaultIn registerBeforeOne 0 a ≡ lowestFault 0 a
 one-lowest a within = lowest-alike registerBeforeOne register 0 a (one-alike a within) ∙ lowest-register 0 a
 
 -- ---- before Seven: every code but 15 is what it was before One
@@ -115,26 +131,17 @@ status-kept c n = status-added registerBefore (drop BASE registerBeforeOne) c (r
 seven-alike : (a : List ℕ) → getD a hydrogenCode 0 ≡ 0 → (k : ℕ)
     → inRangeBy (statusIn registerBefore (0 + k)) (getD a k 0)
     ≡ inRangeBy (statusIn registerBeforeOne (0 + k)) (getD a k 0)
-seven-alike a none k = go (eqb (0 + k) hydrogenCode) refl
-  where
-    go : (b : Bool) → eqb (0 + k) hydrogenCode ≡ b
-        → inRangeBy (statusIn registerBefore (0 + k)) (getD a k 0)
-        ≡ inRangeBy (statusIn registerBeforeOne (0 + k)) (getD a k 0)
-    go true e =
-        let p = eqb-true (0 + k) hydrogenCode e in
-        let q : k ≡ hydrogenCode = omega arith in
-        rw (p, q, none)
-    go false e =
-        ap (λ (s : Status). inRangeBy s (getD a k 0)) (sym (status-kept (0 + k) (eqb-false (0 + k) hydrogenCode e)))
+seven-alike a none =
+    alike-but registerBefore registerBeforeOne hydrogenCode a (λ c n. sym (status-kept c n)) (rw none)
 
--- an analysis without hydrogen and within the ceiling is checked as before
-pub without-kept : (a : List ℕ) → getD a hydrogenCode 0 ≡ 0 → WithinCeiling a
+-- an analysis without hydrogen, with such hexanes+, is checked as before
+pub without-kept : (a : List ℕ) → getD a hydrogenCode 0 ≡ 0 → HexanesKept a
     → refusalIn registerBefore a ≡ analysisRefusal a
 without-kept a none within =
     refusal-alike registerBefore registerBeforeOne a (seven-alike a none) ∙ one-kept a within
 
 -- and has the lowest code at fault that it had
-pub lowest-kept : (a : List ℕ) → getD a hydrogenCode 0 ≡ 0 → WithinCeiling a
+pub lowest-kept : (a : List ℕ) → getD a hydrogenCode 0 ≡ 0 → HexanesKept a
     → lowestFaultIn registerBefore 0 a ≡ lowestFault 0 a
 lowest-kept a none within =
     lowest-alike registerBefore registerBeforeOne 0 a (seven-alike a none) ∙ one-lowest a within
@@ -154,23 +161,27 @@ before-none a l h =
     let t = refusal-none (allInRangeIn registerBefore 0 a) (totalFits (totalOf a)) h .0 in
     unknown-none (getD a hydrogenCode 0) (all-from registerBefore a 0 hydrogenCode t (omega arith))
 
--- what passes is within the ceiling
-pub passed-within : (a : List ℕ) → length a ≡ CODES → analysisRefusal a ≡ 0 → WithinCeiling a
-passed-within a l h = at-most a l h hexanesCode (omega arith)
+-- what passes has no more than is legal, and so has what is read
+pub passed-kept : (a : List ℕ) → length a ≡ CODES → analysisRefusal a ≡ 0 → HexanesKept a
+unfolding statusOf
+passed-kept a l h = inl (at-most a l h hexanesCode (omega arith))
 
--- what passed before One, within the ceiling: what passes
+pub read-passed-kept : (s : List ℕ) → readOf s .answer ≡ Read → HexanesKept (readOf s .analysis .amounts)
+read-passed-kept s h = passed-kept _ (read-long s h) (read-passed s h)
+
+-- what passed before One with such hexanes+: what passes
 pub one-exactly-when : (a : List ℕ) → length a ≡ CODES
-    → ((refusalIn registerBeforeOne a ≡ 0) × WithinCeiling a) ↔ (analysisRefusal a ≡ 0)
+    → ((refusalIn registerBeforeOne a ≡ 0) × HexanesKept a) ↔ (analysisRefusal a ≡ 0)
 one-exactly-when a l = (
   λ h. sym (one-kept a (h .1)) ∙ h .0,
-  λ h. let within = passed-within a l h in (one-kept a within ∙ h, within),
+  λ h. let within = passed-kept a l h in (one-kept a within ∙ h, within),
 )
 
--- what passed before Seven, within the ceiling: what passes, without hydrogen
+-- what passed before Seven with such hexanes+: what passes, without hydrogen
 pub before-exactly-when : (a : List ℕ) → length a ≡ CODES
-    → ((refusalIn registerBefore a ≡ 0) × WithinCeiling a)
+    → ((refusalIn registerBefore a ≡ 0) × HexanesKept a)
     ↔ ((analysisRefusal a ≡ 0) × (getD a hydrogenCode 0 ≡ 0))
 before-exactly-when a l = (
   λ h. let none = before-none a l (h .0) in (sym (without-kept a none (h .1)) ∙ h .0, none),
-  λ h. let within = passed-within a l (h .0) in (without-kept a (h .1) within ∙ h .0, within),
+  λ h. let within = passed-kept a l (h .0) in (without-kept a (h .1) within ∙ h .0, within),
 )

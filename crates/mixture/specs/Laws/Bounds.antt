@@ -42,12 +42,12 @@ inert-greatest a p = share-greatest (tenthsTotal a) (amountOfCode a 11) p
 
 -- ---- an analysis in range: the bounds follow from the register
 
--- the least and the greatest amount of a code, computed wherever these are used
+-- the least and the greatest amount of a code, as `leastOf` and `greatestOf`, but seen through wherever they are used
 abbrev least : ℕ → ℕ
 least code = leastBy (statusIn register code)
 
-abbrev most : ℕ → ℕ
-most code = greatestBy (statusIn register code)
+abbrev greatest : ℕ → ℕ
+greatest code = greatestBy (statusIn register code)
 
 -- a bound of T from below: methane's alone
 abbrev pub LEAST_TENTHS : ℕ
@@ -55,13 +55,13 @@ LEAST_TENTHS = 10 * least 1
 
 -- the greatest T, at the greatest total with nothing inert and at the greatest pentanes and hexanes+
 abbrev pub GREATEST_TENTHS : ℕ
-GREATEST_TENTHS = 10 * GREATEST_SUM + 13 * (most 6 + most 7 + most 8) + 43 * most 10
+GREATEST_TENTHS = 10 * GREATEST_SUM + 13 * (greatest 6 + greatest 7 + greatest 8) + 43 * greatest 10
 
--- a component that is present has 10 parts at least, so 100 tenths of a part,
+-- a component that is present has what butanes have at least, 10 parts, in tenths of a part,
 abbrev pub LEAST_PRESENT : ℕ
-LEAST_PRESENT = 100
+LEAST_PRESENT = 10 * least 4
 
--- and these in the greatest T after simplification
+-- and after simplification what these come to in the greatest T, rounded down
 abbrev pub LEAST_PARTS : ℕ
 LEAST_PARTS = LEAST_PRESENT * MILLION / GREATEST_TENTHS
 
