@@ -24,8 +24,9 @@
    Since version 1.2 codes 2 to 5 may be absent, which was refused 5 before, and a split may have 6 records. Since
    version 1.3 hydrogen has code 15, which was refused 2 in a sheet and 5 in an analysis; a sheet may list 12 components
    and have a split of 12, 15, 18 or 21 records, which was refused 1. Since version 1.4 the code with 5 is the lowest at
-   fault; before, it was any one at fault. A gas that was rated before has the rating, the split and the rounds that it
-   had.
+   fault; before, it was any one at fault. Since version 1.5 more than 6100 parts of hexanes+ are refused 5; before,
+   more than 15000 were. A gas that was rated before and is in range still has the rating, the split and the rounds that
+   it had.
 
    The functions keep nothing between calls, so several threads may call them at once. They use no heap, no floating
    point but in saugrinte_controller, and of a C library memcpy alone. No pointer may be null, not even with a length,
@@ -48,7 +49,7 @@
 extern "C" {
 #endif
 
-#define SAUGRINTE_VERSION 10400     /* of this header, 1.4.0: 10000, 100 and 1 times its three figures */
+#define SAUGRINTE_VERSION 10500     /* of this header, 1.5.0: 10000, 100 and 1 times its three figures */
 
 #define SAUGRINTE_CODES 16          /* entries of an analysis, one for each code from 0 to 15 */
 #define SAUGRINTE_RECORDS 21        /* room for a split's records */
@@ -76,21 +77,21 @@ enum {
     SAUGRINTE_SHARE = 17            /* share: a share outside the system's range of validity */
 };
 
-/* Component codes; 9 and 13 are retired and never given again. */
+/* Component codes, each with the range of its amount; 9 and 13 are retired and never given again. */
 enum {
-    SAUGRINTE_METHANE = 1,
-    SAUGRINTE_ETHANE = 2,
-    SAUGRINTE_PROPANE = 3,
-    SAUGRINTE_I_BUTANE = 4,
-    SAUGRINTE_N_BUTANE = 5,
-    SAUGRINTE_NEO_PENTANE = 6,
-    SAUGRINTE_I_PENTANE = 7,
-    SAUGRINTE_N_PENTANE = 8,
-    SAUGRINTE_HEXANES = 10,
-    SAUGRINTE_CARBON_DIOXIDE = 11,
-    SAUGRINTE_NITROGEN = 12,
+    SAUGRINTE_METHANE = 1,          /* 400000..999700 parts, and must be present */
+    SAUGRINTE_ETHANE = 2,           /* 100..150000 parts */
+    SAUGRINTE_PROPANE = 3,          /* 100..60000 parts */
+    SAUGRINTE_I_BUTANE = 4,         /* 10..40000 parts */
+    SAUGRINTE_N_BUTANE = 5,         /* 10..40000 parts */
+    SAUGRINTE_NEO_PENTANE = 6,      /* 10..500 parts */
+    SAUGRINTE_I_PENTANE = 7,        /* 10..20000 parts */
+    SAUGRINTE_N_PENTANE = 8,        /* 10..20000 parts */
+    SAUGRINTE_HEXANES = 10,         /* 10..6100 parts */
+    SAUGRINTE_CARBON_DIOXIDE = 11,  /* 50..100000 parts */
+    SAUGRINTE_NITROGEN = 12,        /* 50..150000 parts */
     SAUGRINTE_BUTANES = 14,         /* in splits only */
-    SAUGRINTE_HYDROGEN = 15
+    SAUGRINTE_HYDROGEN = 15         /* 10..100000 parts */
 };
 
 /* 0 for done, or the refusal's number with its place. */

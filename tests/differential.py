@@ -259,7 +259,7 @@ def half_gas(draw):
 def fitness_tie_gas(draw):
     """Systems 2 and 4 equally fit: 100 times butane is 48 times methane."""
     while True:
-        a = list(gases.rich_gas(draw))
+        a = list(gases.butane_gas(draw))
         a[1] = 0
         near = 100 * ref.tenths(a)[3] // 480
         for methane in range(near - 30, near + 31):
@@ -506,6 +506,47 @@ def blend_cases(cases, exact, seed):
         blend_split_cases(cases, draw, gases.small_blend(draw))
 
 
+# ------------------------------------------------------------ the ceiling of hexanes+
+
+CEILING, BEFORE = 6100, 15000       # the greatest amount in range, and the one before request One
+# In range; then out of it, 15000 and all between among them.
+HEXANES = {'hexanes+ 6099': (CEILING - 1, CEILING - 1), 'hexanes+ 6100': (CEILING, CEILING),
+           'hexanes+ 6101': (CEILING + 1, CEILING + 1), 'hexanes+ 6102 to 14999': (CEILING + 2, BEFORE - 1),
+           'hexanes+ 15000': (BEFORE, BEFORE), 'hexanes+ 15001': (BEFORE + 1, BEFORE + 1)}
+
+
+def with_hexanes(draw, amount):
+    """Any gas with so much hexanes+, in range but for that; methane makes up the total."""
+    while True:
+        a = list(gases.any_gas(draw))
+        a[10] = amount
+        a[1] = 0
+        a[1] = draw.between(999900, 1000100) - sum(a)
+        if ref.RANGE[1][0] <= a[1] <= ref.RANGE[1][1]:
+            return tuple(a)
+
+
+def hexanes_cases(cases, exact, seed):
+    """Hexanes+ about its ceiling; and above it, up to the ceiling before, beside another code at fault: the lower
+    comes with 5."""
+    draw = gases.Draw(seed + 7)
+    for kind, (least, greatest) in HEXANES.items():
+        for _ in range(4):
+            analysis = with_hexanes(draw, draw.between(least, greatest))
+            if least > CEILING and ref.check(analysis) != ref.Refusal(5, 10):
+                raise Difference('the reference has %s for %s, 10 is at fault' % (ref.check(analysis), analysis))
+            both_cases(cases, exact, kind, analysis)
+    for other in gases.CODES:
+        if other == 10:
+            continue
+        a = list(with_hexanes(draw, draw.between(CEILING + 1, BEFORE)))
+        a[other] = wrong_amount(draw, other)
+        code, kind = min(other, 10), 'hexanes+ and %d at fault' % other
+        faulty_analysis_cases(cases, draw, kind, tuple(a), code)
+        records = gases.random_records(draw) if draw.one_in(2) else None
+        faulty_sheet_cases(cases, kind, gases.sheet_of(gases.listed_of(a), records), code)
+
+
 # ------------------------------------------------------------ several codes at fault
 
 NO_CODE = 0, 9, 13, 14      # no amount is legal there
@@ -735,6 +776,7 @@ def part_cases(seed, sheets, first):
     seldom_cases(cases, exact, seed)
     lean_cases(cases, exact, seed)
     blend_cases(cases, exact, seed)
+    hexanes_cases(cases, exact, seed)
     fault_cases(cases, seed)
     call_cases(cases, seed, sheets)
     for kind, sheet in itertools.islice(gases.sheets(seed, SEARCH_ONE_IN), sheets):
@@ -775,20 +817,20 @@ NO_SYSTEMS = 0, 9, 10, 11, 19, 21, U32 - 1
 # seed gives; of several codes at fault, of the ends of shares and of the cases kept in tests/data all.
 LEAST = {
     # sheets without a split
-    'search even_gas': {0: 300, 11: 5},
-    'search limit_gas': {0: 150, 11: 20},
-    'search rich_gas': {0: 40, 11: 100},
+    'search even_gas': {0: 260},
+    'search limit_gas': {0: 200, 11: 10},
+    'search rich_gas': {0: 140, 11: 120},
     'search small_gas': {0: 500},
     'search tie_gas': {0: 150},
-    'search lean_gas': {0: 250, 11: 5},
+    'search lean_gas': {0: 220, 11: 4},
     'search heavy_gas': {0: 120},
-    'search rich_lean_gas': {0: 4, 11: 100},
+    'search rich_lean_gas': {11: 140},
     'search trace_gas': {0: 120},
     'search alone_gas': {16: 120},
-    'search even_blend': {0: 130, 11: 3},
+    'search even_blend': {0: 130},
     'search small_blend': {0: 270},
-    'search limit_blend': {0: 90, 11: 15},
-    'search rich_blend': {0: 120, 11: 1},
+    'search limit_blend': {0: 110, 11: 10},
+    'search rich_blend': {0: 110, 11: 4},
     'search lean_blend': {0: 240, 11: 15},
     'search tie_blend': {0: 140},
     'search fitness_tie_blend': {0: 125},
@@ -838,6 +880,10 @@ LEAST = {
     '188 bytes': {7: 10},
     '189 bytes': {1: 10},
     '13 components': {1: 10},
+    # the ceiling of hexanes+: in range, above it, and beside another code at fault
+    **{'hexanes+ %d' % amount: {0: 110, 10: 40, 11: 7} for amount in (6099, 6100)},
+    **{'hexanes+ ' + amount: {5: 320} for amount in ('6101', '6102 to 14999', '15000', '15001')},
+    **{'hexanes+ and %d at fault' % code: {5: 100} for code in (*range(1, 9), 11, 12, 15)},
     # several codes at fault: in a sheet how the lowest of them stands, and the others; the lowest; in an analysis
     **{'at fault: ' + ways: {5: 320} for ways in (
         'absent, at 0', 'absent, out of range', 'absent, at 0, out of range', 'absent, out of range, at 0',
@@ -940,7 +986,7 @@ LEAST = {
     'kept: would-empty': {11: 24},
 }
 # Each number, of all kinds together; and ratings compared with the exact fraction.
-LEAST_NUMBERS = {0: 90000, 1: 20000, 2: 4500, 3: 5000, 4: 9000, 5: 19000, 6: 6300, 7: 11000, 8: 9000, 9: 1500,
+LEAST_NUMBERS = {0: 90000, 1: 20000, 2: 4500, 3: 5000, 4: 9000, 5: 21000, 6: 6300, 7: 11000, 8: 9000, 9: 1500,
                  10: 6000, 11: 1000, 12: 2000, 13: 1000, 14: 10000, 16: 2500, 17: 700}
 LEAST_EXACT = 4000
 

@@ -5,8 +5,9 @@
 
 The published gases, without a split and with the found one; the sheets kept in tests/data, at the limits of the spread
 and of the search; document 01's own cases: totals and ethane at their limits, its seven bytes, one byte more, and none;
-request Five's: lean gases, with splits of six and nine records, and methane alone; and request Seven's: hydrogen blends,
-with splits of fifteen records, codes about 15, the ends of hydrogen's range, the longest sheet.
+request One's: hexanes+ at its ceiling and above; request Five's: lean gases, with splits of six and nine records, and
+methane alone; and request Seven's: hydrogen blends, with splits of fifteen records, codes about 15, the ends of
+hydrogen's range, the longest sheet.
 """
 import os
 import subprocess
@@ -56,7 +57,7 @@ def changed(**amounts):
 
 
 def scope():
-    """(name, sheet, line) of document 01's own cases; None for a line that it leaves to the rules."""
+    """(name, sheet, line) of document 01's own cases and request One's; None for a line left to the rules."""
     sheet = ref.layout(TABLE_A1, ref.search(TABLE_A1).split)
     assert len(sheet) == 111
     rest = TABLE_A1[1] + TABLE_A1[2]
@@ -67,6 +68,8 @@ def scope():
     yield 'total 1000101', changed(c1=970899), 'REFUSED 6\n'
     yield 'ethane 99', changed(c1=rest - 99, c2=99), 'REFUSED 5\n'
     yield 'ethane 100', changed(c1=rest - 100, c2=100), None
+    for amount, line in ((6100, None), (6101, 'REFUSED 5\n'), (15000, 'REFUSED 5\n')):
+        yield 'hexanes+ %d' % amount, changed(c1=970797 + 84 - amount, c10=amount), line
     yield '111 bytes', sheet, 'RATED 910787384 91 369794 0\n'
     yield 'one byte less', sheet[:-1], 'REFUSED 1\n'
     yield 'one byte more', sheet + b'\0', 'REFUSED 1\n'

@@ -4,16 +4,16 @@
   python3 tests/header.py
 
 Compared: the version, the sizes, the greatest allowance, each refusal with its word (README.md has document 01's
-table), each component code with its name in the register, that the library has the functions that the header
-declares, and that each has the promise of the function that it calls, word for word: the must-fail edits of the C
-interface wrong the functions that are called.
+table), each component code with its name and its range in the register, that the library has the functions that the
+header declares, and that each has the promise of the function that it calls, word for word: the must-fail edits of the
+C interface wrong the functions that are called.
 """
 import os
 import re
 import sys
 
 ROOT = os.path.join(os.path.dirname(os.path.abspath(__file__)), '..')
-RETIRED, SPLITS_ONLY = 'retired', 'splitsOnly'
+LIVE, RETIRED, SPLITS_ONLY = 'live', 'retired', 'splitsOnly'
 NOT_YET = {15, 18}          # refusals of mole analyses, which come with request Two
 
 
@@ -83,6 +83,21 @@ def same_promise(name, promise, body):
             fail('%s in the promises of %s and %s::%s is not the same' % (word, name, call[1], call[2]))
 
 
+def remarks(body):
+    """Each name of an enum with its value and the remark after it."""
+    return {n: (int(v), remark)
+            for n, v, remark in re.findall(r'^    SAUGRINTE_([A-Z_]+) = ([0-9]+),? +/\* (.*) \*/$', body, re.M)}
+
+
+def range_of(register, code):
+    """What the header says of a code by the register: its range, and whether it must be present."""
+    status = re.search(r'^    entry %d \(?([^)\n]*?)\)? ∷$' % code, register, re.M).group(1).split()
+    if status == [SPLITS_ONLY]:
+        return 'in splits only'
+    live, least, greatest, required = status
+    return live == LIVE and least + '..' + greatest + ' parts' + ', and must be present' * (required == 'true')
+
+
 def sheet_bytes():
     """The bytes of the longest sheet by the source's own sum."""
     source = text('crates', 'sheet', 'src', 'lib.rt')
@@ -131,6 +146,11 @@ def main():
         fail('other codes than in the register: %s' % codes)
     if max(codes.values()) >= macros['CODES']:
         fail('a code without a place in an analysis')
+    # and each one's range, in the remark after it
+    for name, (code, remark) in remarks(enums[1]).items():
+        same('the range of %s (code %s)' % (name, code), remark, range_of(register, code))
+    if len(remarks(enums[1])) != len(codes):
+        fail('a code without its range')
 
     # functions
     declared = set(re.findall(r'^\w+ (saugrinte_\w+)\(', header, re.M))
@@ -142,8 +162,8 @@ def main():
         fail('the library has other functions than it exports')
     for name, (promise, body) in handed_on.items():
         same_promise(name, promise, body)
-    print('header: version %d, %d sizes, %d refusals, %d codes and %d functions are the library\'s' % (
-        macros['VERSION'], len(macros) - 1, len(refusals), len(codes), len(declared)))
+    print('header: version %d, %d sizes, %d refusals, %d codes with their ranges and %d functions are the library\'s'
+          % (macros['VERSION'], len(macros) - 1, len(refusals), len(codes), len(declared)))
 
 
 if __name__ == '__main__':

@@ -105,6 +105,11 @@ def hydrogen(amount):
     return changed(c1=970797 - amount, c15=amount)
 
 
+def hexanes(amount):
+    """The gas of Table A.1 with so much hexanes+, what is more than its own for methane."""
+    return changed(c1=970797 + 84 - amount, c10=amount)
+
+
 def chosen(line):
     """The systems of the split that a driver printed for a search, without the guards."""
     count, systems = (bytes.fromhex(word)[8:-8] for word in line.split()[3:5])
@@ -132,6 +137,10 @@ def fixed(driver):
     for amount, number in ((9, 5), (10, 0), (100000, 0), (100001, 5)):
         asked.append('search 00 4000 %s' % d.amounts(hydrogen(amount)).hex())
         wanted.append('%d %d' % (number, 15 if number else 0))
+    # the greatest amount of hexanes+, one part more, and what was the greatest before request One
+    for amount, number in ((6100, 0), (6101, 5), (15000, 5)):
+        asked.append('search 00 4000 %s' % d.amounts(hexanes(amount)).hex())
+        wanted.append('%d %d' % (number, 10 if number else 0))
     for code, want in ((14, '2 0'), (15, '5 1'), (16, '2 0')):
         asked.append('rate 00 01%02x0000006400' % code)
         wanted.append(want)

@@ -99,7 +99,9 @@ def refused():
     yield changed(c2=150001), 5, 'ethane 15.0001 % is outside 0.01 to 15 %'
     yield changed(c1=399999), 5, 'methane 39.9999 % is outside 40 to 99.97 %'
     yield changed(c6=501, c10=9), 5, \
-        'neo-pentane 0.0501 % is outside 0.001 to 0.05 %; hexanes+ 0.0009 % is outside 0.001 to 1.5 %'
+        'neo-pentane 0.0501 % is outside 0.001 to 0.05 %; hexanes+ 0.0009 % is outside 0.001 to 0.61 %'
+    yield changed(c10=6101), 5, 'hexanes+ 0.6101 % is outside 0.001 to 0.61 %'
+    yield changed(c10=15000), 5, 'hexanes+ 1.5 % is outside 0.001 to 0.61 %'
     yield changed(c15=4294967295), 5, 'hydrogen 429496.7295 % is outside 0.001 to 10 %'
     yield components((1, 970000), (12, 0)), 5, \
         'nitrogen 0 % is outside 0.005 to 15 % (leave it out where it is absent)'

@@ -20,10 +20,14 @@ LESS = (0, 970697, 16658, 2417, 346, 245, 11, 73, 125, 0, 84, 528, 8715, 0, 0, 0
 LEAST = (0, 970698, 16658, 2417, 346, 245, 11, 73, 125, 0, 84, 528, 8715, 0, 0, 0)
 ETHANE_99 = (0, 969901, 99, 20000, 5000, 5000, 0, 0, 0, 0, 0, 0, 0, 0, 0, 0)
 ETHANE_100 = (0, 969900, 100, 20000, 5000, 5000, 0, 0, 0, 0, 0, 0, 0, 0, 0, 0)
+# The greatest amount of hexanes+; one part more; the greatest before request One.
+HEXANES = ((0, 964781, 16658, 2417, 346, 245, 11, 73, 125, 0, 6100, 528, 8715, 0, 0, 0),
+           (0, 964780, 16658, 2417, 346, 245, 11, 73, 125, 0, 6101, 528, 8715, 0, 0, 0),
+           (0, 955881, 16658, 2417, 346, 245, 11, 73, 125, 0, 15000, 528, 8715, 0, 0, 0))
 TIES = ((0, 856641, 19981, 19981, 18632, 19263, 0, 0, 0, 0, 0, 65502, 0, 0, 0, 0),
         (0, 833065, 30857, 30857, 2859, 10119, 0, 0, 0, 0, 0, 92243, 0, 0, 0, 0),
         (0, 826050, 26606, 26606, 33680, 11276, 0, 0, 0, 0, 0, 75782, 0, 0, 0, 0))
-BUTANE = (0, 504500, 150000, 60000, 40000, 40000, 500, 20000, 20000, 0, 15000, 0, 150000, 0, 0, 0)
+BUTANE = (0, 413400, 150000, 60000, 40000, 40000, 500, 20000, 20000, 0, 6100, 100000, 150000, 0, 0, 0)
 
 # Methane with ethane; with propane; with butane; with pentanes and hexanes+ for butane; with 10 parts of i-butane; with
 # 10 parts of neo-pentane; without butane; without propane; without ethane.
@@ -56,7 +60,7 @@ BLENDS = ((0, 900000, 0, 0, 0, 0, 0, 0, 0, 0, 0, 50000, 0, 0, 0, 50000),
           (0, 880000, 30000, 20000, 0, 0, 0, 0, 0, 0, 0, 20000, 0, 0, 0, 50000),
           (0, 880000, 30000, 0, 0, 20000, 0, 0, 0, 0, 0, 20000, 0, 0, 0, 50000),
           (0, 880000, 0, 20000, 0, 30000, 0, 0, 0, 0, 0, 20000, 0, 0, 0, 50000),
-          (0, 404500, 100000, 60000, 40000, 40000, 500, 20000, 20000, 0, 15000, 50000, 150000, 0, 0, 100000))
+          (0, 403400, 150000, 60000, 40000, 40000, 500, 20000, 20000, 0, 6100, 50000, 150000, 0, 0, 60000))
 # Ethane 20000 beside hydrogen; the ends of hydrogen's range.
 HYDROGEN_9 = (0, 979991, 20000, 0, 0, 0, 0, 0, 0, 0, 0, 0, 0, 0, 0, 9)
 HYDROGEN_10 = (0, 979990, 20000, 0, 0, 0, 0, 0, 0, 0, 0, 0, 0, 0, 0, 10)
@@ -97,7 +101,7 @@ def mixture(gas):
 
 def text():
     lines = [search(GAS, 0), search(GAS), back(GAS), search(LESS), search(LEAST), search(ETHANE_99),
-             search(ETHANE_100), *map(mixture, TIES), mixture(BUTANE), search(BUTANE), back(BUTANE),
+             search(ETHANE_100), *map(search, HEXANES), *map(mixture, TIES), *gas_lines(BUTANE),
              *(line for gas in (*LEAN, MIX_1) for line in gas_lines(gas)),
              mixture(ALONE), search(ALONE), search(ALONE, 0), search(ALONE_LESS), search(NONE),
              # six records and nine: for three systems, two, and methane alone, 16 before 7
@@ -111,6 +115,8 @@ def text():
     # what document 01 and 001 say of these gases
     assert lines[0] == 'REFUSED 11\n' and lines[3] == 'REFUSED 6\n' and lines[5] == 'REFUSED 5\n'
     assert (sum(LESS), sum(LEAST)) == (999899, 999900)
+    # and request One
+    assert lines[7].startswith('RATED') and lines[8] == lines[9] == 'REFUSED 5\n'
     assert reference.choose(reference.simplify(BUTANE)) == (2, 7, 8)
     # and request Five
     assert [len(reference.choose(reference.simplify(gas))) for gas in LEAN] == [2] * 6 + [3] * 3
@@ -127,9 +133,9 @@ def main():
     if sys.argv[1:] == ['--check']:
         source = open(os.path.join(CRATE, 'src', 'main.rt'), encoding='utf-8').read()
         listed = {tuple(map(int, re.findall('[0-9]+', row))) for row in re.findall(r'\[(\s*0,[0-9,\s]+)\]', source)}
-        if listed != {GAS, LESS, LEAST, ETHANE_99, ETHANE_100, *TIES, BUTANE, *LEAN, MIX_1, ALONE, ALONE_LESS, NONE,
-                      EXAMPLE_3, MIX_9, *BLENDS, HYDROGEN_9, HYDROGEN_10, HYDROGEN_100000, HYDROGEN_100001, TRACE,
-                      BUTANE_BEFORE_HYDROGEN}:
+        if listed != {GAS, LESS, LEAST, ETHANE_99, ETHANE_100, *HEXANES, *TIES, BUTANE, *LEAN, MIX_1, ALONE, ALONE_LESS,
+                      NONE, EXAMPLE_3, MIX_9, *BLENDS, HYDROGEN_9, HYDROGEN_10, HYDROGEN_100000, HYDROGEN_100001,
+                      TRACE, BUTANE_BEFORE_HYDROGEN}:
             sys.exit('rating_cases.py: other gases than those of the program')
         if open(os.path.join(CRATE, 'stdout'), encoding='utf-8').read() != text():
             sys.exit('rating_cases.py: the file stdout holds other lines')

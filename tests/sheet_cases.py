@@ -1,5 +1,6 @@
 #!/usr/bin/env python3
-"""Cases for reading and writing sheets, with the answers that document 01 and requests Four, Five and Seven fix.
+"""Cases for reading and writing sheets, with the answers that document 01 and requests One, Four, Five and
+Seven fix.
 
 sheet_cases.py           writes crates/sheet_cases/data/ and crates/sheet_cases/stdout
 sheet_cases.py --check   compares those files with what is made here
@@ -30,7 +31,7 @@ CRATE = os.path.join(os.path.dirname(os.path.abspath(__file__)), '..', 'crates',
 
 # Least and greatest amount in parts, by code.
 RANGE = {1: (400000, 999700), 2: (100, 150000), 3: (100, 60000), 4: (10, 40000), 5: (10, 40000), 6: (10, 500),
-         7: (10, 20000), 8: (10, 20000), 10: (10, 15000), 11: (50, 100000), 12: (50, 150000), 15: (10, 100000)}
+         7: (10, 20000), 8: (10, 20000), 10: (10, 6100), 11: (50, 100000), 12: (50, 150000), 15: (10, 100000)}
 RETIRED = (9, 13)
 UNKNOWN = (0, 14, *range(16, 256))      # as components
 REQUIRED = (1,)
@@ -275,9 +276,23 @@ def amounts():
     # Methane at its ends.
     yield sheet([(1, 999700), (2, 100), (3, 100), (4, 50), (5, 50)])
     yield sheet([(1, 999701), (2, 100), (3, 100), (4, 50), (5, 49)])
-    for methane, hexanes in ((400000, 15000), (405000, 15000), (399999, 20000)):
+    for methane, hexanes, hydrogen in ((400000, 6100, 0), (413900, 6100, 0), (400000, 6100, 13900),
+                                       (399999, 6100, 13901), (399999, 6101, 13900)):
         yield sheet([(1, methane), (2, 150000), (3, 60000), (4, 40000), (5, 40000), (7, 20000), (8, 20000),
-                     (10, hexanes), (11, 100000), (12, 150000)])
+                     (10, hexanes), (11, 100000), (12, 150000)] + [(15, hydrogen)] * (hydrogen > 0))
+    # Hexanes+ at its ceiling, above it, and at the ceiling before request One: listed in each kind of gas, with and
+    # without a split; before it a code that is out of order, unknown or retired, or a byte left over; beside it another
+    # code at fault, below and above; and a total out of range.
+    for amount in (6099, 6100, 6101, 6102, 10000, 14999, 15000, 15001):
+        for base, split in ((GAS, ()), (GAS, START), (BLEND, BLEND_SPLIT), ([(1, 990000), (10, 10000)], LEAN_START)):
+            at = [c for c, _ in base].index(10)
+            right = put(put(base, at, None, amount), 0, None, base[0][1] + base[at][1] - amount)
+            yield from (sheet(right, split), sheet(right, split) + b'\0', sheet(right, split[:-1]))
+            yield from (sheet(put(right, 0, code), split) for code in (0, 9, 10, 11))
+            for other, wrong in ((0, 399999), (0, 999701), (len(base) - 1, 9), (len(base) - 1, U32)):
+                yield sheet(put(right, other, None, wrong), split)
+            for total in (-200, 200):
+                yield sheet(put(right, 0, None, right[0][1] + total), split)
     # Ethane 99 and 100.
     yield sheet([(1, 969901), (2, 99), (3, 20000), (4, 5000), (5, 5000)])
     yield sheet([(1, 969900), (2, 100), (3, 20000), (4, 5000), (5, 5000)])
@@ -342,6 +357,8 @@ def writings():
         yield from ((blend, split), (hydrogen, split))
         for amount in (9, 10, 100000, 100001):
             yield [0, 900000 - amount, 100000] + [0] * 12 + [amount], split
+        for amount in (6100, 6101, 15000):
+            yield [0, 900000 - amount, 100000] + [0] * 7 + [amount] + [0] * 5, split
         yield blend[:14] + [1] + blend[15:], split
         for code in range(CODES):
             for amount in (0, 1, 9, 99, 100, 40000, 1000000, U32):
@@ -420,6 +437,11 @@ def self_test():
         assert line(sheet(put(GAS, 0, None, total - rest))).startswith(answer)
     assert line(sheet([(1, 969901), (2, 99), (3, 20000), (4, 5000), (5, 5000)])) == 'REFUSED 5 2'
     assert line(sheet([(1, 969900), (2, 100), (3, 20000), (4, 5000), (5, 5000)])).startswith('READ')
+    # and request One
+    for amount, answer in ((6100, 'READ'), (6101, 'REFUSED 5 10'), (15000, 'REFUSED 5 10'), (15001, 'REFUSED 5 10')):
+        assert line(sheet([(1, 990000 - amount), (2, 10000), (10, amount)])).startswith(answer)
+        assert line(sheet([(1, 990000 - amount), (2, 99), (10, amount)])) == 'REFUSED 5 2'
+        assert line(sheet([(1, 990000 - amount), (10, amount), (9, 100)])) == 'REFUSED 3 2'
     # and request Four
     for records, code in (([(1, 970000), (6, 0), (7, 20001)], 6), ([(6, 0), (7, 20001)], 1),
                           ([(1, 970000), (2, 99), (6, 0)], 2), ([(1, 970000), (3, 60001), (6, 0), (8, 9)], 3),

@@ -250,16 +250,16 @@ def names():
         for name in taken:
             for form in (name, name.upper(), name.lower(), name.title()):
                 count += 1
-                expect(form, sheet_of(form + ' 1.5\n') == one(code, 15000), sheet_of(form + ' 1.5\n'))
+                expect(form, sheet_of(form + ' 0.05\n') == one(code, 500), sheet_of(form + ' 0.05\n'))
     taken = {gas.key(name.strip('"\'')) for taken in NAMES_TAKEN.values() for name in taken}
     for name in NAMES_OF_TWO:
         for form in (name, name.upper(), name.lower()):
-            said = sheet_of(form + ' 1.5\n')
+            said = sheet_of(form + ' 0.05\n')
             good = isinstance(said, str) and said.startswith("line 1: '%s' could be " % form)
             advised = re.findall(r'\b(?:neoC5|[in]C[45]\b|C6\+)', said) if good else ()
             expect(form, good and advised and all(gas.key(a) in taken for a in advised), said)
     for name in NO_NAMES:
-        said = sheet_of(name + ' 1.5\n')
+        said = sheet_of(name + ' 0.05\n')
         expect('%s as a name' % name, isinstance(said, str) and said.startswith('line 1: '), said)
     expect('all names', set(gas.CODES) == taken, set(gas.CODES) ^ taken)
     expect('all names of two', set(gas.MEANINGS) == set(map(gas.key, NAMES_OF_TWO)), gas.MEANINGS.keys())

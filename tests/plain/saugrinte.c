@@ -40,7 +40,7 @@ static const struct { uint32_t least, greatest; int required; } ranges[CODES] = 
     { 10, 20000, 0 },
     { 10, 20000, 0 },
     { 0, 0, 0 },
-    { 10, 15000, 0 },
+    { 10, 6100, 0 },
     { 50, 100000, 0 },
     { 50, 150000, 0 },
     { 0, 0, 0 },

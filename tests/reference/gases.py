@@ -83,11 +83,16 @@ def amount_limit(draw, code):
 
 
 def amount_rich(draw, code):
-    """Much butane and inert gas, so that system 2 can be chosen."""
+    """Much butane and inert gas."""
     least, greatest = ref.RANGE[code]
     if code in (2, 3):
         return draw.between(least, greatest)
     return draw.between(greatest - greatest // 8, greatest)
+
+
+def amount_most(draw, code):
+    greatest = ref.RANGE[code][1]
+    return draw.between(greatest - greatest // 32, greatest)
 
 
 def gas(draw, amount, absent_one_in=4, hydrogen=False):
@@ -126,8 +131,30 @@ def limit_gas(draw):
     return gas(draw, limits)
 
 
+def butane_gas(draw, hydrogen=False):
+    """Butane weighs as much as methane, 100 times the one 48 times the other,
+    or more, so that system 2 can be chosen: nearly the most of all that makes
+    butane, little methane, and inert gases for the rest."""
+    while True:
+        a = [0] * ref.CODES
+        for code in BUTANE_CODES:
+            a[code] = amount_most(draw, code)
+        for code in (2, 3):
+            a[code] = (amount_even if hydrogen else amount_most)(draw, code)
+        if hydrogen:
+            a[15] = amount_even(draw, 15)
+        a[1] = draw.between(ref.RANGE[1][0], 100 * ref.tenths(a)[ref.B] // 480)
+        rest = draw.between(999900, 1000100) - sum(a)
+        if not 100 <= rest <= 250000:
+            continue
+        a[11] = draw.between(max(50, rest - 150000), min(100000, rest - 50))
+        a[12] = rest - a[11]
+        if not ref.check(a):
+            return tuple(a)
+
+
 def rich_gas(draw):
-    return gas(draw, amount_rich, 64)
+    return butane_gas(draw) if draw.one_in(2) else gas(draw, amount_rich, 64)
 
 
 def tie_gas(draw):
@@ -194,7 +221,8 @@ def heavy_gas(draw):
 
 
 def rich_lean_gas(draw):
-    """Much butane and no propane, so that system 2 can be chosen."""
+    """Much butane and no propane.  System 2 cannot be chosen: there is always
+    methane enough to outweigh the butane."""
     while True:
         a = [0] * ref.CODES
         a[2] = amount_even(draw, 2)
@@ -237,7 +265,8 @@ def limit_blend(draw):
 
 
 def rich_blend(draw):
-    return gas(draw, amount_rich, 64, True)
+    return butane_gas(draw, True) if draw.one_in(2) \
+        else gas(draw, amount_rich, 64, True)
 
 
 def lean_blend(draw):

@@ -158,10 +158,10 @@ def gases():
     made = "made for this test"
     out += [(name, (0, *codes, 0, 0, 0), "-", made + "; " + why)
             for name, codes, why in (
-        ("rich-2", (494500, 60000, 60000, 40000, 40000, 500, 20000, 20000, 0,
-                    15000, 100000, 150000), "system 2 is chosen"),
-        ("fitness-tie", (524697, 30000, 60000, 40000, 40000, 500, 20000,
-                         20000, 0, 14850, 100000, 149953),
+        ("rich-2", (413400, 150000, 60000, 40000, 40000, 500, 20000, 20000, 0,
+                    6100, 100000, 150000), "system 2 is chosen"),
+        ("fitness-tie", (428083, 145000, 50333, 40000, 40000, 500, 20000,
+                         20000, 0, 6100, 100000, 149984),
          "systems 2 and 4 equally fit"),
     )]
     # T is 8000000: an amount's remainder is a quarter of (amount mod 4).
@@ -220,6 +220,9 @@ def show_gases():
         got = ref.rate(ref.layout(analysis, None))
         systems = ref.choose(ref.simplify(analysis))
         assert systems == CHOICE.get(name, (4, 7, 8)), name
+        if name == "fitness-tie":
+            fit = ref.fitness(ref.simplify(analysis))
+            assert fit[2] == fit[4]
         systems = ",".join(map(str, systems))
         if isinstance(got, ref.Refusal):
             assert REFUSED.get(name) == got.number, name

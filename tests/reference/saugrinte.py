@@ -1,7 +1,8 @@
 """Reference program for the methane number rating, written from document 01,
-for the code with refusal 5 from request Four of document 02, for lean gases
-from its request Five, for single systems from its request Six and for hydrogen
-blends from its request Seven, alone.  Whole numbers and exact fractions only.
+for the ceiling of hexanes+ from request One of document 02, for the code with
+refusal 5 from its request Four, for lean gases from its request Five, for
+single systems from its request Six and for hydrogen blends from its request
+Seven, alone.  Whole numbers and exact fractions only.
 
 An analysis is a tuple of 16 amounts in parts, indexed by code; 0 is absent,
 and no amount is legal at 0, 9, 13 and 14.  A split is three records (system,
@@ -31,7 +32,7 @@ LONGEST = 188
 RANGE = {
     1: (400000, 999700), 2: (100, 150000), 3: (100, 60000),
     4: (10, 40000), 5: (10, 40000), 6: (10, 500),
-    7: (10, 20000), 8: (10, 20000), 10: (10, 15000),
+    7: (10, 20000), 8: (10, 20000), 10: (10, 6100),
     11: (50, 100000), 12: (50, 150000), 15: (10, 100000),
 }
 CODES = 16                 # places of an analysis

@@ -1,8 +1,8 @@
 """Checks the reference against document 01: the figures given there, the
 limits of 19 and 40 units, found splits put back, and sums; and against the
-requests Four to Seven of document 02: the lowest code at fault; lean gases, the
-choice for each set of components present; the systems, their rule and their
-ranges; hydrogen blends.
+requests One and Four to Seven of document 02: the ceiling of hexanes+; the
+lowest code at fault; lean gases, the choice for each set of components present;
+the systems, their rule and their ranges; hydrogen blends.
 
 selfcheck.py [SEED [GASES]]     default 1 and 300
 """
@@ -144,6 +144,45 @@ def refusals():
     assert ref.write(light, None, bytearray()) == Refusal(6)
 
 
+def ceiling():
+    """Request One: 6100 parts of hexanes+ pass, 6101 to 15000 are refused 5 in
+    sheets and analyses, after 1 to 4 and before 6; a lower code goes first."""
+    def hexanes(amount, **others):
+        a = [others.get("c%d" % c, A1[c]) for c in range(ref.CODES)]
+        a[1] += A1[10] - amount
+        a[10] = amount
+        return tuple(a)
+    for amount in (10, 84, 6099, 6100):
+        got = ref.search(hexanes(amount))
+        assert isinstance(got, Rating) and ref.check(hexanes(amount)) is None
+        assert ref.rate_split(hexanes(amount), got.split)[:3] == got[:3]
+    for amount in (6101, 6102, 10000, 14999, 15000, 15001):
+        a = hexanes(amount)
+        assert ref.check(a) == ref.search(a) == ref.rate_split(a, ()) == \
+            ref.write(a, None, bytearray()) == Refusal(5, 10)
+        assert ref.read(ref.layout(a, None)) == \
+            ref.rate(ref.layout(a, ((4, 1, 0),) * 9)) == Refusal(5, 10)
+        assert ref.check(hexanes(amount, c2=99)) == Refusal(5, 2)
+        assert ref.check(hexanes(amount, c12=49)) == Refusal(5, 10)
+        assert ref.check(hexanes(amount, c2=100)) == Refusal(5, 10)
+        assert ref.read(ref.layout(a, None) + b"\0") == Refusal(1)
+        listed = gases.listed_of(a)
+        for code, wanted in ((16, 2), (13, 3), (10, 4)):
+            assert ref.read(gases.sheet_of([*listed, (code, 1)], ())) == \
+                Refusal(wanted, len(listed))
+    assert ref.check(hexanes(6100, c2=100)) == Refusal(6)
+    # All at the most but methane: system 2 is chosen.  And the greatest T.
+    rich = (0, 413400, 150000, 60000, 40000, 40000, 500, 20000, 20000, 0, 6100,
+            100000, 150000, 0, 0, 0)
+    assert sum(rich) == 1000000 and not ref.check(rich)
+    assert ref.simplify(rich) == (498745, 180967, 72387, 247901, 0)
+    assert ref.choose(ref.simplify(rich)) == (2, 7, 8)
+    assert isinstance(ref.search(rich), Rating)
+    heavy = (0, 953500, 0, 0, 0, 0, 500, 20000, 20000, 0, 6100, 0, 0, 0, 0, 0)
+    assert sum(heavy) == 1000100 and not ref.check(heavy)
+    assert sum(ref.tenths(heavy)) == 10789800
+
+
 # How a code can stand in an analysis or a sheet.
 ABSENT, AT_0, BELOW, WITHIN, ABOVE = "absent", "at 0", "below", "within", "above"
 NO_CODE = (0, 9, 13, 14)
@@ -214,7 +253,7 @@ def lowest_code(seed, count):
     # An amount at 0, 9, 13 or 14 of an analysis.
     assert analysis(c0=1) == analysis(c0=1, c1=0, c2=99) == Refusal(5, 0)
     assert analysis(c1=0, c9=1, c14=1) == Refusal(5, 1)
-    assert analysis(c9=1, c10=15001) == analysis(c9=1, c13=1) == Refusal(5, 9)
+    assert analysis(c9=1, c10=6101) == analysis(c9=1, c13=1) == Refusal(5, 9)
     assert analysis(c8=9, c9=1) == Refusal(5, 8)
     assert analysis(c12=49, c13=1, c14=1) == Refusal(5, 12)
     assert analysis(c13=1, c14=1, c15=9) == Refusal(5, 13)
@@ -832,6 +871,7 @@ def main(arguments):
     marked_figures()
     compared_figures()
     refusals()
+    ceiling()
     faults = lowest_code(seed, 20 * count)
     lean()
     blends()
@@ -839,9 +879,10 @@ def main(arguments):
     table_a2()
     ranges()
     spread_limit()
-    print("figures and refusals of document 01, the lowest code of %d analyses and "
-          "sheets, lean gases, hydrogen blends, the choice for %d sets of "
-          "components, Table A.2's rule and ranges: as written" % (faults, sets))
+    print("figures and refusals of document 01, the ceiling of hexanes+, the lowest "
+          "code of %d analyses and sheets, lean gases, hydrogen blends, the choice "
+          "for %d sets of components, Table A.2's rule and ranges: as written"
+          % (faults, sets))
     cases, worst = partial_limits(seed, 10 * count)
     print("partial numbers: %d of %d systems, farthest from exact %.3f units"
           % (cases, len(ref.SHARES), worst))

@@ -34,7 +34,7 @@ fn main() {
     put_choice(choice::choose([920460, 56603, 13486, 9451, 0]));
     put_choice(choice::choose([898575, 1212, 98001, 2212, 0]));
     // a butane-rich gas, simplified
-    put_choice(choice::choose([524131, 115320, 69192, 291357, 0]));
+    put_choice(choice::choose([498745, 180967, 72387, 247901, 0]));
     // systems 2 and 4 equally fit
     put_choice(choice::choose([500000, 150000, 110000, 240000, 0]));
     // little methane; much ethane; much propane

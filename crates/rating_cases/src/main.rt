@@ -30,7 +30,7 @@ const GAS: [u32; CODES] = [
 // Much butane: its systems are 2, 7 and 8.
 const BUTANE: [u32; CODES] = [
     0,
-    504500,
+    413400,
     150000,
     60000,
     40000,
@@ -39,8 +39,8 @@ const BUTANE: [u32; CODES] = [
     20000,
     20000,
     0,
-    15000,
-    0,
+    6100,
+    100000,
     150000,
     0,
     0,
@@ -119,6 +119,63 @@ const ETHANE_100: [u32; CODES] = [
     0,
     0,
     0,
+    0,
+    0,
+    0,
+];
+
+const HEXANES_6100: [u32; CODES] = [
+    0,
+    964781,
+    16658,
+    2417,
+    346,
+    245,
+    11,
+    73,
+    125,
+    0,
+    6100,
+    528,
+    8715,
+    0,
+    0,
+    0,
+];
+
+const HEXANES_6101: [u32; CODES] = [
+    0,
+    964780,
+    16658,
+    2417,
+    346,
+    245,
+    11,
+    73,
+    125,
+    0,
+    6101,
+    528,
+    8715,
+    0,
+    0,
+    0,
+];
+
+const HEXANES_15000: [u32; CODES] = [
+    0,
+    955881,
+    16658,
+    2417,
+    346,
+    245,
+    11,
+    73,
+    125,
+    0,
+    15000,
+    528,
+    8715,
     0,
     0,
     0,
@@ -456,8 +513,8 @@ const HYDROGEN_NO_ETHANE: [u32; CODES] = [
 // With much butane: system 2 is chosen.
 const HYDROGEN_MUCH_BUTANE: [u32; CODES] = [
     0,
-    404500,
-    100000,
+    403400,
+    150000,
     60000,
     40000,
     40000,
@@ -465,12 +522,12 @@ const HYDROGEN_MUCH_BUTANE: [u32; CODES] = [
     20000,
     20000,
     0,
-    15000,
+    6100,
     50000,
     150000,
     0,
     0,
-    100000,
+    60000,
 ];
 
 // The ends of hydrogen's range, and a trace of it beside methane.
@@ -624,6 +681,9 @@ fn main() {
     put_search(TOTAL_999900, 4000);
     put_search(ETHANE_99, 4000);
     put_search(ETHANE_100, 4000);
+    put_search(HEXANES_6100, 4000);
+    put_search(HEXANES_6101, 4000);
+    put_search(HEXANES_15000, 4000);
     put_mixture(REMAINDERS_ONE_PART);
     put_mixture(REMAINDERS_AFTER_BUTANE);
     put_mixture(REMAINDERS_AFTER_METHANE);
