@@ -44,7 +44,7 @@ register =
     entry 8 (live 10 20000 false) ∷
     -- retired
     entry 9 retired ∷
-    -- hexanes+, by the plants' logbooks (document 02, One)
+    -- hexanes+ (document 02, One)
     entry 10 (live 10 6100 false) ∷
     -- carbon dioxide
     entry 11 (live 50 100000 false) ∷
