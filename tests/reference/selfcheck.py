@@ -797,8 +797,8 @@ def found_splits(seed, count):
         analysis = gases.any_gas(draw)
         amounts = ref.simplify(analysis)
         assert sum(amounts) == 1000000
-        # Present exactly where the analysis has some, and then 8 parts or more.
-        assert all(x >= 8 if raw else x == 0
+        # Present exactly where the analysis has some, and then 9 parts or more.
+        assert all(x >= 9 if raw else x == 0
                    for x, raw in zip(amounts, ref.tenths(analysis)))
         got = ref.search(analysis)
         if amounts[0] == 1000000:
