@@ -32,6 +32,9 @@ registerBeforeOne = withGreatest hexanesCode CEILING_BEFORE register
 abbrev pub registerBefore : List Entry
 registerBefore = take BASE registerBeforeOne
 
--- hexanes+ that One leaves as they were: no more than is legal now, or more than was legal then
+-- an amount of hexanes+ that One leaves as it was: no more than is legal now, or more than was legal then
+abbrev pub AmountKept : ℕ → Type 0
+AmountKept x = (x ≤ 6100) ⊎ (CEILING_BEFORE < x)
+
 abbrev pub HexanesKept : List ℕ → Type 0
-HexanesKept a = (getD a hexanesCode 0 ≤ 6100) ⊎ (CEILING_BEFORE < getD a hexanesCode 0)
+HexanesKept a = AmountKept (getD a hexanesCode 0)

@@ -2,7 +2,7 @@
 use mathlib.Core.Path.{_≡_, refl, sym, ap, _∙_}
 use mathlib.Core.List.{List, [], _∷_, _++_}
 use mathlib.Core.Bool.{Bool, true, false, _&&_, cond, and-eq-true-iff}
-use mathlib.Core.Logic.{_↔_, _⊎_, inl, inr}
+use mathlib.Core.Logic.{_↔_, inl, inr}
 use Prim.Native.Nat.{ℕ, suc, _+_, _≤_, _<_}
 use native.Mathlib.Nat.{add-zero}
 use native.Mathlib.Omega.{arith}
@@ -20,7 +20,7 @@ use Rattle.sheet.specs.Read.{readOf}
 use Rattle.sheet.specs.declared.Reading.the-variants.{Read}
 use Rattle.outcome.specs.Laws.Ends.{read-passed, read-long}
 use Rattle.kept.specs.BeforeCheck.{upTo, withGreatest, CEILING_BEFORE, registerBeforeOne, registerBefore}
-use Rattle.kept.specs.BeforeCheck.{HexanesKept}
+use Rattle.kept.specs.BeforeCheck.{AmountKept, HexanesKept}
 
 -- ---- two registers
 
@@ -99,7 +99,7 @@ above-alike least most more x required h k = rw (lt-leb x most h, lt-leb x more 
 
 -- ---- before One: every code but hexanes+ is what it was, and hexanes+ that are kept are in range alike
 
-ceiling-alike : (x : ℕ) → (x ≤ 6100) ⊎ (CEILING_BEFORE < x)
+ceiling-alike : (x : ℕ) → AmountKept x
     → inRangeBy (statusIn registerBeforeOne hexanesCode) x ≡ inRangeBy (statusIn register hexanesCode) x
 unfolding statusOf
 ceiling-alike x (inl h) =
