@@ -4,14 +4,14 @@
 -- By the check, by every proposed split, by the search with every allowance, by writing where the split has a count of
 -- records that a sheet may have; and a sheet that 1 to 4 let pass, by reading and by rating. 5 carries the lowest code
 -- at fault. An amount above the greatest of its code is at fault, as 6101 of hexanes+ are.
-use mathlib.Core.Path.{_≡_, refl}
+use mathlib.Core.Path.{_≡_}
 use mathlib.Core.List.{List}
-use mathlib.Core.Bool.{true, false}
+use mathlib.Core.Bool.{true}
 use mathlib.Core.Logic.{inr}
 use Prim.Native.Nat.{ℕ, _<_}
 use lib.ListN.{length, getD}
 use Rattle.analysis.specs.Register.{CODES, statusOf, hexanesCode}
-use Rattle.analysis.specs.Check.{greatestOf, inRange, lowestFault, checkedOf}
+use Rattle.analysis.specs.Check.{greatestOf, lowestFault, checkedOf}
 use Rattle.analysis.specs.Faults.{AtFault, Lowest}
 use Rattle.analysis.specs.Lowest as checks
 use Rattle.analysis.specs.Laws.Lowest.{fault-found, lowest-fault}
@@ -37,11 +37,6 @@ use Rattle.demand.specs.FirstCode.{sheet-out-of-range}
 -- an amount above the greatest of its code is at fault
 pub above-fault : (a : List ℕ) (code : ℕ) → greatestOf code < getD a code 0 → AtFault a code
 above-fault a code h = above-greatest code (getD a code 0) h
-
--- 6101 parts of hexanes+ are, and 6100 are not
-pub ceiling : (inRange hexanesCode 6101 ≡ false) × (inRange hexanesCode 6100 ≡ true)
-unfolding inRange statusOf
-ceiling = (refl, refl)
 
 module _ (a : List ℕ) (long : length a ≡ CODES) (code : ℕ) (fault : AtFault a code) where
   lowest : Lowest (AtFault a) (lowestFault 0 a)
@@ -80,7 +75,7 @@ module _ (s : List ℕ) (n m first : ℕ) (sections : sectionsOf s ≡ Both n m 
   pub fault-rated : sheetOutcome s .answer ≡ Refused 5 (lowestIn n s)
   fault-rated = sheet-out-of-range s (lowestIn n s) .1 out
 
--- one with more hexanes+ than the greatest amount (document 02, One)
+-- one with 6101 parts of hexanes+ or more (document 02, One)
 pub hexanes-above : (s : List ℕ) (n m first : ℕ) → sectionsOf s ≡ Both n m first
     → codesReading n s 1 0 0 ≡ reading.Read → 6100 < getD (readAmounts n s) hexanesCode 0
     → (readOf s .answer ≡ reading.Refused 5 0 (lowestIn n s)) × (sheetOutcome s .answer ≡ Refused 5 (lowestIn n s))

@@ -89,7 +89,7 @@ searchOutcomeWith number code choice mix n1 allowance =
     (foundOutcomeWith (choice .systems) (choice .count) n1 (searchedWith choice mix allowance))
     (outcome (Refused number (carried number code 0)) noSplit)
 
--- ---- an analysis before request Seven: the register without code 15, four components, systems 2, 4, 7 and 8
+-- ---- an analysis before request Seven: the register of that day, four components, systems 2, 4, 7 and 8
 
 abbrev pub choiceBefore : List ℕ → Choice
 choiceBefore mix = choiceFrom (chooseBefore mix)

@@ -80,8 +80,8 @@ before-exactly-when analysis long = (
       let (passed, present) = exactly .0 (h .0) in
       (check.before-exactly-when analysis long .0 (passed, h .1), present),
   λ h.
-      let (passed, within) = check.before-exactly-when analysis long .1 (h .0) in
-      (exactly .1 (passed, h .1), within),
+      let (passed, hexanes) = check.before-exactly-when analysis long .1 (h .0) in
+      (exactly .1 (passed, h .1), hexanes),
 )
   where
     below : (k : ℕ) → isIn k requiredBefore ≡ true → k ≤ 5
@@ -124,10 +124,10 @@ passed-before = (refl, refl)
 -- ---- an analysis that 5 and 6 let pass before, with no more hexanes+ than is legal now
 
 module _ (analysis : List ℕ) (long : length analysis ≡ CODES) (before : refusalBeforeFive analysis ≡ 0)
-    (within : HexanesKept analysis) where
+    (hexanes : HexanesKept analysis) where
   then : (InRange analysis × (getD analysis hydrogenCode 0 ≡ 0))
       × ((k : ℕ) → isIn k requiredBefore ≡ true → 0 < getD analysis k 0)
-  then = before-exactly-when analysis long .0 (before, within)
+  then = before-exactly-when analysis long .0 (before, hexanes)
 
   -- passes now, without hydrogen
   pub passes : InRange analysis
@@ -168,8 +168,8 @@ module _ (analysis : List ℕ) (long : length analysis ≡ CODES) (before : refu
   pub split-kept : (p : Split) → splitAnswer analysis p ≡ splitBeforeFive analysis p
   unfolding splitBefore splitBeforeFive
   split-kept p =
-      seven.split-kept analysis none within p
-      ∙ rw (sym (seven.refusal-kept analysis none within), rated-on, before)
+      seven.split-kept analysis none hexanes p
+      ∙ rw (sym (seven.refusal-kept analysis none hexanes), rated-on, before)
       (ap (λ (choice : Choice). splitAnswerWith 0 0 choice (simplifiedBefore analysis) (inertBefore analysis) p)
       choice-kept)
 
@@ -178,8 +178,8 @@ module _ (analysis : List ℕ) (long : length analysis ≡ CODES) (before : refu
       → searchOutcome analysis allowance ≡ searchBeforeFive analysis allowance
   unfolding searchBefore searchBeforeFive
   search-kept allowance =
-      seven.search-kept-all analysis none within allowance
-      ∙ rw (sym (seven.refusal-kept analysis none within), rated-on, before)
+      seven.search-kept-all analysis none hexanes allowance
+      ∙ rw (sym (seven.refusal-kept analysis none hexanes), rated-on, before)
       (ap (λ (choice : Choice). searchOutcomeWith 0 0 choice (simplifiedBefore analysis)
       (inertBefore analysis) allowance) choice-kept)
 
@@ -197,16 +197,16 @@ pub split-rated-before : (analysis : List ℕ) → length analysis ≡ CODES →
     → (p : Split) (w : ℤ) (s r : ℕ)
     → splitBeforeFive analysis p ≡ Rated w s r → splitAnswer analysis p ≡ Rated w s r
 unfolding splitBeforeFive
-split-rated-before analysis long within p w s r is =
+split-rated-before analysis long hexanes p w s r is =
     let passed = not-refused (refusalBeforeFive analysis) (faultBeforeFive analysis) _ (subst IsRated (sym is) tt) in
-    split-kept analysis long passed within p ∙ is
+    split-kept analysis long passed hexanes p ∙ is
 
 -- a gas rated by the search gets the same rating, spread, rounds and split
 pub search-rated-before : (analysis : List ℕ) → length analysis ≡ CODES → HexanesKept analysis → (allowance : ℕ)
     → IsRated (searchBeforeFive analysis allowance .answer)
     → searchOutcome analysis allowance ≡ searchBeforeFive analysis allowance
 unfolding searchBeforeFive
-search-rated-before analysis long within allowance is = go (eqb (refusalBeforeFive analysis) 0) refl is
+search-rated-before analysis long hexanes allowance is = go (eqb (refusalBeforeFive analysis) 0) refl is
   where
     go : (b : Bool) → eqb (refusalBeforeFive analysis) 0 ≡ b
         → IsRated (cond b (searchOutcomeWith 0 0 (choiceBeforeFive (simplifiedBefore analysis))
@@ -214,7 +214,7 @@ search-rated-before analysis long within allowance is = go (eqb (refusalBeforeFi
         (outcome (Refused (refusalBeforeFive analysis)
         (carried (refusalBeforeFive analysis) (faultBeforeFive analysis) 0)) noSplit) .answer)
         → searchOutcome analysis allowance ≡ searchBeforeFive analysis allowance
-    go true e h = search-kept analysis long (eqb-true (refusalBeforeFive analysis) 0 e) within allowance
+    go true e h = search-kept analysis long (eqb-true (refusalBeforeFive analysis) 0 e) hexanes allowance
     go false e h = absurd h
 
 -- ---- a sheet
@@ -225,25 +225,25 @@ search-rated-before analysis long within allowance is = go (eqb (refusalBeforeFi
 pub sheet-read-kept : (s : List ℕ) (n m first : ℕ) → sectionsOf s ≡ Both n m first
     → codesReading n s 1 0 0 ≡ Read → zeroListed n s 1 ≡ false → refusalBeforeFive (readAmounts n s) ≡ 0
     → HexanesKept (readAmounts n s) → readOf s ≡ contentOf n m first s
-sheet-read-kept s n m first sections codes none before within =
+sheet-read-kept s n m first sections codes none before hexanes =
     read-good s n m first sections codes
-    (amounts-checked n s none ∙ passes (readAmounts n s) (amounts-long n s 1 _) before within)
+    (amounts-checked n s none ∙ passes (readAmounts n s) (amounts-long n s 1 _) before hexanes)
 
 -- and answered as before: by the search, or by its own split
 
 module _ (s : List ℕ) (h : readOf s .answer ≡ Read)
     (before : refusalBeforeFive (analysisIn s) ≡ 0) where
-  within : HexanesKept (analysisIn s)
-  within = check.read-passed-kept s h
+  hexanes : HexanesKept (analysisIn s)
+  hexanes = check.read-passed-kept s h
 
   pub sheet-search-kept : readOf s .split .count ≡ 0
       → sheetOutcome s ≡ searchBeforeFive (analysisIn s) ROUNDS
   sheet-search-kept e =
-      read-searched s h e ∙ search-kept (analysisIn s) (read-long s h) before within ROUNDS
+      read-searched s h e ∙ search-kept (analysisIn s) (read-long s h) before hexanes ROUNDS
 
   pub sheet-split-kept : (readOf s .split .count ≡ 0 → ⊥)
       → sheetOutcome s ≡ outcome (splitBeforeFive (analysisIn s) (readOf s .split)) noSplit
   sheet-split-kept n =
       read-own s h n
       ∙ ap (λ (x : Answer). outcome x noSplit)
-      (split-kept (analysisIn s) (read-long s h) before within (readOf s .split))
+      (split-kept (analysisIn s) (read-long s h) before hexanes (readOf s .split))

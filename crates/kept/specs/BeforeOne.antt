@@ -140,40 +140,40 @@ in-range-exactly-when analysis long = one-exactly-when analysis long
 
 -- ---- an analysis with hexanes+ that One leaves as they were is answered as it was
 
-module _ (analysis : List ℕ) (within : HexanesKept analysis) where
+module _ (analysis : List ℕ) (hexanes : HexanesKept analysis) where
   -- by the check, and simplified,
   pub checked-kept : checkedOf analysis ≡ checkedBeforeOne analysis
   unfolding checkedOf checkedBeforeOne
-  checked-kept = rw (one-kept analysis within, one-lowest analysis within)
+  checked-kept = rw (one-kept analysis hexanes, one-lowest analysis hexanes)
 
   pub mixture-kept : mixtureOf analysis ≡ mixtureBeforeOne analysis
-  mixture-kept = rw (one-kept analysis within)
+  mixture-kept = rw (one-kept analysis hexanes)
 
   pub inert-kept : inertN1 analysis ≡ inertBeforeOne analysis
-  inert-kept = rw (one-kept analysis within)
+  inert-kept = rw (one-kept analysis hexanes)
 
   refusal-kept : ratingRefusal analysis ≡ refusalBeforeOne analysis
   unfolding ratingRefusal refusalBeforeOne
-  refusal-kept = rw (one-kept analysis within)
+  refusal-kept = rw (one-kept analysis hexanes)
 
   -- to every proposed split,
   pub split-kept : (p : Split) → splitAnswer analysis p ≡ splitBeforeOne analysis p
   unfolding splitAnswer splitBeforeOne
-  split-kept p = rw (refusal-kept, one-lowest analysis within)
+  split-kept p = rw (refusal-kept, one-lowest analysis hexanes)
 
   -- by the search with every allowance,
   pub search-kept : (allowance : ℕ) → searchOutcome analysis allowance ≡ searchBeforeOne analysis allowance
   unfolding searchOutcome searchBeforeOne
-  search-kept allowance = rw (refusal-kept, one-lowest analysis within)
+  search-kept allowance = rw (refusal-kept, one-lowest analysis hexanes)
 
   -- and written
   write-kept : (p : Split) (size : ℕ) → writeRefusal analysis p size ≡ writeRefusalBeforeOne analysis p size
   unfolding writeRefusal writeRefusalBeforeOne
-  write-kept p size = rw (one-kept analysis within)
+  write-kept p size = rw (one-kept analysis hexanes)
 
   pub written-kept : (p : Split) (size : ℕ) → writtenOf analysis p size ≡ writtenBeforeOne analysis p size
   unfolding writtenOf writtenBeforeOne
-  written-kept p size = rw (write-kept p size, one-lowest analysis within)
+  written-kept p size = rw (write-kept p size, one-lowest analysis hexanes)
 
   pub left-kept : (p : Split) (lent : List ℕ) → leftOf analysis p lent ≡ leftBeforeOne analysis p lent
   unfolding leftOf leftBeforeOne
@@ -182,7 +182,7 @@ module _ (analysis : List ℕ) (within : HexanesKept analysis) where
 -- ---- and so is a sheet, read and rated: where its codes are refused whatever its amounts
 
 module _ (s : List ℕ)
-    (within : (n m first : ℕ) → sectionsOf s ≡ Both n m first → codesReading n s 1 0 0 ≡ reading.Read
+    (hexanes : (n m first : ℕ) → sectionsOf s ≡ Both n m first → codesReading n s 1 0 0 ≡ reading.Read
     → HexanesKept (readAmounts n s)) where
   pub read-kept : readOf s ≡ readBeforeOne s
   unfolding readOf readBy readBeforeOne amountsBeforeOne amountsRefusal lowestIn
@@ -197,7 +197,7 @@ module _ (s : List ℕ)
               ≡ withAnswer (afterCodesBeforeOne x n s) (contentOf n m first s)
           codes (reading.Refused number place code) c = refl
           codes reading.Read c =
-              let w = within n m first e c in
+              let w = hexanes n m first e c in
               rw (one-kept (readAmounts n s) w, one-lowest (readAmounts n s) w)
 
   pub sheet-kept : sheetOutcome s ≡ sheetBeforeOne s

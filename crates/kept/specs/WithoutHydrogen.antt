@@ -134,11 +134,11 @@ module _ (analysis : List ℕ) (none : getD analysis hydrogenCode 0 ≡ 0) where
   -- with hexanes+ as they were the same refusal,
   pub refusal-kept : HexanesKept analysis → ratingRefusal analysis ≡ refusalBefore analysis
   unfolding ratingRefusal
-  refusal-kept within = rw (without-kept analysis none within, mixture-number (mixOf analysis), count-same)
+  refusal-kept hexanes = rw (without-kept analysis none hexanes, mixture-number (mixOf analysis), count-same)
 
   -- with the same code,
   pub fault-kept : HexanesKept analysis → lowestFault 0 analysis ≡ faultBefore analysis
-  fault-kept within = sym (lowest-kept analysis none within)
+  fault-kept hexanes = sym (lowest-kept analysis none hexanes)
 
   -- and the same choice
   pub choice-kept : choiceOf (mixOf analysis) ≡ choiceBefore (simplifiedBefore analysis)
@@ -166,9 +166,9 @@ module _ (analysis : List ℕ) (none : getD analysis hydrogenCode 0 ≡ 0) where
   -- so with such hexanes+ it is answered as it was: to every proposed split,
   pub split-kept : HexanesKept analysis → (p : Split) → splitAnswer analysis p ≡ splitBefore analysis p
   unfolding splitAnswer splitBefore
-  split-kept within p =
+  split-kept hexanes p =
       go (eqb (ratingRefusal analysis) 0) refl
-      ∙ (λ j. checkedBy (refusal-kept within j) (fault-kept within j)
+      ∙ (λ j. checkedBy (refusal-kept hexanes j) (fault-kept hexanes j)
       (splitWith (choice-kept j .systems) (choice-kept j .count) (simplifiedBefore analysis)
       (inert-kept analysis none j) p))
     where
@@ -189,9 +189,9 @@ module _ (analysis : List ℕ) (none : getD analysis hydrogenCode 0 ≡ 0) where
   pub search-kept-all : HexanesKept analysis → (allowance : ℕ)
       → searchOutcome analysis allowance ≡ searchBefore analysis allowance
   unfolding searchOutcome searchBefore
-  search-kept-all within allowance =
+  search-kept-all hexanes allowance =
       go (eqb (ratingRefusal analysis) 0) refl
-      ∙ (λ j. searchOutcomeWith (refusal-kept within j) (fault-kept within j) (choice-kept j)
+      ∙ (λ j. searchOutcomeWith (refusal-kept hexanes j) (fault-kept hexanes j) (choice-kept j)
       (simplifiedBefore analysis) (inert-kept analysis none j) allowance)
     where
       go : (b : Bool) → eqb (ratingRefusal analysis) 0 ≡ b
@@ -218,23 +218,23 @@ pub sheet-read-kept : (s : List ℕ) (n m first : ℕ) → sectionsOf s ≡ Both
     → codesReading n s 1 0 0 ≡ Read → zeroListed n s 1 ≡ false
     → refusalIn registerBefore (readAmounts n s) ≡ 0 → HexanesKept (readAmounts n s)
     → readOf s ≡ contentOf n m first s
-sheet-read-kept s n m first sections codes none before within =
+sheet-read-kept s n m first sections codes none before hexanes =
     read-good s n m first sections codes
     (amounts-checked n s none
-    ∙ check.before-exactly-when (readAmounts n s) (amounts-long n s 1 _) .0 (before, within) .0)
+    ∙ check.before-exactly-when (readAmounts n s) (amounts-long n s 1 _) .0 (before, hexanes) .0)
 
 -- and answered as it was: by the search, or by its own split
 module _ (s : List ℕ) (h : readOf s .answer ≡ Read)
     (none : getD (analysisIn s) hydrogenCode 0 ≡ 0) where
-  within : HexanesKept (analysisIn s)
-  within = check.read-passed-kept s h
+  hexanes : HexanesKept (analysisIn s)
+  hexanes = check.read-passed-kept s h
 
   pub sheet-search-kept : readOf s .split .count ≡ 0
       → sheetOutcome s ≡ searchBefore (analysisIn s) ROUNDS
-  sheet-search-kept e = read-searched s h e ∙ search-kept-all (analysisIn s) none within ROUNDS
+  sheet-search-kept e = read-searched s h e ∙ search-kept-all (analysisIn s) none hexanes ROUNDS
 
   pub sheet-split-kept : (readOf s .split .count ≡ 0 → ⊥)
       → sheetOutcome s ≡ outcome (splitBefore (analysisIn s) (readOf s .split)) noSplit
   sheet-split-kept n =
       read-own s h n
-      ∙ ap (λ (x : Answer). outcome x noSplit) (split-kept (analysisIn s) none within (readOf s .split))
+      ∙ ap (λ (x : Answer). outcome x noSplit) (split-kept (analysisIn s) none hexanes (readOf s .split))

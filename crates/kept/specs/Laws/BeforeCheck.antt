@@ -31,10 +31,12 @@ status-added [] more c h = h
 status-added (e ∷ es) more c h =
     ap (λ (s : Status). cond (eqb c (e .code)) (e .status) s) (status-added es more c h)
 
--- two registers by which each amount is in range alike
-all-alike : (es fs : List Entry) (code : ℕ) (a : List ℕ)
-    → ((k : ℕ)
-    → inRangeBy (statusIn es (code + k)) (getD a k 0) ≡ inRangeBy (statusIn fs (code + k)) (getD a k 0))
+-- two registers by which each amount is in range alike, the first being that of `code`
+abbrev Alike : List Entry → List Entry → ℕ → List ℕ → Type 0
+Alike es fs code a =
+    (k : ℕ) → inRangeBy (statusIn es (code + k)) (getD a k 0) ≡ inRangeBy (statusIn fs (code + k)) (getD a k 0)
+
+all-alike : (es fs : List Entry) (code : ℕ) (a : List ℕ) → Alike es fs code a
     → allInRangeIn es code a ≡ allInRangeIn fs code a
 all-alike es fs code [] h = refl
 all-alike es fs code (x ∷ xs) h =
@@ -42,9 +44,7 @@ all-alike es fs code (x ∷ xs) h =
     ∙ ap (λ (b : Bool). inRangeBy (statusIn fs code) x && b)
     (all-alike es fs (suc code) xs (λ k. let e : code + suc k ≡ suc code + k = omega arith in rw e at (h (suc k))))
 
-lowest-alike : (es fs : List Entry) (code : ℕ) (a : List ℕ)
-    → ((k : ℕ)
-    → inRangeBy (statusIn es (code + k)) (getD a k 0) ≡ inRangeBy (statusIn fs (code + k)) (getD a k 0))
+lowest-alike : (es fs : List Entry) (code : ℕ) (a : List ℕ) → Alike es fs code a
     → lowestFaultIn es code a ≡ lowestFaultIn fs code a
 lowest-alike es fs code [] h = refl
 lowest-alike es fs code (x ∷ xs) h =
@@ -52,9 +52,7 @@ lowest-alike es fs code (x ∷ xs) h =
     ∙ ap (λ (n : ℕ). cond (inRangeBy (statusIn fs code) x) n code)
     (lowest-alike es fs (suc code) xs (λ k. let e : code + suc k ≡ suc code + k = omega arith in rw e at (h (suc k))))
 
-refusal-alike : (es fs : List Entry) (a : List ℕ)
-    → ((k : ℕ) → inRangeBy (statusIn es (0 + k)) (getD a k 0) ≡ inRangeBy (statusIn fs (0 + k)) (getD a k 0))
-    → refusalIn es a ≡ refusalIn fs a
+refusal-alike : (es fs : List Entry) (a : List ℕ) → Alike es fs 0 a → refusalIn es a ≡ refusalIn fs a
 unfolding refusalIn
 refusal-alike es fs a h = ap (λ (b : Bool). refusalByTests b (totalFits (totalOf a))) (all-alike es fs 0 a h)
 
@@ -62,7 +60,7 @@ refusal-alike es fs a h = ap (λ (b : Bool). refusalByTests b (totalFits (totalO
 alike-but : (es fs : List Entry) (code : ℕ) (a : List ℕ)
     → ((c : ℕ) → (c ≡ code → ⊥) → statusIn es c ≡ statusIn fs c)
     → inRangeBy (statusIn es code) (getD a code 0) ≡ inRangeBy (statusIn fs code) (getD a code 0)
-    → (k : ℕ) → inRangeBy (statusIn es (0 + k)) (getD a k 0) ≡ inRangeBy (statusIn fs (0 + k)) (getD a k 0)
+    → Alike es fs 0 a
 alike-but es fs code a others here k = go (eqb (0 + k) code) refl
   where
     go : (b : Bool) → eqb (0 + k) code ≡ b
@@ -109,42 +107,39 @@ ceiling-alike x (inr h) =
     above-alike (leastOf hexanesCode) CEILING_BEFORE (greatestOf hexanesCode) x (requiredOf hexanesCode)
     h (omega arith)
 
-one-alike : (a : List ℕ) → HexanesKept a → (k : ℕ)
-    → inRangeBy (statusIn registerBeforeOne (0 + k)) (getD a k 0) ≡ inRangeBy (statusIn register (0 + k)) (getD a k 0)
-one-alike a within =
+one-alike : (a : List ℕ) → HexanesKept a → Alike registerBeforeOne register 0 a
+one-alike a hexanes =
     alike-but registerBeforeOne register hexanesCode a (status-others register hexanesCode CEILING_BEFORE)
-    (ceiling-alike (getD a hexanesCode 0) within)
+    (ceiling-alike (getD a hexanesCode 0) hexanes)
 
 -- an analysis with such hexanes+ is checked as before,
 pub one-kept : (a : List ℕ) → HexanesKept a → refusalIn registerBeforeOne a ≡ analysisRefusal a
-one-kept a within = refusal-alike registerBeforeOne register a (one-alike a within) ∙ refusal-register a
+one-kept a hexanes = refusal-alike registerBeforeOne register a (one-alike a hexanes) ∙ refusal-register a
 
 -- and has the lowest code at fault that it had
 pub one-lowest : (a : List ℕ) → HexanesKept a → lowestFaultIn registerBeforeOne 0 a ≡ lowestFault 0 a
-one-lowest a within = lowest-alike registerBeforeOne register 0 a (one-alike a within) ∙ lowest-register 0 a
+one-lowest a hexanes = lowest-alike registerBeforeOne register 0 a (one-alike a hexanes) ∙ lowest-register 0 a
 
 -- ---- before Seven: every code but 15 is what it was before One
 
 status-kept : (c : ℕ) → (c ≡ hydrogenCode → ⊥) → statusIn registerBeforeOne c ≡ statusIn registerBefore c
 status-kept c n = status-added registerBefore (drop BASE registerBeforeOne) c (rw (ne-eqb c hydrogenCode n))
 
-seven-alike : (a : List ℕ) → getD a hydrogenCode 0 ≡ 0 → (k : ℕ)
-    → inRangeBy (statusIn registerBefore (0 + k)) (getD a k 0)
-    ≡ inRangeBy (statusIn registerBeforeOne (0 + k)) (getD a k 0)
+seven-alike : (a : List ℕ) → getD a hydrogenCode 0 ≡ 0 → Alike registerBefore registerBeforeOne 0 a
 seven-alike a none =
     alike-but registerBefore registerBeforeOne hydrogenCode a (λ c n. sym (status-kept c n)) (rw none)
 
 -- an analysis without hydrogen, with such hexanes+, is checked as before
 pub without-kept : (a : List ℕ) → getD a hydrogenCode 0 ≡ 0 → HexanesKept a
     → refusalIn registerBefore a ≡ analysisRefusal a
-without-kept a none within =
-    refusal-alike registerBefore registerBeforeOne a (seven-alike a none) ∙ one-kept a within
+without-kept a none hexanes =
+    refusal-alike registerBefore registerBeforeOne a (seven-alike a none) ∙ one-kept a hexanes
 
 -- and has the lowest code at fault that it had
 pub lowest-kept : (a : List ℕ) → getD a hydrogenCode 0 ≡ 0 → HexanesKept a
     → lowestFaultIn registerBefore 0 a ≡ lowestFault 0 a
-lowest-kept a none within =
-    lowest-alike registerBefore registerBeforeOne 0 a (seven-alike a none) ∙ one-lowest a within
+lowest-kept a none hexanes =
+    lowest-alike registerBefore registerBeforeOne 0 a (seven-alike a none) ∙ one-lowest a hexanes
 
 -- no amount of a code that is no key
 unknown-none : (x : ℕ) → inRangeBy unknown x ≡ true → x ≡ 0
@@ -174,7 +169,7 @@ pub one-exactly-when : (a : List ℕ) → length a ≡ CODES
     → ((refusalIn registerBeforeOne a ≡ 0) × HexanesKept a) ↔ (analysisRefusal a ≡ 0)
 one-exactly-when a l = (
   λ h. sym (one-kept a (h .1)) ∙ h .0,
-  λ h. let within = passed-kept a l h in (one-kept a within ∙ h, within),
+  λ h. let hexanes = passed-kept a l h in (one-kept a hexanes ∙ h, hexanes),
 )
 
 -- what passed before Seven with such hexanes+: what passes, without hydrogen
@@ -183,5 +178,5 @@ pub before-exactly-when : (a : List ℕ) → length a ≡ CODES
     ↔ ((analysisRefusal a ≡ 0) × (getD a hydrogenCode 0 ≡ 0))
 before-exactly-when a l = (
   λ h. let none = before-none a l (h .0) in (sym (without-kept a none (h .1)) ∙ h .0, none),
-  λ h. let within = passed-kept a l (h .0) in (without-kept a (h .1) within ∙ h .0, within),
+  λ h. let hexanes = passed-kept a l (h .0) in (without-kept a (h .1) hexanes ∙ h .0, hexanes),
 )
