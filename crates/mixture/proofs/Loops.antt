@@ -1,23 +1,24 @@
--- What the loops over an array add: sums of its first elements, lists filled element by element. Assumes nothing.
+-- The components in tenths of a part, and what the loops over an array add: sums of its first elements, lists filled
+-- element by element. Assumes nothing.
 use Prim.Native.Nat.{ℕ, zero, suc, _+_, _*_, _-_, _≤_, _<_}
 use mathlib.Core.Path.{_≡_, refl, sym, ap, _∙_}
 use mathlib.Core.List.{List, [], _∷_, map}
-use mathlib.Core.Bool.{Bool, true, false, cond}
-use native.Mathlib.Nat.{not-suc-le-zero, div-le-of-le-mul, div-add-mod', mul-le-mul-left}
+use mathlib.Core.Bool.{Bool, true, false}
+use native.Mathlib.Nat.{not-suc-le-zero, div-le-of-le-mul, div-add-mod'}
 use native.Mathlib.Numerals.{add-one}
 use native.Mathlib.Omega.{arith}
 use lib.Dec.{eqb, ltb}
 use lib.ListN.{getD, set, take, length, replicate, length-set, length-map}
 use lib.Seq.{take-all, ext-getD, getD-set-same, getD-set-other}
-use borrow.Author.Tests.{eqb-true, eqb-false, ne-eqb, lt-ltb, le-ltb}
+use borrow.Author.Tests.{eqb-true, eqb-false, lt-ltb, le-ltb}
 use Rattle.integer.specs.Figures.{MILLION}
 use Rattle.analysis.specs.Check.{totalOf}
 use Rattle.mixture.specs.Scaling.{quotientOf, remainderOf, quotientsOf, remaindersOf, missingOf, largestTo}
 use Rattle.mixture.specs.Scaling.{greatestPlace, distributed, scaledOf}
 use Rattle.mixture.specs.Laws.Share.{getD-map}
 use Rattle.mixture.specs.Laws.Total.{sum-set, quotients-whole}
-use Rattle.mixture.specs.Simplification.{COMPONENTS, butaneOf, tenthsOf}
-use Rattle.mixture.specs.Inner.Factor.{factorOf}
+use Rattle.mixture.specs.Simplification.{COMPONENTS, tenthsOf}
+use Rattle.mixture.specs.Butane.{afterHexanesOf, butane-kept}
 use Rattle.mixture.specs.Inner.Limits.{MOST_PARTS, Limited}
 
 -- an amount is no more than the sum
@@ -26,89 +27,23 @@ sum-has [] i = omega arith
 sum-has (x ∷ l) zero = omega arith
 sum-has (x ∷ l) (suc i) = omega (arith, sum-has l i)
 
--- ---- amounts up to the limit
+-- ---- the components of amounts of 32 bits, butane as the code adds it up
 
-limited-next : (x : ℕ) (xs : List ℕ) → x ≤ MOST_PARTS → ((i : ℕ) → getD xs i 0 ≤ MOST_PARTS) → (i : ℕ)
-    → getD (x ∷ xs) i 0 ≤ MOST_PARTS
-limited-next x xs h rest zero = h
-limited-next x xs h rest (suc i) = rest i
+module _ (a : List ℕ) (fits : (code : ℕ) → getD a code 0 < 4294967296) where
+  small : (i : ℕ) → getD (tenthsOf a) i 0 ≤ MOST_PARTS
+  unfolding tenthsOf
+  small zero = omega (arith, fits 1)
+  small (suc zero) = omega (arith, fits 2)
+  small (suc (suc zero)) = omega (arith, fits 3)
+  small (suc (suc (suc zero))) = omega (arith, fits 4, fits 5, fits 6, fits 7, fits 8, fits 10, fits 15)
+  small (suc (suc (suc (suc zero)))) = omega (arith, fits 4, fits 5, fits 6, fits 7, fits 8, fits 10, fits 15)
+  small (suc (suc (suc (suc (suc i))))) = omega arith
 
--- an amount by the factor 10, as the code has it
-abbrev Tenfold : List ℕ → ℕ → ℕ → Type 0
-Tenfold a code x = (x ≡ 10 * getD a code 0) × (x ≤ 42949672950)
-
--- the components, one by one
-pub tenths-each : (a : List ℕ) (w x y z u : ℕ) → Tenfold a 1 w → Tenfold a 2 x → Tenfold a 3 y → (z ≡ butaneOf a)
-    × (z ≤ MOST_PARTS)
-    → Tenfold a 15 u → ((w ∷ x ∷ y ∷ z ∷ u ∷ []) ≡ tenthsOf a) × Limited (w ∷ x ∷ y ∷ z ∷ u ∷ [])
-unfolding tenthsOf
-tenths-each a w x y z u hw hx hy hz hu = (
-  rw (hw .0, hx .0, hy .0, hz .0, hu .0),
-  record {
-    long = refl;
-    small =
-        limited-next w (x ∷ y ∷ z ∷ u ∷ []) (omega (arith, hw .1))
-        (limited-next x (y ∷ z ∷ u ∷ []) (omega (arith, hx .1))
-        (limited-next y (z ∷ u ∷ []) (omega (arith, hy .1))
-        (limited-next z (u ∷ []) (hz .1)
-        (limited-next u [] (omega (arith, hu .1)) (λ i. omega arith)))));
-  },
-)
-
--- ---- factors
-
-pub weighted-small : (f x : ℕ) → x ≤ 4294967295 → f * x ≤ f * 4294967295
-weighted-small f x h = mul-le-mul-left f h
-
-module _ (code : ℕ) where
-  pub factor-butanes : code < 6 → 10 ≡ factorOf code
-  factor-butanes h = rw (lt-ltb code 6 h)
-
-  pub factor-pentanes : 6 ≤ code → code < 9 → 23 ≡ factorOf code
-  factor-pentanes l h = rw (le-ltb code 6 l, lt-ltb code 9 h)
-
-  pub factor-hexanes : 9 ≤ code → code ≡ 10 → 53 ≡ factorOf code
-  factor-hexanes l h = rw h
-
-  pub factor-none : 9 ≤ code → (code ≡ 10 → ⊥) → 0 ≡ factorOf code
-  factor-none l h = rw (le-ltb code 6 (omega arith), le-ltb code 9 l, ne-eqb code 10 h)
-
--- butane of the codes from 4 to below `code`, and the sum of their factors
-abbrev pub butaneTo : List ℕ → ℕ → ℕ
-butaneTo a zero = 0
-butaneTo a (suc k) = butaneTo a k + cond (ltb k 4) 0 (factorOf k * getD a k 0)
-
-abbrev pub factorsTo : ℕ → ℕ
-factorsTo zero = 0
-factorsTo (suc k) = factorsTo k + cond (ltb k 4) 0 (factorOf k)
-
-pub record Butane (a : List ℕ) (t code : ℕ) : Type 0 where
-  pub first : 4 ≤ code
-  pub last : code ≤ 11
-  pub same : t ≡ butaneTo a code
-  pub small : t ≤ factorsTo code * 4294967295
-  pub few : factorsTo code ≤ code * 53
-
-pub butane-none : (a : List ℕ) → Butane a 0 4
-butane-none a = record { first = omega arith; last = omega arith; same = refl; small = omega arith; few = omega arith }
-
-pub butane-next : (a : List ℕ) (code t f w : ℕ) → code < 11 → (f ≡ factorOf code) × (f ≤ 53) → (w ≡ f * getD a code 0)
-    × (w ≤ f * 4294967295) → Butane a t code → Butane a (t + w) (code + 1)
-butane-next a code t f w h g d b =
-    record {
-      first = omega (arith, b .first);
-      last = omega arith;
-      same = rw (add-one code) (rw (le-ltb code 4 (b .first)) (let e = b .same in let k = d .0 in let l = g .0 in cc));
-      small = rw (add-one code) (rw (le-ltb code 4 (b .first), ← g .0) (omega (arith, b .small, d .1)));
-      few = rw (add-one code) (rw (le-ltb code 4 (b .first), ← g .0) (omega (arith, b .few, g .1)));
-    }
-
-pub butane-all : (a : List ℕ) (code t : ℕ) → 11 ≤ code → Butane a t code → (t ≡ butaneOf a) × (t ≤ MOST_PARTS)
-butane-all a code t h b =
-    let e : code ≡ 11 = omega (arith, b .last) in
-    let g : t ≡ butaneTo a 11 = rw e at (b .same) in
-    let k : t ≤ factorsTo 11 * 4294967295 = rw e at (b .small) in
-    (omega arith, omega arith)
+  pub tenths-each : (z : ℕ) → z ≡ afterHexanesOf a →
+      let l = 10 * getD a 1 0 ∷ 10 * getD a 2 0 ∷ 10 * getD a 3 0 ∷ z ∷ 10 * getD a 15 0 ∷ [] in
+      (l ≡ tenthsOf a) × Limited l
+  unfolding tenthsOf
+  tenths-each z e = rw (e ∙ butane-kept a) (refl, record { long = refl; small = small })
 
 -- ---- the sum of the first elements
 

@@ -1,5 +1,6 @@
 pub mod Scaling
 pub mod Simplification
+pub mod Butane
 pub mod Inert
 pub mod Answers
 pub mod Largest

@@ -1,6 +1,6 @@
 -- The marked figures of simplification and of the inert mixture (document 01, "Gases and their figures"): the gas of
 -- 001 Table A.1; two analyses in range at the rules for equal remainders and for halves; one with absent components;
--- one rich in butane; and one with the greatest T. Assumes nothing.
+-- 000's example 1 and one rich in butane; and one with the greatest T. Assumes nothing.
 use Prim.Native.Nat.{ℕ}
 use mathlib.Core.Path.{_≡_, refl}
 use mathlib.Core.List.{List, [], _∷_}
@@ -9,6 +9,7 @@ use Rattle.analysis.specs.Check.{totalOf, inRange, totalFits, analysisRefusal}
 use Rattle.analysis.specs.Examples.{tableA1}
 use Rattle.mixture.specs.Scaling.{largestTo, distributed, scaledOf}
 use Rattle.mixture.specs.Simplification.{tenthsOf, tenthsTotal, simplifiedOf}
+use Rattle.mixture.specs.Butane.{afterButanesOf, afterPentanesOf, afterHexanesOf}
 use Rattle.mixture.specs.Inert.{methaneShare, inertOf}
 use Rattle.mixture.specs.Laws.Bounds.{GREATEST_TENTHS, LEAST_PARTS}
 
@@ -41,6 +42,17 @@ methaneEthane = 0 ∷ 970000 ∷ 10000 ∷ 0 ∷ 0 ∷ 0 ∷ 0 ∷ 0 ∷ 0 ∷ 0
 pub methane-ethane : simplifiedOf methaneEthane ≡ 989796 ∷ 10204 ∷ 0 ∷ 0 ∷ 0 ∷ []
 unfolding largestTo distributed scaledOf tenthsOf
 methane-ethane = refl
+
+-- 000's example 1 (Table A.1), by code
+abbrev pub example1 : List ℕ
+example1 = 0 ∷ 900900 ∷ 55400 ∷ 13200 ∷ 2100 ∷ 1900 ∷ 0 ∷ 400 ∷ 500 ∷ 0 ∷ 600 ∷ 14600 ∷ 10400 ∷ 0 ∷ 0 ∷ 0 ∷ []
+
+-- its butane by A.3.1: 0.2100 + 0.1900, + (0.0400 + 0.0500) × 2.3, + 0.0600 × 5.3 = 0.9250 %, and 0.9451 % scaled
+pub example-1 :
+    (afterButanesOf example1 ≡ 40000) × (afterPentanesOf example1 ≡ 60700) × (afterHexanesOf example1 ≡ 92500)
+    × (simplifiedOf example1 ≡ 920460 ∷ 56603 ∷ 13486 ∷ 9451 ∷ 0 ∷ [])
+unfolding largestTo distributed scaledOf tenthsOf
+example-1 = (refl, refl, refl, refl)
 
 -- a gas rich in butane, with 6100 parts of hexanes+, in range; it chooses system 2 (`demand/specs/Marked`)
 abbrev pub butaneRich : List ℕ

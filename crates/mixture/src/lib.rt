@@ -9,11 +9,11 @@ ghost use lib.ListN.{length, replicate};
 ghost use Rattle.integer.specs.Figures.{MILLION};
 ghost use Rattle.analysis.specs.Check.{totalOf, checkedOf};
 ghost use Rattle.mixture.specs.Scaling.{quotientOf, remainderOf, greatestPlace, distributed, scaledOf};
-ghost use Rattle.mixture.specs.Simplification.{COMPONENTS, butaneOf, tenthsOf, tenthsTotal, simplifiedOf};
+ghost use Rattle.mixture.specs.Simplification.{COMPONENTS, tenthsOf, tenthsTotal, simplifiedOf};
+ghost use Rattle.mixture.specs.Butane.{afterButanesOf, afterPentanesOf, afterHexanesOf};
 ghost use Rattle.mixture.specs.Inner.Limits.{MOST_PARTS, Limited};
 ghost use Rattle.mixture.specs.Answers.{mixtureOf, inertN1};
 ghost use Rattle.mixture.specs.Inert.{halvesUp, methaneShare, inertFirst};
-ghost use Rattle.mixture.specs.Inner.Factor.{factorOf};
 
 // Methane, ethane, propane, butane, hydrogen.
 pub const COMPONENTS: usize = 5;
@@ -27,6 +27,14 @@ const WIDE_MILLION: u64 = MILLION as u64;
 // The amounts of the components in parts, in their order.
 pub struct Mixture {
     pub amounts: [u32; COMPONENTS],
+}
+
+// Butane as 000 A.3.1 adds it up, in tenths of a part: the amount that stands after each of its three steps. The last
+// is butane of the simplified mixture before it is scaled.
+pub struct ButaneSum {
+    pub after_butanes: u64,
+    pub after_pentanes: u64,
+    pub after_hexanes: u64,
 }
 
 // The check's answer, and of an analysis in range the mixture and n1 of the inert mixture, of which n2 is the rest of
@@ -44,21 +52,21 @@ pub fn simplify(analysis: Analysis) -> Simplified
     ensures { λ r. ⌜ r .mixture .amounts ≡ mixtureOf (analysis .amounts) ⌝ }
     ensures { λ r. ⌜ r .inert ≡ inertN1 (analysis .amounts) ⌝ }
 {
-    let amounts = analysis.amounts;
     let answer = analysis::check(analysis);
     match answer {
-        Checked::InRange => in_range(&amounts),
+        Checked::InRange => in_range(analysis),
         Checked::Refused { number, code } => refused(number, code),
     }
 }
 
 // The mixtures of amounts whose T is not 0, beside the answer of an analysis in range.
-fn in_range(a: &[u32; CODES]) -> Simplified
-    requires { ⌜ 0 < tenthsTotal (now a) ⌝ }
-    ensures { λ r. ⌜ (r .answer ≡ Checked.InRange) × (r .mixture .amounts ≡ simplifiedOf (now (a .entry)))
-        × (r .inert ≡ inertFirst (now (a .entry))) ⌝ }
+fn in_range(analysis: Analysis) -> Simplified
+    requires { ⌜ 0 < tenthsTotal (analysis .amounts) ⌝ }
+    ensures { λ r. ⌜ (r .answer ≡ Checked.InRange) × (r .mixture .amounts ≡ simplifiedOf (analysis .amounts))
+        × (r .inert ≡ inertFirst (analysis .amounts)) ⌝ }
 {
-    let x = tenths(a);
+    let a = analysis.amounts;
+    let x = tenths(analysis);
     let total = sum(&x);
     Simplified {
         answer: Checked::InRange,
@@ -83,54 +91,41 @@ fn refused(number: u32, code: u32) -> Simplified
     }
 }
 
-// An amount by a factor in tenths.
-fn weighted(x: u32, factor: u64) -> u64
-    requires { ⌜ factor ≤ 53 ⌝ }
-    ensures { λ r. ⌜ (r ≡ factor * x) × (r ≤ factor * 4294967295) ⌝ }
+// Butane of any amounts, added up in the order of 000 A.3.1: butanes at 1, then the pentanes at 2.3, then hexanes+ at
+// 5.3. The annex's butadiene and butylene have no code.
+pub fn butane(analysis: Analysis) -> ButaneSum
+    ensures { λ r. ⌜ r .«after_butanes» ≡ afterButanesOf (analysis .amounts) ⌝ }
+    ensures { λ r. ⌜ r .«after_pentanes» ≡ afterPentanesOf (analysis .amounts) ⌝ }
+    ensures { λ r. ⌜ r .«after_hexanes» ≡ afterHexanesOf (analysis .amounts) ⌝ }
 {
-    factor * x as u64
-}
-
-// The factor of a code of butane in tenths: butanes 1, pentanes 2.3, hexanes+ 5.3.
-fn factor(code: usize) -> u64
-    ensures { λ r. ⌜ (r ≡ factorOf code) × (r ≤ 53) ⌝ }
-{
-    if code < 6 {
-        return 10;
+    let a = analysis.amounts;
+    // the quantities, in parts
+    let butanes = a[4] as u64 + a[5] as u64;
+    let pentanes = a[6] as u64 + a[7] as u64 + a[8] as u64;
+    let hexanes = a[10] as u64;
+    // the three steps, in tenths of a part
+    let after_butanes = 10 * butanes;
+    let after_pentanes = after_butanes + 23 * pentanes;
+    let after_hexanes = after_pentanes + 53 * hexanes;
+    ButaneSum {
+        after_butanes,
+        after_pentanes,
+        after_hexanes,
     }
-    if code < 9 {
-        return 23;
-    }
-    if code == 10 {
-        return 53;
-    }
-    0
-}
-
-// Butane in tenths of a part, of the codes 4 to 10.
-fn butane(a: &[u32; CODES]) -> u64
-    ensures { λ r. ⌜ (r ≡ butaneOf (now (a .entry))) × (r ≤ MOST_PARTS) ⌝ }
-{
-    let mut t: u64 = 0;
-    let mut code: usize = 4;
-    while code < 11 {
-        t += weighted(a[code], factor(code));
-        code += 1;
-    }
-    t
 }
 
 // The components in tenths of a part. They have 64 bits, so that any amounts may come; what follows needs only T
 // above 0 and no tenth above 10^12.
-fn tenths(a: &[u32; CODES]) -> [u64; COMPONENTS]
-    ensures { λ r. ⌜ (r ≡ tenthsOf (now (a .entry))) × Limited r ⌝ }
+fn tenths(analysis: Analysis) -> [u64; COMPONENTS]
+    ensures { λ r. ⌜ (r ≡ tenthsOf (analysis .amounts)) × Limited r ⌝ }
 {
+    let a = analysis.amounts;
     [
-        weighted(a[1], 10),
-        weighted(a[2], 10),
-        weighted(a[3], 10),
-        butane(a),
-        weighted(a[15], 10),
+        10 * a[1] as u64,
+        10 * a[2] as u64,
+        10 * a[3] as u64,
+        butane(analysis).after_hexanes,
+        10 * a[15] as u64,
     ]
 }
 
@@ -242,5 +237,5 @@ fn methane_share(total: u64, co2: u32) -> u32
     requires { ⌜ (0 < total) × (total ≤ MOST_PARTS * COMPONENTS) ⌝ }
     ensures { λ r. ⌜ (r ≡ methaneShare total co2) × (r ≤ MILLION) ⌝ }
 {
-    halves_up(WIDE_MILLION * total, total + weighted(co2, 10)) as u32
+    halves_up(WIDE_MILLION * total, total + 10 * co2 as u64) as u32
 }

@@ -22,27 +22,27 @@ scale-requires c κs =
     let t = c .before .before in
     let f = ap totalOf (t .tenths .ensures .0) in
     let e : c .sum .result ≡ totalOf (t .tenths .result) = omega (arith, c .sum .ensures .0, f) in
-    (t .tenths .ensures .1, e, omega (arith, t .before .pre, f))
+    (t .tenths .ensures .1, e, omega (arith, t .before .before .pre, f))
 
-element-copy-out-methane-share : tie.Need-element-copy-out-methane-share
-element-copy-out-methane-share c = search needs
+array-read-methane-share : tie.Need-array-read-methane-share
+array-read-methane-share c = search needs
 
 methane-share-requires : tie.Need-methane-share-requires
 unfolding tenthsOf
 methane-share-requires c κs =
-    let s = c .before .before in
+    let s = c .before in
     let t = s .before .before in
-    (omega (arith, t .before .pre, s .sum .ensures .0, ap totalOf (t .tenths .ensures .0)), s .sum .ensures .1)
+    (omega (arith, t .before .before .pre, s .sum .ensures .0, ap totalOf (t .tenths .ensures .0)), s .sum .ensures .1)
 
 returns : tie.Need-returns
 unfolding tenthsOf
 returns c =
-    let s = c .before .before .before in
+    let s = c .before .before in
     let t = s .before .before in
-    let a = t .before .args .a .now in
+    let a = t .before .before .args .analysis .amounts in
     let e : s .sum .result ≡ tenthsTotal a = omega (arith, s .sum .ensures .0, ap totalOf (t .tenths .ensures .0)) in (
       refl,
-      c .before .before .scale .ensures ∙ ap scaledOf (t .tenths .ensures .0),
+      c .before .scale .ensures ∙ ap scaledOf (t .tenths .ensures .0),
       c .methane-share .ensures .0
           ∙ ap (λ n. methaneShare n (amountOfCode a 11)) e,
     )
@@ -54,6 +54,6 @@ in-range-spec =
     tenths-requires
     sum-requires
     scale-requires
-    element-copy-out-methane-share
+    array-read-methane-share
     methane-share-requires
     returns)

@@ -1,9 +1,9 @@
 -- `mixture::methane_share` meets its contract. Assumes nothing.
-use Prim.Native.Nat.{_+_, _*_, _≤_}
-use mathlib.Core.Path.{_≡_, ap, _∙_}
+use Prim.Native.Nat.{_≤_}
+use mathlib.Core.Path.{_≡_}
 use native.Mathlib.Omega.{arith}
 use Rattle.integer.specs.Figures.{MILLION}
-use Rattle.mixture.specs.Inert.{halvesUp, methaneShare}
+use Rattle.mixture.specs.Inert.{methaneShare}
 use Rattle.mixture.specs.Laws.Bounds.{share-greatest}
 use borrow.Author.Needs.{needs}
 use Rattle.mixture.proofs.methane_share.Statement.{statement}
@@ -12,8 +12,8 @@ use Rattle.mixture.proofs.methane_share.Tie as tie
 mul-halves-up : tie.Need-mul-halves-up
 mul-halves-up c = search needs
 
-weighted-requires : tie.Need-weighted-requires
-weighted-requires c κs = search needs
+mul-halves-up-2 : tie.Need-mul-halves-up-2
+mul-halves-up-2 c = search needs
 
 add-halves-up : tie.Need-add-halves-up
 add-halves-up c = search needs
@@ -22,14 +22,13 @@ halves-up-requires : tie.Need-halves-up-requires
 halves-up-requires c κs = search needs
 
 share : (c : tie.After-halves-up) →
-    let a = c .before .before .args in
+    let a = c .before .args in
     (c .halves-up .result ≡ methaneShare (a .total) (a .co2)) × (c .halves-up .result ≤ MILLION)
 unfolding methaneShare
 share c =
-    let a = c .before .before .args in
-    let e : c .halves-up .result ≡ methaneShare (a .total) (a .co2) =
-    c .halves-up .ensures ∙ ap (λ w. halvesUp (MILLION * a .total) (a .total + w)) (c .before .weighted .ensures .0) in
-    (e, omega (arith, share-greatest (a .total) (a .co2) (c .before .before .pre .0)))
+    let a = c .before .args in
+    let e : c .halves-up .result ≡ methaneShare (a .total) (a .co2) = c .halves-up .ensures in
+    (e, omega (arith, share-greatest (a .total) (a .co2) (c .before .pre .0)))
 
 cast-result : tie.Need-cast-result
 cast-result c = record { fits = omega (arith, share c .0, share c .1) }
@@ -42,7 +41,7 @@ methane-share-spec =
     tie.close
     (tie.spec
     mul-halves-up
-    weighted-requires
+    mul-halves-up-2
     add-halves-up
     halves-up-requires
     cast-result

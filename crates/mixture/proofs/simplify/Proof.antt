@@ -17,10 +17,10 @@ enum-told c = search needs
 
 in-range-requires : tie.Need-in-range-requires
 in-range-requires c κs =
-    let k = c .before .before .before in
-    let a = k .before .before .args .analysis .amounts in
+    let k = c .before .before in
+    let a = k .before .args .analysis .amounts in
     let l : length a ≡ CODES = search needs in
-    tenths-positive a l (checked-in-range a (sym (k .check .ensures .0) ∙ c .before .enum-told .given .1))
+    tenths-positive a l (checked-in-range a (sym (k .check .ensures .0) ∙ c .enum-told .given .1))
 
 enum-known-answer : tie.Need-enum-known-answer
 enum-known-answer c = search needs
@@ -30,9 +30,9 @@ refused-requires c κs = search needs
 
 returns : tie.Need-returns
 returns c =
-    let k = c .before .before .before .before in
-    let a = k .before .before .args .analysis .amounts in
-    let e = c .before .before .enum-told .given .1 in
+    let k = c .before .before .before in
+    let a = k .before .args .analysis .amounts in
+    let e = c .before .enum-told .given .1 in
     let n = checked-in-range a (sym (k .check .ensures .0) ∙ e) in
     let r = c .in-range .ensures in
     (r .0 ∙ sym e ∙ k .check .ensures .0, (mixture-in-range a n _ (r .1), inert-in-range a n _ (r .2)))
@@ -40,7 +40,7 @@ returns c =
 returns-2 : tie.Need-returns-2
 returns-2 c =
     let k = c .before .before .before .before in
-    let a = k .before .before .args .analysis .amounts in
+    let a = k .before .args .analysis .amounts in
     let e = c .before .before .answer .given .1 in
     let n = checked-refused a _ _ (sym (k .check .ensures .0) ∙ e) .2 in
     let r = c .refused .ensures in

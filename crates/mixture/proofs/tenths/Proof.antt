@@ -1,56 +1,75 @@
 -- `mixture::tenths` meets its contract. Assumes nothing.
+use Prim.Native.Nat.{ℕ}
+use native.Mathlib.Omega.{arith}
+use lib.ListN.{getD}
+use mir.Syntax.{w32}
+use mir.Val.{Fits}
 use Rattle.mixture.proofs.Loops.{tenths-each}
 use borrow.Author.Needs.{needs}
 use Rattle.mixture.proofs.tenths.Statement.{statement}
 use Rattle.mixture.proofs.tenths.Tie as tie
 
-element-copy-out-weighted : tie.Need-element-copy-out-weighted
-element-copy-out-weighted c = search needs
+-- an amount has 32 bits
+fits : (c : tie.After-a) (code : ℕ) → Fits w32 (getD (c .before .args .analysis .amounts) code 0)
+fits c code = search needs
 
-weighted-requires : tie.Need-weighted-requires
-weighted-requires c κs = search needs
+array-read-t5 : tie.Need-array-read-t5
+array-read-t5 c = search needs
 
-element-copy-out-weighted-2 : tie.Need-element-copy-out-weighted-2
-element-copy-out-weighted-2 c = search needs
+cast-t6 : tie.Need-cast-t6
+cast-t6 c = search needs
 
-weighted-requires-2 : tie.Need-weighted-requires-2
-weighted-requires-2 c κs = search needs
+mul-t7 : tie.Need-mul-t7
+mul-t7 c = omega (arith, fits c 1)
 
-element-copy-out-weighted-3 : tie.Need-element-copy-out-weighted-3
-element-copy-out-weighted-3 c = search needs
+array-read-t10 : tie.Need-array-read-t10
+array-read-t10 c = search needs
 
-weighted-requires-3 : tie.Need-weighted-requires-3
-weighted-requires-3 c κs = search needs
+cast-t11 : tie.Need-cast-t11
+cast-t11 c = search needs
+
+mul-t12 : tie.Need-mul-t12
+mul-t12 c = omega (arith, fits c 2)
+
+array-read-t15 : tie.Need-array-read-t15
+array-read-t15 c = search needs
+
+cast-t16 : tie.Need-cast-t16
+cast-t16 c = search needs
+
+mul-t17 : tie.Need-mul-t17
+mul-t17 c = omega (arith, fits c 3)
 
 butane-requires : tie.Need-butane-requires
 butane-requires c κs = search needs
 
-element-copy-out-weighted-4 : tie.Need-element-copy-out-weighted-4
-element-copy-out-weighted-4 c = search needs
+array-read-t21 : tie.Need-array-read-t21
+array-read-t21 c = search needs
 
-weighted-requires-4 : tie.Need-weighted-requires-4
-weighted-requires-4 c κs = search needs
+cast-t22 : tie.Need-cast-t22
+cast-t22 c = search needs
+
+mul-t23 : tie.Need-mul-t23
+mul-t23 c = omega (arith, fits (c .before) 15)
 
 returns : tie.Need-returns
-returns c =
-    let b = c .before .before in
-    let z = b .before in
-    let y = z .before .before in
-    let x = y .before .before in
-    tenths-each _ _ _ _ _ _ (x .weighted .ensures) (y .weighted2 .ensures) (z .weighted3 .ensures) (b .butane .ensures)
-    (c .weighted4 .ensures)
+returns c = tenths-each _ (λ code. fits (c .before) code .fits) _ (c .butane .ensures .1 .1)
 
 pub tenths-spec : {M : Type 1} → statement M
 tenths-spec =
     tie.close
     (tie.spec
-    element-copy-out-weighted
-    weighted-requires
-    element-copy-out-weighted-2
-    weighted-requires-2
-    element-copy-out-weighted-3
-    weighted-requires-3
+    array-read-t5
+    cast-t6
+    mul-t7
+    array-read-t10
+    cast-t11
+    mul-t12
+    array-read-t15
+    cast-t16
+    mul-t17
     butane-requires
-    element-copy-out-weighted-4
-    weighted-requires-4
+    array-read-t21
+    cast-t22
+    mul-t23
     returns)

@@ -1,0 +1,67 @@
+#!/usr/bin/env python3
+"""The analyses of crates/butane_cases and their butane, worked out by the sentences of 000 A.3.1 alone, with its factors
+as printed: the quantity that stands after the butanes, after the pentanes and after hexanes+.
+
+  butane_cases.py            prints the lines that the program has to print
+  butane_cases.py --check    compares the program's analyses and its file `stdout` with them
+"""
+import os
+import re
+import sys
+from decimal import Decimal
+
+BUTANES, PENTANES, HEXANES = (4, 5), (6, 7, 8), (10,)
+CODES = BUTANES + PENTANES + HEXANES
+LARGEST = 2 ** 32 - 1
+
+EXAMPLE_1 = (2100, 1900, 0, 400, 500, 600)
+ANALYSES = [
+    EXAMPLE_1,
+    (0, 1461, 0, 0, 292, 0),
+    (1909, 1727, 0, 364, 455, 545),
+    (346, 245, 11, 73, 125, 84),                    # the gas of 001 Table A.1
+    (40000, 40000, 500, 20000, 20000, 6100),        # one rich in butane
+    (0,) * 6,
+    *(tuple(int(code == one) for code in CODES) for one in CODES),
+    *(tuple(LARGEST * (code in group) for code in CODES) for group in (BUTANES, PENTANES, HEXANES)),
+    (LARGEST,) * 6,
+]
+
+
+def steps(amounts):
+    """The three quantities in parts, of amounts in parts."""
+    gas = dict(zip(CODES, amounts))
+    quantity = Decimal(0)
+    for codes, factor in (BUTANES, "1"), (PENTANES, "2.3"), (HEXANES, "5.3"):
+        quantity += sum(gas[code] for code in codes) * Decimal(factor)
+        yield quantity
+
+
+def tenths(quantity):
+    whole = 10 * quantity
+    assert whole == int(whole)
+    return int(whole)
+
+
+def lines():
+    return [" ".join(str(tenths(quantity)) for quantity in steps(amounts)) + "\n" for amounts in ANALYSES]
+
+
+def main():
+    # the annex's own sum: 0,2100 + 0,1900 + (0,0400 + 0,0500) x 2,3 + 0,0600 x 5,3 = 0,9250
+    percent = [quantity / 10000 for quantity in steps(EXAMPLE_1)]
+    assert percent == [Decimal("0.4000"), Decimal("0.6070"), Decimal("0.9250")]
+    if sys.argv[1:] != ["--check"]:
+        sys.stdout.writelines(lines())
+        return
+    crate = os.path.join(os.path.dirname(os.path.abspath(__file__)), "..", "crates", "butane_cases")
+    source = open(os.path.join(crate, "src", "main.rt")).read()
+    calls = re.findall(r"put_butane\(\[([^\]]*)\]\)", source)
+    if [tuple(int(n) for n in call.split(",") if n.strip()) for call in calls] != ANALYSES:
+        sys.exit("butane_cases: other analyses in src/main.rt")
+    if open(os.path.join(crate, "stdout")).readlines() != lines():
+        sys.exit("butane_cases: other lines in stdout")
+    print(f"butane_cases: {len(ANALYSES)} analyses agree")
+
+
+main()
