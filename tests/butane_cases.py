@@ -1,6 +1,6 @@
 #!/usr/bin/env python3
-"""The analyses of crates/butane_cases and their butane, worked out by the sentences of 000 A.3.1 alone, with its factors
-as printed: the quantity that stands after the butanes, after the pentanes and after hexanes+.
+"""The analyses of crates/butane_cases and their butane, worked out by the sentences of 000 A.3.1 alone, with its
+factors as printed: the quantity that stands after the butanes, after the pentanes and after hexanes+.
 
   butane_cases.py            prints the lines that the program has to print
   butane_cases.py --check    compares the program's analyses and its file `stdout` with them
@@ -14,11 +14,11 @@ BUTANES, PENTANES, HEXANES = (4, 5), (6, 7, 8), (10,)
 CODES = BUTANES + PENTANES + HEXANES
 LARGEST = 2 ** 32 - 1
 
-EXAMPLE_1 = (2100, 1900, 0, 400, 500, 600)
+EXAMPLES = {(2100, 1900, 0, 400, 500, 600): "0.9250",           # 000's examples 1, 2 and 3, and the quantity of
+            (0, 1461, 0, 0, 292, 0): "0.2133",                  # butanes in percent that A.3.1, A.4.1 and A.5.1 print
+            (1909, 1727, 0, 364, 455, 545): "0.8408"}
 ANALYSES = [
-    EXAMPLE_1,
-    (0, 1461, 0, 0, 292, 0),
-    (1909, 1727, 0, 364, 455, 545),
+    *EXAMPLES,
     (346, 245, 11, 73, 125, 84),                    # the gas of 001 Table A.1
     (40000, 40000, 500, 20000, 20000, 6100),        # one rich in butane
     (0,) * 6,
@@ -48,9 +48,9 @@ def lines():
 
 
 def main():
-    # the annex's own sum: 0,2100 + 0,1900 + (0,0400 + 0,0500) x 2,3 + 0,0600 x 5,3 = 0,9250
-    percent = [quantity / 10000 for quantity in steps(EXAMPLE_1)]
-    assert percent == [Decimal("0.4000"), Decimal("0.6070"), Decimal("0.9250")]
+    for amounts, printed in EXAMPLES.items():
+        *_, last = steps(amounts)
+        assert round(last / 10000, 4) == Decimal(printed), (amounts, last)
     if sys.argv[1:] != ["--check"]:
         sys.stdout.writelines(lines())
         return

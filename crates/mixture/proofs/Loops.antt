@@ -27,7 +27,8 @@ sum-has [] i = omega arith
 sum-has (x ∷ l) zero = omega arith
 sum-has (x ∷ l) (suc i) = omega (arith, sum-has l i)
 
--- ---- the components of amounts of 32 bits, butane as the code adds it up
+-- ---- the components of amounts of 32 bits, butane as the code adds it up. Of butane and hydrogen, the last two, the
+-- bound is proved in either order: components exchanged are refused for their order
 
 module _ (a : List ℕ) (fits : (code : ℕ) → getD a code 0 < 4294967296) where
   small : (i : ℕ) → getD (tenthsOf a) i 0 ≤ MOST_PARTS

@@ -4,6 +4,7 @@
 use Prim.Native.Nat.{ℕ}
 use mathlib.Core.Path.{_≡_, refl}
 use mathlib.Core.List.{List, [], _∷_}
+use lib.ListN.{getD}
 use Rattle.analysis.specs.Register.{statusOf}
 use Rattle.analysis.specs.Check.{totalOf, inRange, totalFits, analysisRefusal}
 use Rattle.analysis.specs.Examples.{tableA1}
@@ -48,11 +49,11 @@ abbrev pub example1 : List ℕ
 example1 = 0 ∷ 900900 ∷ 55400 ∷ 13200 ∷ 2100 ∷ 1900 ∷ 0 ∷ 400 ∷ 500 ∷ 0 ∷ 600 ∷ 14600 ∷ 10400 ∷ 0 ∷ 0 ∷ 0 ∷ []
 
 -- its butane by A.3.1: 0.2100 + 0.1900, + (0.0400 + 0.0500) × 2.3, + 0.0600 × 5.3 = 0.9250 %, and 0.9451 % scaled
-pub example-1 :
+pub example1-butane :
     (afterButanesOf example1 ≡ 40000) × (afterPentanesOf example1 ≡ 60700) × (afterHexanesOf example1 ≡ 92500)
-    × (simplifiedOf example1 ≡ 920460 ∷ 56603 ∷ 13486 ∷ 9451 ∷ 0 ∷ [])
+    × (getD (simplifiedOf example1) 3 0 ≡ 9451)
 unfolding largestTo distributed scaledOf tenthsOf
-example-1 = (refl, refl, refl, refl)
+example1-butane = (refl, refl, refl, refl)
 
 -- a gas rich in butane, with 6100 parts of hexanes+, in range; it chooses system 2 (`demand/specs/Marked`)
 abbrev pub butaneRich : List ℕ

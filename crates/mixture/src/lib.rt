@@ -1,7 +1,6 @@
 // The simplified mixture and the inert mixture of an analysis (000 A.3.1 and A.3.7).
 // No public function has a `requires`.
 use analysis::Analysis;
-use analysis::CODES;
 use analysis::Checked;
 ghost use mathlib.Core.Path.{_≡_};
 ghost use Prim.Native.Nat.{_+_, _*_, _<_, _≤_};
@@ -29,8 +28,8 @@ pub struct Mixture {
     pub amounts: [u32; COMPONENTS],
 }
 
-// Butane as 000 A.3.1 adds it up, in tenths of a part: the amount that stands after each of its three steps. The last
-// is butane of the simplified mixture before it is scaled.
+// Butane as 000 A.3.1 adds it up, in tenths of a part: the amount that stands after the butanes, after the pentanes and
+// after hexanes+. The last is butane of the simplified mixture before it is scaled.
 pub struct ButaneSum {
     pub after_butanes: u64,
     pub after_pentanes: u64,
@@ -103,7 +102,7 @@ pub fn butane(analysis: Analysis) -> ButaneSum
     let butanes = a[4] as u64 + a[5] as u64;
     let pentanes = a[6] as u64 + a[7] as u64 + a[8] as u64;
     let hexanes = a[10] as u64;
-    // the three steps, in tenths of a part
+    // their sum, in tenths of a part
     let after_butanes = 10 * butanes;
     let after_pentanes = after_butanes + 23 * pentanes;
     let after_hexanes = after_pentanes + 53 * hexanes;

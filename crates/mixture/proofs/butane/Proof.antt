@@ -13,7 +13,7 @@ use Rattle.mixture.proofs.butane.Tie as tie
 fits : (c : tie.After-a) (code : ℕ) → Fits w32 (getD (c .before .args .analysis .amounts) code 0)
 fits c code = search needs
 
--- the amounts of codes 4 to 10
+-- the amounts of codes 4 to 10; a program that read 9 would not overflow either, and is refused for its sum
 abbrev Small : List ℕ → Type 0
 Small a =
     (getD a 4 0 < 4294967296) × (getD a 5 0 < 4294967296) × (getD a 6 0 < 4294967296) × (getD a 7 0 < 4294967296)
