@@ -5,10 +5,9 @@ factors as printed: the quantity that stands after the butanes, after the pentan
   butane_cases.py            prints the lines that the program has to print
   butane_cases.py --check    compares the program's analyses and its file `stdout` with them
 """
-import os
-import re
-import sys
 from decimal import Decimal
+
+import cases
 
 BUTANES, PENTANES, HEXANES = (4, 5), (6, 7, 8), (10,)
 CODES = BUTANES + PENTANES + HEXANES
@@ -51,17 +50,7 @@ def main():
     for amounts, printed in EXAMPLES.items():
         *_, last = steps(amounts)
         assert round(last / 10000, 4) == Decimal(printed), (amounts, last)
-    if sys.argv[1:] != ["--check"]:
-        sys.stdout.writelines(lines())
-        return
-    crate = os.path.join(os.path.dirname(os.path.abspath(__file__)), "..", "crates", "butane_cases")
-    source = open(os.path.join(crate, "src", "main.rt")).read()
-    calls = re.findall(r"put_butane\(\[([^\]]*)\]\)", source)
-    if [tuple(int(n) for n in call.split(",") if n.strip()) for call in calls] != ANALYSES:
-        sys.exit("butane_cases: other analyses in src/main.rt")
-    if open(os.path.join(crate, "stdout")).readlines() != lines():
-        sys.exit("butane_cases: other lines in stdout")
-    print(f"butane_cases: {len(ANALYSES)} analyses agree")
+    cases.run("butane_cases", "put_butane", "analyses", ANALYSES, lines())
 
 
 main()

@@ -6,11 +6,10 @@ fitness, A.3.2.4 for the choice, request Five for absent components and request 
   choice_cases.py            prints the lines that the program has to print
   choice_cases.py --check    compares the program's mixtures and its file `stdout` with them
 """
-import os
-import re
-import sys
 from fractions import Fraction
 from itertools import combinations, product
+
+import cases
 
 COMPONENTS = METHANE, ETHANE, PROPANE, BUTANE, HYDROGEN = range(5)
 SYSTEMS = {
@@ -194,17 +193,7 @@ def main():
         assert any(chosen(m, sequence) != chosen(m) for m in MIXTURES) == (two != {BUTANE, METHANE}), two
     hydrogen_last = (*SEQUENCE[1:], HYDROGEN)
     assert any(chosen(m, hydrogen_last) != chosen(m) for m in MIXTURES)
-    if sys.argv[1:] != ["--check"]:
-        sys.stdout.writelines(lines())
-        return
-    crate = os.path.join(os.path.dirname(os.path.abspath(__file__)), "..", "crates", "choice_cases")
-    source = open(os.path.join(crate, "src", "main.rt")).read()
-    calls = re.findall(r"choose\(\[([^\]]*)\]\)", source)
-    if [tuple(int(n) for n in call.split(",") if n.strip()) for call in calls] != MIXTURES:
-        sys.exit("choice_cases: other mixtures in src/main.rt")
-    if open(os.path.join(crate, "stdout")).readlines() != lines():
-        sys.exit("choice_cases: other lines in stdout")
-    print(f"choice_cases: {len(MIXTURES)} mixtures agree")
+    cases.run("choice_cases", "choose", "mixtures", MIXTURES, lines())
 
 
 main()
