@@ -8,30 +8,34 @@ use lib.ListN.{length, getD, drop, drop-of-length-le}
 use lib.Seq.{drop-cons}
 use lib.Dec.{eqb}
 use borrow.Author.Tests.{le-leb, lt-leb, eq-eqb, ne-eqb}
-use Rattle.analysis.specs.Register.{CODES}
+use Rattle.refusal.specs.Register.{MOLE_BLEND, carried}
+use Rattle.analysis.specs.Register.{CODES, hydrogenCode}
+use Rattle.analysis.specs.CheckedCases.{numberOf, faultOf}
 use Rattle.analysis.specs.declared.Checked.{Checked}
 use Rattle.analysis.specs.declared.Checked.the-variants.{InRange, Refused}
 use Rattle.analysis.specs.Check.{inRange, allInRange, totalOf, LEAST_SUM, GREATEST_SUM, totalFits}
-use Rattle.analysis.specs.Check.{refusalByTests, analysisRefusal, lowestFault, answerBy, checkedOf}
+use Rattle.analysis.specs.Check.{refusalByTests, lowestFault, answerBy, moleAmountsRefusal, moleRefusal}
+use Rattle.analysis.specs.Check.{molesCheckedOf}
+use Rattle.analysis.specs.Laws.Answers.{answer-is}
 use Rattle.analysis.specs.Laws.Lowest.{lowest-none}
 
 -- ---- the number of a refusal
 
-module _ (fault sum : ℕ) where
-  pub refused-range : (fault ≡ CODES → ⊥) → 5 ≡ refusalByTests (eqb fault CODES) (totalFits sum)
+module _ (number fault sum : ℕ) where
+  pub refused-range : (fault ≡ CODES → ⊥) → 5 ≡ refusalByTests number (eqb fault CODES) (totalFits sum)
   refused-range f = rw (ne-eqb fault CODES f)
 
-  pub refused-low : fault ≡ CODES → sum < LEAST_SUM → 6 ≡ refusalByTests (eqb fault CODES) (totalFits sum)
+  pub refused-low : fault ≡ CODES → sum < LEAST_SUM → number ≡ refusalByTests number (eqb fault CODES) (totalFits sum)
   unfolding totalFits
   refused-low f h = simp (eq-eqb fault CODES f, lt-leb LEAST_SUM sum h)
 
   pub refused-not : fault ≡ CODES → LEAST_SUM ≤ sum → sum ≤ GREATEST_SUM
-      → 0 ≡ refusalByTests (eqb fault CODES) (totalFits sum)
+      → 0 ≡ refusalByTests number (eqb fault CODES) (totalFits sum)
   unfolding totalFits
   refused-not f h l = simp (eq-eqb fault CODES f, le-leb LEAST_SUM sum h, le-leb sum GREATEST_SUM l)
 
   pub refused-high : fault ≡ CODES → LEAST_SUM ≤ sum → GREATEST_SUM < sum
-      → 6 ≡ refusalByTests (eqb fault CODES) (totalFits sum)
+      → number ≡ refusalByTests number (eqb fault CODES) (totalFits sum)
   unfolding totalFits
   refused-high f h l = simp (eq-eqb fault CODES f, le-leb LEAST_SUM sum h, lt-leb sum GREATEST_SUM l)
 
@@ -111,10 +115,9 @@ module _ (a : List ℕ) (fault sum code next : ℕ) (w : Walked a fault sum code
 
 -- ---- the check
 
-module _ (a : List ℕ) (fault sum code : ℕ) (r : Checked) (z : code ≤ 0) (w : Walked a fault sum code)
-    (e : r ≡ answerBy (refusalByTests (eqb fault CODES) (totalFits sum)) fault) where
-  pub checking : r ≡ checkedOf a
-  unfolding checkedOf analysisRefusal
+module _ (number : ℕ) (a : List ℕ) (fault sum code : ℕ) (r : Checked) (z : code ≤ 0) (w : Walked a fault sum code)
+    (e : r ≡ answerBy (refusalByTests number (eqb fault CODES) (totalFits sum)) fault) where
+  pub checking : r ≡ answerBy (refusalByTests number (allInRange 0 a) (totalFits (totalOf a))) (lowestFault 0 a)
   checking =
       let y : code ≡ 0 = omega arith in
       let f : fault ≡ lowestFault 0 a = rw y at (w .lowest) in
@@ -122,3 +125,19 @@ module _ (a : List ℕ) (fault sum code : ℕ) (r : Checked) (z : code ≤ 0) (w
       let n : CODES ≡ 0 + length a = omega (arith, w .long) in
       let b : eqb (lowestFault 0 a) CODES ≡ allInRange 0 a = ap (eqb (lowestFault 0 a)) n ∙ lowest-none 0 a in
       e ∙ rw (f, t, b)
+
+-- ---- a mole analysis, by its hydrogen: whole and by its cases
+
+module _ (moles : List ℕ) (hydrogen : ℕ) (same : hydrogen ≡ getD moles hydrogenCode 0) where
+  abbrev Answer : Checked → Type 0
+  Answer x = (x ≡ molesCheckedOf moles)
+      × ((numberOf x ≡ moleRefusal moles) × (faultOf x ≡ carried (moleRefusal moles) (lowestFault 0 moles) 0))
+
+  pub mole-blend : (hydrogen ≡ 0 → ⊥) → Answer (Refused MOLE_BLEND 0)
+  unfolding molesCheckedOf moleRefusal
+  mole-blend some = rw (ne-eqb (getD moles hydrogenCode 0) 0 (λ z. some (same ∙ z))) (refl, (refl, refl))
+
+  pub mole-amounts : hydrogen ≡ 0 → (x : Checked) → x ≡ answerBy (moleAmountsRefusal moles) (lowestFault 0 moles)
+      → Answer x
+  unfolding molesCheckedOf moleRefusal
+  mole-amounts none x e = rw (eq-eqb (getD moles hydrogenCode 0) 0 (sym same ∙ none)) (answer-is _ _ x e)

@@ -1,13 +1,15 @@
--- The check of an analysis (document 01, "The register and the sheet", "What is turned away", 5 and 6; document 02,
--- Four). An analysis is its list of amounts, that of code k at index k. Assumes nothing.
+-- The checks of an analysis and of a mole analysis (document 01, "The register and the sheet", "What is turned away", 5
+-- and 6; document 02, Two, Four and Seven). Either is its list of amounts in parts, that of code k at index k
+-- (`Amounts.volumesIn`, `Amounts.molesIn`). Assumes nothing.
 use mathlib.Core.List.{List, [], _∷_}
 use mathlib.Core.Bool.{Bool, true, false, not, _&&_, cond}
 use Prim.Native.Nat.{ℕ, suc, _+_}
 use lib.Dec.{leb, eqb}
-use Rattle.refusal.specs.Register.{OUT_OF_RANGE, TOTAL, carried}
+use lib.ListN.{getD}
+use Rattle.refusal.specs.Register.{OUT_OF_RANGE, TOTAL, MOLE_SUM, MOLE_BLEND, carried}
 use Rattle.analysis.specs.declared.Checked.{Checked}
 use Rattle.analysis.specs.declared.Checked.the-variants.{InRange, Refused}
-use Rattle.analysis.specs.Register.{Status, live, retired, splitsOnly, unknown, statusOf}
+use Rattle.analysis.specs.Register.{Status, live, retired, splitsOnly, unknown, statusOf, hydrogenCode}
 
 -- the least and the greatest amount of a code of a status; 1 and 0, which leave no amount, where it is not live
 abbrev pub leastBy : Status → ℕ
@@ -69,15 +71,15 @@ GREATEST_SUM = 1000100
 unfoldable pub totalFits : ℕ → Bool
 totalFits total = leb LEAST_SUM total && leb total GREATEST_SUM
 
--- 5 where the ranges do not hold, then 6 where the total does not, else 0
-abbrev pub refusalByTests : Bool → Bool → ℕ
-refusalByTests false total = OUT_OF_RANGE
-refusalByTests true false = TOTAL
-refusalByTests true true = 0
+-- 5 where the ranges do not hold, then the total's number, 6 or 15, where the total does not, else 0
+abbrev pub refusalByTests : ℕ → Bool → Bool → ℕ
+refusalByTests number false total = OUT_OF_RANGE
+refusalByTests number true false = number
+refusalByTests number true true = 0
 
 -- the number with which an analysis is refused; 0 where it is in range
 unfoldable pub analysisRefusal : List ℕ → ℕ
-analysisRefusal a = refusalByTests (allInRange 0 a) (totalFits (totalOf a))
+analysisRefusal a = refusalByTests TOTAL (allInRange 0 a) (totalFits (totalOf a))
 
 -- the lowest code at fault, its amount outside its range or absent where it may not be (document 02, Four), the first
 -- amount being that of `code`; the code after the last where none is
@@ -85,10 +87,24 @@ abbrev pub lowestFault : ℕ → List ℕ → ℕ
 lowestFault code [] = code
 lowestFault code (x ∷ xs) = cond (inRange code x) (lowestFault (suc code) xs) code
 
--- the answer by its number; 5 carries `code`, and 6 none
+-- the answer by its number; 5 carries `code`, and the others none
 abbrev pub answerBy : ℕ → ℕ → Checked
 answerBy number code = cond (eqb number 0) InRange (Refused number (carried number code 0))
 
 -- the answer to an analysis; 5 carries the lowest code at fault
 unfoldable pub checkedOf : List ℕ → Checked
 checkedOf a = answerBy (analysisRefusal a) (lowestFault 0 a)
+
+-- ---- a mole analysis: the same ranges, and a total of its own (document 02, Two)
+
+-- the number with which its amounts are refused: 5, then 15; 0 where they are in range
+abbrev pub moleAmountsRefusal : List ℕ → ℕ
+moleAmountsRefusal moles = refusalByTests MOLE_SUM (allInRange 0 moles) (totalFits (totalOf moles))
+
+-- the number with which it is refused: 18 where it has hydrogen (Seven), before 5; 0 where it is in range
+unfoldable pub moleRefusal : List ℕ → ℕ
+moleRefusal moles = cond (eqb (getD moles hydrogenCode 0) 0) (moleAmountsRefusal moles) MOLE_BLEND
+
+-- the answer to a mole analysis; 5 carries the lowest code at fault
+unfoldable pub molesCheckedOf : List ℕ → Checked
+molesCheckedOf moles = answerBy (moleRefusal moles) (lowestFault 0 moles)

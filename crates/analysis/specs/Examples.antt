@@ -1,11 +1,12 @@
--- Worked examples (document 01, "Gases and their figures": run and compared; document 02, Four). Assumes nothing.
+-- Worked examples (document 01, "Gases and their figures": run and compared; document 02, Two, Four and Seven). Assumes
+-- nothing.
 use mathlib.Core.Path.{_≡_, refl}
 use mathlib.Core.List.{List, [], _∷_, _++_}
 use Prim.Native.Nat.{ℕ, _-_}
 use lib.ListN.{replicate}
 use Rattle.analysis.specs.Register.{CODES, statusOf}
 use Rattle.analysis.specs.declared.Checked.the-variants.{Refused}
-use Rattle.analysis.specs.Check.{inRange, totalFits, analysisRefusal, checkedOf}
+use Rattle.analysis.specs.Check.{inRange, totalFits, analysisRefusal, checkedOf, moleRefusal, molesCheckedOf}
 
 -- a gas of methane and ethane as given, and 10000 parts of propane, 1000 of each butane
 abbrev gas : ℕ → ℕ → List ℕ
@@ -82,3 +83,23 @@ lowest-first : (checkedOf (faulty 0 900000) ≡ Refused 5 2) × (checkedOf (faul
     × (checkedOf (faulty 7 0) ≡ Refused 5 0)
 unfolding checkedOf analysisRefusal inRange statusOf
 lowest-first = (refl, refl, refl)
+
+-- ---- moles (document 02, Two)
+
+-- total 999899 is 15, 999900 and 1000100 pass, 1000101 is 15
+moles-total : (moleRefusal (gas 967899 20000) ≡ 15) × (moleRefusal (gas 967900 20000) ≡ 0)
+    × (moleRefusal (gas 968100 20000) ≡ 0) × (moleRefusal (gas 968101 20000) ≡ 15)
+unfolding moleRefusal inRange totalFits statusOf
+moles-total = (refl, refl, refl, refl)
+
+-- the ranges are those of volumes, tested before the total: 5 carries the lowest code at fault
+moles-range : (molesCheckedOf (gas 987901 99) ≡ Refused 5 2) × (molesCheckedOf (gas 400000 99) ≡ Refused 5 2)
+    × (molesCheckedOf (faulty 0 0) ≡ Refused 5 1) × (molesCheckedOf (heavy 993899 6101) ≡ Refused 5 10)
+unfolding molesCheckedOf moleRefusal inRange totalFits statusOf
+moles-range = (refl, refl, refl, refl)
+
+-- hydrogen is 18, in its range or not, before the 5 of methane that is absent and before 15; it carries no code
+moles-hydrogen : (molesCheckedOf (blend 900000 100000) ≡ Refused 18 0) × (molesCheckedOf (blend 0 10) ≡ Refused 18 0)
+    × (molesCheckedOf (blend 900000 1) ≡ Refused 18 0)
+unfolding molesCheckedOf moleRefusal inRange totalFits statusOf
+moles-hydrogen = (refl, refl, refl)

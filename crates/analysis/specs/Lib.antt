@@ -1,8 +1,10 @@
 pub mod Register
+pub mod Amounts
 pub mod CheckedCases
 pub mod Check
 pub mod Required
 pub mod Examples
 pub mod Faults
 pub mod Lowest
+pub mod MoleRefusals
 pub mod Laws

@@ -9,7 +9,8 @@ use lib.ListN.{take}
 use Rattle.refusal.specs.Keys.{distinct, rising, isIn}
 
 -- a code is live, with the least and the greatest amount in parts and whether it must be present; or retired; or
--- legal in splits only; or no key of the register. A part, by document 01, is 0.0001 % by volume.
+-- legal in splits only; or no key of the register. A part, by document 01, is 0.0001 % by volume; of a mole analysis
+-- (document 02, Two) 0.0001 % of the moles.
 pub data Status : Type 0 where
   live : ℕ → ℕ → Bool → Status
   retired : Status

@@ -4,6 +4,7 @@ use mathlib.Core.List.{List, [], _∷_}
 use mathlib.Core.Bool.{Bool, true, _&&_, _||_, cond}
 use Prim.Native.Nat.{ℕ, suc}
 use Rattle.refusal.specs.Keys.{isIn}
+use Rattle.refusal.specs.Register.{TOTAL}
 use Rattle.analysis.specs.Register.{Status, live, retired, splitsOnly, unknown, Entry, statusIn}
 use Rattle.analysis.specs.Check.{leastBy, greatestBy, requiredBy, fitsRange, totalOf, totalFits, refusalByTests}
 
@@ -37,4 +38,4 @@ lowestFaultIn entries code (x ∷ xs) =
 
 -- the number with which an analysis is refused by a register; 0 where it is in range
 unfoldable pub refusalIn : List Entry → List ℕ → ℕ
-refusalIn entries a = refusalByTests (allInRangeIn entries 0 a) (totalFits (totalOf a))
+refusalIn entries a = refusalByTests TOTAL (allInRangeIn entries 0 a) (totalFits (totalOf a))

@@ -1,6 +1,5 @@
 // Prints butane of a few analyses, a line each: the amount that stands after the butanes, after the pentanes and after
 // hexanes+, in tenths of a part. tests/butane_cases.py works the lines out anew.
-use analysis::Analysis;
 use libc::STDOUT_FILENO;
 
 // The amount of every code that butane is not made of.
@@ -12,26 +11,24 @@ fn put(text: &[u8]) {
 
 // The amounts of codes 4, 5, 6, 7, 8 and 10.
 fn put_butane(x: [u32; 6]) {
-    let analysis = Analysis {
-        amounts: [
-            OTHER,
-            OTHER,
-            OTHER,
-            OTHER,
-            x[0],
-            x[1],
-            x[2],
-            x[3],
-            x[4],
-            OTHER,
-            x[5],
-            OTHER,
-            OTHER,
-            OTHER,
-            OTHER,
-            OTHER,
-        ],
-    };
+    let analysis = analysis::of_parts([
+        OTHER,
+        OTHER,
+        OTHER,
+        OTHER,
+        x[0],
+        x[1],
+        x[2],
+        x[3],
+        x[4],
+        OTHER,
+        x[5],
+        OTHER,
+        OTHER,
+        OTHER,
+        OTHER,
+        OTHER,
+    ]);
     let sum = mixture::butane(analysis);
     io::print_decimal(STDOUT_FILENO, sum.after_butanes);
     put(b" ");

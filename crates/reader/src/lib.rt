@@ -7,12 +7,14 @@ ghost use Rattle.sheet.specs.Bytes.{fourBytes, fourBytesAt};
 ghost use Rattle.sheet.specs.Components.{COMPONENT_BYTES, codeRefusal, codesReading};
 ghost use Rattle.sheet.specs.Split.{RECORDS, RECORD_BYTES, splitAt};
 ghost use Rattle.sheet.specs.Sheet.{LISTED, sectionsOf};
+ghost use Rattle.analysis.specs.Amounts.{volumesIn};
 ghost use Rattle.analysis.specs.Check.{answerBy};
 ghost use Rattle.sheet.specs.Read.{readAmounts, amountsRefusal, lowestIn, refusedSheet, readOf};
 ghost use Rattle.reader.specs.Inner.LowerCode.{lowerOf};
 use analysis::Analysis;
 use analysis::CODES;
 use analysis::Checked;
+use analysis::Volume;
 use refusal::OUT_OF_ORDER;
 use refusal::OUT_OF_RANGE;
 use refusal::RETIRED;
@@ -180,7 +182,7 @@ fn refused(answer: Reading) -> Sheet
     Sheet {
         answer,
         analysis: Analysis {
-            amounts: [0u32; CODES],
+            amounts: [Volume(0); CODES],
         },
         split: Split {
             count: 0,
@@ -217,7 +219,7 @@ fn lower(listed: u32, checked: Checked) -> u32
 
 // Is a component listed at 0, or the analysis out of range? Refused 5 with the lowest code at fault, or 6, or not.
 fn amounts_refused(s: &[u8], n: usize, a: Analysis) -> Checked
-    requires { ⌜ (1 + COMPONENT_BYTES * n ≤ length (now s)) × (a .amounts ≡ readAmounts n (now s)) ⌝ }
+    requires { ⌜ (1 + COMPONENT_BYTES * n ≤ length (now s)) × (volumesIn a ≡ readAmounts n (now s)) ⌝ }
     requires { ⌜ codesReading n (now s) 1 0 0 ≡ Reading.Read ⌝ }
     ensures { λ r. ⌜ r ≡ answerBy (amountsRefusal n (now (s .entry))) (lowestIn n (now (s .entry))) ⌝ }
 {
@@ -255,9 +257,7 @@ pub fn read(s: &[u8]) -> Sheet
     let Reading::Read = answer else {
         return refused(answer);
     };
-    let a = Analysis {
-        amounts: amounts(s, n),
-    };
+    let a = analysis::of_parts(amounts(s, n));
     let checked = amounts_refused(s, n, a);
     match checked {
         Checked::Refused { number, code } => refused_with(number, 0, code),

@@ -51,24 +51,31 @@ NO_SYSTEM = 13
 abbrev pub SHORT_BLANK : ℕ
 SHORT_BLANK = 14
 
+abbrev pub MOLE_SUM : ℕ
+MOLE_SUM = 15
+
 abbrev pub TOO_FEW : ℕ
 TOO_FEW = 16
 
 abbrev pub SHARE : ℕ
 SHARE = 17
 
+abbrev pub MOLE_BLEND : ℕ
+MOLE_BLEND = 18
+
 -- what a refusal carries: 5 the lowest code at fault, 2 to 4 the record's place; 0 where there is neither
 abbrev pub carried : ℕ → ℕ → ℕ → ℕ
 carried number code place = cond (eqb number OUT_OF_RANGE) code place
 
--- what a refusal is tested of: 1 of the whole sheet, first; 2 to 4 record by record; then 5 and 6 of an analysis, and
--- with rating 16 of its simplified mixture, then 13 of its chosen systems; then 7 to 10 of a proposed split, or 11 of
--- the search. Of a partial number 13, which its entry names, comes first, then 12, then 17; the writer tests its
--- buffer after the analysis.
+-- what a refusal is tested of: 1 of the whole sheet, first; 2 to 4 record by record; then 5 and 6 of an analysis, or of
+-- a mole analysis 18, then 5, then 15; and with rating 16 of the simplified mixture, then 13 of the chosen systems;
+-- then 7 to 10 of a proposed split, or 11 of the search. Of a partial number 13, which its entry names, comes first,
+-- then 12, then 17; the writer tests its buffer after the analysis.
 pub data Tested : Type 0 where
   wholeSheet : Tested
   componentRecord : Tested
   analysis : Tested
+  moleAnalysis : Tested
   simplifiedMixture : Tested
   proposedSplit : Tested
   search : Tested
@@ -100,8 +107,10 @@ register =
     entry NO_MIXTURE "no mixture" partialNumber ∷
     entry NO_SYSTEM "no system" partialNumber ∷
     entry SHORT_BLANK "short blank" writersBuffer ∷
+    entry MOLE_SUM "mole total" moleAnalysis ∷
     entry TOO_FEW "too few" simplifiedMixture ∷
     entry SHARE "share" partialNumber ∷
+    entry MOLE_BLEND "hydrogen in moles" moleAnalysis ∷
     []
 
 abbrev pub numbersOf : List Entry → List ℕ
@@ -122,6 +131,6 @@ pub numbers-kept : take 14 (numbersOf register) ≡ 1 ∷ 2 ∷ 3 ∷ 4 ∷ 5 �
 numbers-kept = refl
 
 -- and so are those that requests have added
-pub requests-kept : allIn (16 ∷ 17 ∷ []) (numbersOf register) ≡ true
+pub requests-kept : allIn (15 ∷ 16 ∷ 17 ∷ 18 ∷ []) (numbersOf register) ≡ true
 unfolding isIn
 requests-kept = refl

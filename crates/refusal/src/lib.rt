@@ -1,6 +1,7 @@
 // The refusals' numbers, by the words of document 01, "What is turned away". The register with when each is tested is
-// specs/Register.antt, and what every register of keys keeps to is specs/Keys.antt. No public function has a
-// `requires`.
+// specs/Register.antt, and what every register of keys keeps to is specs/Keys.antt. `mole total` is MOLE_SUM and
+// `hydrogen in moles` MOLE_BLEND: in definitions TOTAL and HYDROGEN are names, which may be no part of another name. No
+// public function has a `requires`.
 ghost use mathlib.Core.Path.{_≡_};
 ghost use Rattle.refusal.specs.Register.{carried};
 
@@ -32,9 +33,13 @@ pub const NO_SYSTEM: u32 = 13;
 
 pub const SHORT_BLANK: u32 = 14;
 
+pub const MOLE_SUM: u32 = 15;
+
 pub const TOO_FEW: u32 = 16;
 
 pub const SHARE: u32 = 17;
+
+pub const MOLE_BLEND: u32 = 18;
 
 // What a refusal carries: the lowest code at fault with 5, else the record's place.
 pub fn carried(number: u32, code: u32, place: u32) -> u32

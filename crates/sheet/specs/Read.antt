@@ -6,6 +6,7 @@ use lib.ListN.{replicate}
 use lib.Dec.{eqb}
 use Rattle.refusal.specs.Register.{TORN, OUT_OF_RANGE, carried}
 use Rattle.analysis.specs.Register.{CODES}
+use Rattle.analysis.specs.Amounts.{analysisOf}
 use Rattle.analysis.specs.Check.{analysisRefusal, lowestFault}
 use Rattle.sheet.specs.declared.Reading.{Reading}
 use Rattle.sheet.specs.declared.Reading.the-variants.{Read, Refused}
@@ -34,12 +35,11 @@ abbrev pub byAmounts : ℕ → ℕ → Reading
 byAmounts number code = cond (eqb number 0) Read (Refused number 0 (carried number code 0))
 
 abbrev pub refusedSheet : Reading → Sheet
-refusedSheet x = record { answer = x; analysis = record { amounts = replicate CODES 0 }; split = noSplit }
+refusedSheet x = record { answer = x; analysis = analysisOf (replicate CODES 0); split = noSplit }
 
 -- what the sheet holds: `n` components, and `m` split records at `first`
 abbrev pub contentOf : ℕ → ℕ → ℕ → List ℕ → Sheet
-contentOf n m first s =
-    record { answer = Read; analysis = record { amounts = readAmounts n s }; split = splitAt m s first }
+contentOf n m first s = record { answer = Read; analysis = analysisOf (readAmounts n s); split = splitAt m s first }
 
 -- all zeros beside a refusal
 abbrev pub withAnswer : Reading → Sheet → Sheet

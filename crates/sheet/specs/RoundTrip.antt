@@ -10,7 +10,9 @@ use lib.Seq.{length-take-le, drop-length, getD-at, drop-at, take-at}
 use lib.Dec.{eqb}
 use borrow.Author.Tests.{eqb-true, eqb-false}
 use Rattle.analysis.specs.Register.{CODES, statusOf}
+use Rattle.analysis.specs.Amounts.{volumesIn, analysisOf}
 use Rattle.analysis.specs.Check.{greatestOf, inRange, allInRange, analysisRefusal}
+use Rattle.analysis.specs.Laws.Amounts.{volumes-back}
 use Rattle.analysis.specs.Laws.Ranges.{passed-ranges}
 use Rattle.refusal.specs.Register.{TORN}
 use Rattle.sheet.specs.declared.Reading.the-variants.{Read, Refused}
@@ -156,7 +158,7 @@ trimmed-read m s at =
 
 -- the sheet of an analysis and a split
 abbrev pub asRead : List ℕ → Split → Sheet
-asRead a p = record { answer = Read; analysis = record { amounts = a }; split = p }
+asRead a p = record { answer = Read; analysis = analysisOf a; split = p }
 
 module _ (xs : List ℕ) (p : Split) (k : Sized (0 ∷ xs) p) (allowed : allowedCount (p .count) ≡ true)
     (passed : analysisRefusal (0 ∷ xs) ≡ 0) where
@@ -225,7 +227,7 @@ module _ (xs : List ℕ) (p : Split) (k : Sized (0 ∷ xs) p) (allowed : allowed
   read-sheet =
       let j : amountsRefusal n s ≡ 0 = amounts-checked n s zeros ∙ ap analysisRefusal amounts ∙ passed in
       let e : contentOf n (p .count) (2 + COMPONENT_BYTES * n) s ≡ asRead (0 ∷ xs) (trimmed p) =
-      λ i. record { answer = Read; analysis = record { amounts = amounts i }; split = split i } in
+      λ i. record { answer = Read; analysis = analysisOf (amounts i); split = split i } in
       read-good s n (p .count) (2 + COMPONENT_BYTES * n) sections codes j ∙ e
 
 -- 0 is no code
@@ -317,24 +319,27 @@ module _ (s : List ℕ) (bytes : Bytes s) (x : Whole s) where
 
 -- what is read has the same bytes
 pub bytes-read : (s : List ℕ) → Bytes s → readOf s .answer ≡ Read
-    → sheetOf (readOf s .analysis .amounts) (readOf s .split) ≡ s
+    → sheetOf (volumesIn (readOf s .analysis)) (readOf s .split) ≡ s
 bytes-read s bytes h =
     let x = read-whole s h in
     let e = read-good s (x .n) (x .m) (x .first) (x .sections) (x .codes) (x .amounts) in
-    ap (λ (r : Sheet). sheetOf (r .analysis .amounts) (r .split)) e ∙ sheet-same s bytes x
+    ap (λ (r : Sheet). sheetOf (volumesIn (r .analysis)) (r .split)) e
+    ∙ ap (λ (a : List ℕ). sheetOf a (splitAt (x .m) s (x .first))) (volumes-back (readAmounts (x .n) s))
+    ∙ sheet-same s bytes x
 
 -- writing what was read into a buffer with room gives the same bytes, and leaves the rest of the buffer
 pub written-read : (s : List ℕ) → Bytes s → readOf s .answer ≡ Read → (b : List ℕ)
     → length s ≤ length b
-    → (writtenOf (readOf s .analysis .amounts) (readOf s .split) (length b) ≡ w.Length (length s))
-    × (leftOf (readOf s .analysis .amounts) (readOf s .split) b ≡ s ++ drop (length s) b)
+    → (writtenOf (volumesIn (readOf s .analysis)) (readOf s .split) (length b) ≡ w.Length (length s))
+    × (leftOf (volumesIn (readOf s .analysis)) (readOf s .split) b ≡ s ++ drop (length s) b)
 written-read s bytes h b l =
     let x = read-whole s h in
     let e = bytes-read s bytes h in
     let r = read-good s (x .n) (x .m) (x .first) (x .sections) (x .codes) (x .amounts) in
-    let a : List ℕ = readOf s .analysis .amounts in
+    let a : List ℕ = volumesIn (readOf s .analysis) in
     let p : Split = readOf s .split in
-    let j : analysisRefusal a ≡ 0 = ap (λ (y : Sheet). analysisRefusal (y .analysis .amounts)) r
+    let j : analysisRefusal a ≡ 0 = ap (λ (y : Sheet). analysisRefusal (volumesIn (y .analysis))) r
+    ∙ ap analysisRefusal (volumes-back (readAmounts (x .n) s))
     ∙ amounts-back (x .n) s (x .amounts) .1 in
     let m : allowedCount (p .count) ≡ true = ap (λ (y : Sheet). allowedCount (y .split .count)) r
     ∙ sectioned s (x .sections) .allowed in

@@ -195,7 +195,7 @@ fn read_case(bytes: &[u8]) {
     let read = reader::read(bytes);
     let answer = read.answer;
     let analysis = read.analysis;
-    let amounts = analysis.amounts;
+    let amounts = analysis::parts(analysis);
     let split = read.split;
     match answer {
         Reading::Read => {
@@ -270,10 +270,10 @@ fn write_case(bytes: &[u8]) {
     if bytes.len() < CASE_BYTES {
         return;
     }
-    let amounts = amounts_of(bytes);
+    let analysis = analysis::of_parts(amounts_of(bytes));
     let split = split_of(bytes);
     let lowest = bytes[CODE_AT];
-    put_writings(Analysis { amounts }, split, &bytes[CASE_BYTES..], lowest);
+    put_writings(analysis, split, &bytes[CASE_BYTES..], lowest);
     put(b"\n");
 }
 

@@ -71,7 +71,7 @@ module _ (a : List ℕ) (p : Split) (size : ℕ) where
           go true f = answer-short (ltb-true size len f)
           go false f = answer-length (ltb-false size len f)
 
--- the buffer: as it was beside a refusal, the sheet at its start beside a length
+-- the buffer: as it was beside a refusal, the sheet at its start beside a length; `x` are the parts that are written
 module _ (a : List ℕ) (p : Split) (b : List ℕ) (r : Written) (k : r ≡ writtenOf a p (length b)) where
   number : numberOf r ≡ writeRefusal a p (length b)
   number = ap numberOf k ∙ written-number a p (length b)
@@ -80,14 +80,18 @@ module _ (a : List ℕ) (p : Split) (b : List ℕ) (r : Written) (k : r ≡ writ
   number-of n e = written-back a p (length b) (sym k ∙ e) .0
 
   -- a length says that the sheet may be written and has room
-  pub room : (n : ℕ) → r ≡ Length n → (allowedCount (p .count) ≡ true) × (length (sheetOf a p) ≤ length b)
-  room n e =
+  pub room : (n : ℕ) → r ≡ Length n → (x : List ℕ) → x ≡ a
+      → (allowedCount (p .count) ≡ true) × (length (sheetOf x p) ≤ length b)
+  room n e x f =
       let g = number-back a p (length b) (number-of n e) in
-      (g .0, g .2)
+      (g .0, rw f (g .2))
 
-  pub wrote : (n : ℕ) → r ≡ Length n → (left : List ℕ) → left ≡ sheetOf a p ++ drop (length (sheetOf a p)) b
+  pub wrote : (n : ℕ) → r ≡ Length n → (x : List ℕ) → x ≡ a → (left : List ℕ)
+      → left ≡ sheetOf x p ++ drop (length (sheetOf x p)) b
       → ((r ≡ writtenOf a p (length b)) × (left ≡ leftOf a p b)) × (numberOf r ≡ writeRefusal a p (length b))
-  wrote n e left d = ((k, d ∙ sym (left-sheet a p b (number-of n e))), number)
+  wrote n e x f left d =
+      let g = ap (λ (y : List ℕ). sheetOf y p ++ drop (length (sheetOf y p)) b) f in
+      ((k, d ∙ g ∙ sym (left-sheet a p b (number-of n e))), number)
 
   refused-not : (number code : ℕ) → r ≡ Refused number code → writeRefusal a p (length b) ≡ 0 → ⊥
   refused-not number code e z =

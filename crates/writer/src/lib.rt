@@ -6,6 +6,7 @@ ghost use mathlib.Core.List.{_∷_, _++_};
 ghost use lib.ListN.{length, drop};
 ghost use lib.Seq.{sets};
 ghost use Rattle.analysis.specs.Register.{CODES};
+ghost use Rattle.analysis.specs.Amounts.{volumesIn};
 ghost use Rattle.sheet.specs.Bytes.{bytesOf};
 ghost use Rattle.sheet.specs.Components.{COMPONENT_BYTES, listedCount, componentBytes};
 ghost use Rattle.sheet.specs.Split.{RECORDS, RECORD_BYTES, splitBytes};
@@ -106,7 +107,7 @@ fn put_split(split: Split, b: &mut [u8], at: usize)
 
 // The answer for a buffer of `size` bytes.
 fn answer(analysis: Analysis, split: Split, size: usize) -> Written
-    ensures { λ r. ⌜ r ≡ writtenOf (analysis .amounts) split size ⌝ }
+    ensures { λ r. ⌜ r ≡ writtenOf (volumesIn analysis) split size ⌝ }
 {
     let m = split.count;
     let allowed = sheet::allowed_count(m);
@@ -120,7 +121,7 @@ fn answer(analysis: Analysis, split: Split, size: usize) -> Written
     if let Checked::Refused { number, code } = checked {
         return Written::Refused { number, code };
     }
-    let amounts = analysis.amounts;
+    let amounts = analysis::parts(analysis);
     length_in(amounts, m, size)
 }
 
@@ -156,15 +157,15 @@ fn put_sheet(a: [u32; CODES], split: Split, b: &mut [u8])
 // The sheet of the analysis and the split in the buffer, and its length; or a refusal, and the buffer as it was. The
 // answer is worked out from the length alone: no byte is stored before every refusal is ruled out.
 pub fn write(analysis: Analysis, split: Split, buffer: &mut [u8]) -> Written
-    ensures { λ r. ⌜ (r ≡ writtenOf (analysis .amounts) split (length (now (buffer .entry))))
-        × (now (buffer .exit) ≡ leftOf (analysis .amounts) split (now (buffer .entry))) ⌝ }
-    ensures { λ r. ⌜ numberOf r ≡ writeRefusal (analysis .amounts) split (length (now (buffer .entry))) ⌝ }
+    ensures { λ r. ⌜ (r ≡ writtenOf (volumesIn analysis) split (length (now (buffer .entry))))
+        × (now (buffer .exit) ≡ leftOf (volumesIn analysis) split (now (buffer .entry))) ⌝ }
+    ensures { λ r. ⌜ numberOf r ≡ writeRefusal (volumesIn analysis) split (length (now (buffer .entry))) ⌝ }
 {
     let answer = answer(analysis, split, buffer.len());
     let Written::Length(_) = answer else {
         return answer;
     };
-    let amounts = analysis.amounts;
+    let amounts = analysis::parts(analysis);
     put_sheet(amounts, split, buffer);
     answer
 }

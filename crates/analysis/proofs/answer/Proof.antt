@@ -10,8 +10,8 @@ refusal-requires c κs = search needs
 returns : tie.Need-returns
 returns c = answer-none _ _ _ (c .before .refusal .ensures) (c .if1 .taken)
 
-cast-t5 : tie.Need-cast-t5
-cast-t5 c = search needs
+cast-t6 : tie.Need-cast-t6
+cast-t6 c = search needs
 
 returns-2 : tie.Need-returns-2
 returns-2 c = answer-range _ _ _ (c .before .before .refusal .ensures) (c .if2 .taken)
@@ -20,4 +20,4 @@ returns-3 : tie.Need-returns-3
 returns-3 c = answer-total _ _ _ (c .before .before .refusal .ensures) (c .before .if1 .left) (c .if2 .left)
 
 pub answer-spec : {M : Type 1} → statement M
-answer-spec = tie.close (tie.spec refusal-requires returns cast-t5 returns-2 returns-3)
+answer-spec = tie.close (tie.spec refusal-requires returns cast-t6 returns-2 returns-3)

@@ -7,9 +7,10 @@ use native.Mathlib.Omega.{arith}
 use lib.Dec.{eqb}
 use borrow.Author.Tests.{eqb-true, eqb-false}
 use Rattle.refusal.specs.Register.{carried}
+use Rattle.analysis.specs.declared.Checked.{Checked}
 use Rattle.analysis.specs.declared.Checked.the-variants.{InRange, Refused}
 use Rattle.analysis.specs.CheckedCases.{numberOf, faultOf}
-use Rattle.analysis.specs.Check.{analysisRefusal, lowestFault, answerBy, checkedOf}
+use Rattle.analysis.specs.Check.{analysisRefusal, lowestFault, answerBy, checkedOf, moleRefusal, molesCheckedOf}
 
 -- an answer by its number
 module _ (n c : ℕ) where
@@ -41,14 +42,6 @@ module _ (n c : ℕ) where
 
 -- the check's answer
 module _ (a : List ℕ) where
-  pub checked-number : numberOf (checkedOf a) ≡ analysisRefusal a
-  unfolding checkedOf
-  checked-number = answer-number (analysisRefusal a) (lowestFault 0 a)
-
-  pub checked-fault : faultOf (checkedOf a) ≡ carried (analysisRefusal a) (lowestFault 0 a) 0
-  unfolding checkedOf
-  checked-fault = answer-fault (analysisRefusal a) (lowestFault 0 a)
-
   pub checked-in-range : checkedOf a ≡ InRange → analysisRefusal a ≡ 0
   unfolding checkedOf
   checked-in-range e = answer-in-range (analysisRefusal a) (lowestFault 0 a) e
@@ -58,3 +51,20 @@ module _ (a : List ℕ) where
       × (analysisRefusal a ≡ 0 → ⊥)
   unfolding checkedOf
   checked-refused number code e = answer-refused (analysisRefusal a) (lowestFault 0 a) number code e
+
+-- the same of a mole analysis
+module _ (moles : List ℕ) where
+  pub moles-in-range : molesCheckedOf moles ≡ InRange → moleRefusal moles ≡ 0
+  unfolding molesCheckedOf
+  moles-in-range e = answer-in-range (moleRefusal moles) (lowestFault 0 moles) e
+
+  pub moles-refused : (number code : ℕ) → molesCheckedOf moles ≡ Refused number code
+      → (moleRefusal moles ≡ number) × (code ≡ carried (moleRefusal moles) (lowestFault 0 moles) 0)
+      × (moleRefusal moles ≡ 0 → ⊥)
+  unfolding molesCheckedOf
+  moles-refused number code e = answer-refused (moleRefusal moles) (lowestFault 0 moles) number code e
+
+-- an answer that is given by a number and a code, whole and by its cases
+pub answer-is : (n c : ℕ) (x : Checked) → x ≡ answerBy n c
+    → (x ≡ answerBy n c) × ((numberOf x ≡ n) × (faultOf x ≡ carried n c 0))
+answer-is n c x e = (e, (ap numberOf e ∙ answer-number n c, ap faultOf e ∙ answer-fault n c))

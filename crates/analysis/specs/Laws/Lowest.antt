@@ -6,12 +6,13 @@ use Prim.Native.Nat.{ℕ, zero, suc, _+_, _≤_, _<_}
 use native.Mathlib.Omega.{arith}
 use lib.Dec.{eqb, ltb, leb}
 use lib.ListN.{length, getD, List·getD-eq-default}
-use borrow.Author.Tests.{eq-eqb, ne-eqb, eqb-false, ltb-true, ltb-false, leb-true, leb-false}
+use borrow.Author.Tests.{eq-eqb, ne-eqb, eqb-true, eqb-false, ltb-true, ltb-false, leb-true, leb-false}
 use Rattle.refusal.specs.Keys.{isIn}
 use Rattle.refusal.specs.Laws.Keys.{each-passes}
-use Rattle.analysis.specs.Register.{CODES, unknown, Entry, register, keysOf, statusIn, statusOf}
+use Rattle.refusal.specs.Register.{TOTAL, MOLE_SUM, MOLE_BLEND}
+use Rattle.analysis.specs.Register.{CODES, unknown, Entry, register, keysOf, statusIn, statusOf, hydrogenCode}
 use Rattle.analysis.specs.Check.{inRange, allInRange, totalOf, totalFits, refusalByTests, analysisRefusal}
-use Rattle.analysis.specs.Check.{lowestFault}
+use Rattle.analysis.specs.Check.{lowestFault, moleAmountsRefusal, moleRefusal}
 use Rattle.analysis.specs.Faults.{AtFault, Lowest}
 
 -- ---- codes beyond an analysis
@@ -144,21 +145,29 @@ module _ (a : List ℕ) (long : length a ≡ CODES) where
         none-lower = λ k m f. false≢true (sym f ∙ (rw (z k) at (lowest-below a 0 k (omega arith))));
       }
 
-  fault-five : (t u : Bool) → refusalByTests t u ≡ 5 → t ≡ false
-  fault-five false u h = refl
-  fault-five true true h = absurd (omega arith)
-  fault-five true false h = absurd (omega arith)
+  fault-five : (number : ℕ) → (number ≡ 5 → ⊥) → (t u : Bool) → refusalByTests number t u ≡ 5 → t ≡ false
+  fault-five number n false u h = refl
+  fault-five number n true true h = absurd (omega arith)
+  fault-five number n true false h = absurd (n h)
 
-  -- one is exactly where the number is 5
+  -- one is exactly where the number is 5, of amounts of either kind
+  number-fault : (number : ℕ) → (number ≡ 5 → ⊥)
+      → refusalByTests number (allInRange 0 a) (totalFits (totalOf a)) ≡ 5 → lowestFault 0 a < CODES
+  number-fault number n h =
+      let f = lowest-none 0 a ∙ fault-five number n (allInRange 0 a) (totalFits (totalOf a)) h in
+      omega (arith, eqb-false (lowestFault 0 a) (0 + length a) f, lowest-within 0 a)
+
+  fault-by : (number : ℕ) → lowestFault 0 a < CODES
+      → refusalByTests number (allInRange 0 a) (totalFits (totalOf a)) ≡ 5
+  fault-by number l = rw (sym (lowest-none 0 a), ne-eqb (lowestFault 0 a) (0 + length a) (λ e. omega arith))
+
   pub five-fault : analysisRefusal a ≡ 5 → lowestFault 0 a < CODES
   unfolding analysisRefusal
-  five-fault h =
-      let f = lowest-none 0 a ∙ fault-five (allInRange 0 a) (totalFits (totalOf a)) h in
-      omega (arith, eqb-false (lowestFault 0 a) (0 + length a) f, lowest-within 0 a)
+  five-fault h = number-fault TOTAL (λ e. omega arith) h
 
   pub fault-number : lowestFault 0 a < CODES → analysisRefusal a ≡ 5
   unfolding analysisRefusal
-  fault-number l = rw (sym (lowest-none 0 a), ne-eqb (lowestFault 0 a) (0 + length a) (λ e. omega arith))
+  fault-number l = fault-by TOTAL l
 
   -- and where any is
   pub fault-found : (code : ℕ) → AtFault a code → lowestFault 0 a < CODES
@@ -179,3 +188,28 @@ module _ (a : List ℕ) (long : length a ≡ CODES) where
   lowest-five code x =
       let l = fault-found code (x .holds) in
       (fault-number l, lowest-one (AtFault a) (lowestFault 0 a) code (lowest-fault l) x)
+
+-- ---- a mole analysis: 5 where it has no hydrogen and a code is at fault
+
+module _ (moles : List ℕ) (long : length moles ≡ CODES) where
+  pub moles-five-lowest : moleRefusal moles ≡ 5
+      → (getD moles hydrogenCode 0 ≡ 0) × Lowest (AtFault moles) (lowestFault 0 moles)
+  unfolding moleRefusal
+  moles-five-lowest h = go (eqb (getD moles hydrogenCode 0) 0) refl h
+    where
+      go : (b : Bool) → eqb (getD moles hydrogenCode 0) 0 ≡ b → cond b (moleAmountsRefusal moles) MOLE_BLEND ≡ 5
+          → (getD moles hydrogenCode 0 ≡ 0) × Lowest (AtFault moles) (lowestFault 0 moles)
+      go true e h = (
+        eqb-true (getD moles hydrogenCode 0) 0 e,
+        lowest-fault moles long (number-fault moles long MOLE_SUM (λ z. omega arith) h),
+      )
+      go false e h = absurd (omega arith)
+
+  pub moles-lowest-five : (code : ℕ) → getD moles hydrogenCode 0 ≡ 0 → Lowest (AtFault moles) code
+      → (moleRefusal moles ≡ 5) × (lowestFault 0 moles ≡ code)
+  unfolding moleRefusal
+  moles-lowest-five code e x =
+      let l = fault-found moles long code (x .holds) in (
+        rw (eq-eqb (getD moles hydrogenCode 0) 0 e) (fault-by moles long MOLE_SUM l),
+        lowest-one (AtFault moles) (lowestFault 0 moles) code (lowest-fault moles long l) x,
+      )

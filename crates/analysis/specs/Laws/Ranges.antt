@@ -10,9 +10,11 @@ use lib.Dec.{eqb, leb}
 use lib.ListN.{length, getD, drop, drop-of-length-le}
 use lib.Seq.{drop-cons}
 use borrow.Author.Tests.{eqb-true, eqb-false, leb-true}
-use Rattle.analysis.specs.Register.{CODES, register, statusOf}
+use Rattle.refusal.specs.Register.{TOTAL, MOLE_SUM, MOLE_BLEND}
+use Rattle.analysis.specs.Register.{CODES, register, statusOf, hydrogenCode}
 use Rattle.analysis.specs.Check.{leastOf, greatestOf, requiredOf, inRange, allInRange, totalOf, LEAST_SUM}
-use Rattle.analysis.specs.Check.{GREATEST_SUM, totalFits, analysisRefusal}
+use Rattle.analysis.specs.Check.{GREATEST_SUM, totalFits, refusalByTests, analysisRefusal, moleAmountsRefusal}
+use Rattle.analysis.specs.Check.{moleRefusal}
 use Rattle.analysis.specs.Laws.Required.{refusal-none, all-register, all-from}
 
 -- the sum of the amounts from code k on
@@ -89,23 +91,44 @@ all-at a k h l =
     let e : 0 + k ≡ k = omega arith in
     rw e at (all-from register a 0 k (all-register 0 a ∙ h) l)
 
+-- amounts of either kind that are not refused: each is in its range, and so is the total
+pub record Passed (a : List ℕ) : Type 0 where
+  pub ranges : allInRange 0 a ≡ true
+  pub least : LEAST_SUM ≤ totalOf a
+  pub greatest : totalOf a ≤ GREATEST_SUM
+
+passed-by : (number : ℕ) → 0 < number → (a : List ℕ)
+    → refusalByTests number (allInRange 0 a) (totalFits (totalOf a)) ≡ 0 → Passed a
+unfolding totalFits
+passed-by number some a h =
+    let (ranges, fits) = refusal-none number some (allInRange 0 a) (totalFits (totalOf a)) h in
+    let (low, high) = and-eq-true-iff (leb LEAST_SUM (totalOf a)) (leb (totalOf a) GREATEST_SUM) .0 fits in
+    record {
+      ranges = ranges;
+      least = leb-true LEAST_SUM (totalOf a) low;
+      greatest = leb-true (totalOf a) GREATEST_SUM high;
+    }
+
 module _ (a : List ℕ) (h : analysisRefusal a ≡ 0) where
-  pub passed-ranges : allInRange 0 a ≡ true
+  pub passed : Passed a
   unfolding analysisRefusal
-  passed-ranges = refusal-none (allInRange 0 a) (totalFits (totalOf a)) h .0
+  passed = passed-by TOTAL (omega arith) a h
 
-  passed-total : (LEAST_SUM ≤ totalOf a) × (totalOf a ≤ GREATEST_SUM)
-  unfolding analysisRefusal totalFits
-  passed-total =
-      let fits = refusal-none (allInRange 0 a) (totalFits (totalOf a)) h .1 in
-      let (low, high) = and-eq-true-iff (leb LEAST_SUM (totalOf a)) (leb (totalOf a) GREATEST_SUM) .0 fits in
-      (leb-true LEAST_SUM (totalOf a) low, leb-true (totalOf a) GREATEST_SUM high)
-
-  pub passed-least : LEAST_SUM ≤ totalOf a
-  passed-least = passed-total .0
+  pub passed-ranges : allInRange 0 a ≡ true
+  passed-ranges = passed .ranges
 
   pub passed-greatest : totalOf a ≤ GREATEST_SUM
-  passed-greatest = passed-total .1
+  passed-greatest = passed .greatest
+
+-- a mole analysis has no hydrogen either
+pub passed-moles : (moles : List ℕ) → moleRefusal moles ≡ 0 → Passed moles × (getD moles hydrogenCode 0 ≡ 0)
+unfolding moleRefusal
+passed-moles moles h = go (eqb (getD moles hydrogenCode 0) 0) refl h
+  where
+    go : (b : Bool) → eqb (getD moles hydrogenCode 0) 0 ≡ b → cond b (moleAmountsRefusal moles) MOLE_BLEND ≡ 0
+        → Passed moles × (getD moles hydrogenCode 0 ≡ 0)
+    go true e h = (passed-by MOLE_SUM (omega arith) moles h, eqb-true (getD moles hydrogenCode 0) 0 e)
+    go false e h = absurd (omega arith)
 
 module _ (a : List ℕ) (l : length a ≡ CODES) where
   -- the total is the sum over the codes
@@ -136,12 +159,22 @@ module _ (a : List ℕ) (l : length a ≡ CODES) where
       )
 
   -- not refused: each amount lies in the range that the register gives its code
+  module _ (p : Passed a) where
+    pub most-in : (k : ℕ) → k < CODES → getD a k 0 ≤ greatestOf k
+    most-in k s = range-greatest k (getD a k 0) (all-at a k (p .ranges) (omega arith))
+
+    pub least-in : (k : ℕ) → k < CODES → requiredOf k ≡ true → leastOf k ≤ getD a k 0
+    least-in k s r = range-required k (getD a k 0) (all-at a k (p .ranges) (omega arith)) r
+
+    pub none-or-in : (k : ℕ) → k < CODES → NoneOr (leastOf k) (getD a k 0)
+    none-or-in k s = range-or-absent k (getD a k 0) (all-at a k (p .ranges) (omega arith))
+
   module _ (h : analysisRefusal a ≡ 0) where
     pub at-most : (k : ℕ) → k < CODES → getD a k 0 ≤ greatestOf k
-    at-most k s = range-greatest k (getD a k 0) (all-at a k (passed-ranges a h) (omega arith))
+    at-most = most-in (passed a h)
 
     pub at-least : (k : ℕ) → k < CODES → requiredOf k ≡ true → leastOf k ≤ getD a k 0
-    at-least k s r = range-required k (getD a k 0) (all-at a k (passed-ranges a h) (omega arith)) r
+    at-least = least-in (passed a h)
 
     pub or-absent : (k : ℕ) → k < CODES → NoneOr (leastOf k) (getD a k 0)
-    or-absent k s = range-or-absent k (getD a k 0) (all-at a k (passed-ranges a h) (omega arith))
+    or-absent = none-or-in (passed a h)

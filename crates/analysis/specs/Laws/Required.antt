@@ -9,6 +9,7 @@ use lib.Dec.{eqb, leb}
 use lib.ListN.{length, getD}
 use borrow.Author.Tests.{eqb-true, eqb-false}
 use Rattle.refusal.specs.Keys.{isIn}
+use Rattle.refusal.specs.Register.{TOTAL}
 use Rattle.analysis.specs.Register.{Status, live, retired, splitsOnly, unknown, Entry, register, statusIn}
 use Rattle.analysis.specs.Register.{statusOf}
 use Rattle.analysis.specs.Check.{leastBy, greatestBy, requiredBy, inRange, allInRange, totalOf, totalFits}
@@ -31,7 +32,7 @@ lowest-register code (x ∷ xs) =
 
 pub refusal-register : (a : List ℕ) → refusalIn register a ≡ analysisRefusal a
 unfolding refusalIn analysisRefusal
-refusal-register a = ap (λ (b : Bool). refusalByTests b (totalFits (totalOf a))) (all-register 0 a)
+refusal-register a = ap (λ (b : Bool). refusalByTests TOTAL b (totalFits (totalOf a))) (all-register 0 a)
 
 -- ---- what passes where more must be present, passes
 
@@ -67,17 +68,17 @@ all-passes codes es code (x ∷ xs) h =
     let (t, u) = and-eq-true-iff (inRangeBy (statusIn (requiring codes es) code) x) _ .0 h in
     rw (code-passes codes es code x t, all-passes codes es (suc code) xs u)
 
--- what it says that an analysis is not refused
-pub refusal-none : (t u : Bool) → refusalByTests t u ≡ 0 → (t ≡ true) × (u ≡ true)
-refusal-none true true h = (refl, refl)
-refusal-none true false h = absurd (omega arith)
-refusal-none false u h = absurd (omega arith)
+-- what it says that an analysis of either kind is not refused
+pub refusal-none : (number : ℕ) → 0 < number → (t u : Bool) → refusalByTests number t u ≡ 0 → (t ≡ true) × (u ≡ true)
+refusal-none number some true true h = (refl, refl)
+refusal-none number some true false h = absurd (omega arith)
+refusal-none number some false u h = absurd (omega arith)
 
 pub requiring-passes : (codes : List ℕ) (es : List Entry) (a : List ℕ) → refusalIn (requiring codes es) a ≡ 0
     → refusalIn es a ≡ 0
 unfolding refusalIn
 requiring-passes codes es a h =
-    let (t, u) = refusal-none (allInRangeIn (requiring codes es) 0 a) (totalFits (totalOf a)) h in
+    let (t, u) = refusal-none TOTAL (omega arith) (allInRangeIn (requiring codes es) 0 a) (totalFits (totalOf a)) h in
     rw (all-passes codes es 0 a t, u)
 
 -- ---- and what must be present is
@@ -107,7 +108,8 @@ pub required-present : (entries : List Entry) (a : List ℕ) (k : ℕ) → refus
 unfolding refusalIn
 required-present entries a k h l r =
     let e : 0 + k ≡ k = omega arith in
-    let t = all-from entries a 0 k (refusal-none (allInRangeIn entries 0 a) (totalFits (totalOf a)) h .0) l in
+    let passed = refusal-none TOTAL (omega arith) (allInRangeIn entries 0 a) (totalFits (totalOf a)) h .0 in
+    let t = all-from entries a 0 k passed l in
     some (statusIn entries k) (getD a k 0) r (rw e at t)
 
 -- ---- and it is all that is asked besides
@@ -157,7 +159,7 @@ required-passes : (codes : List ℕ) (es : List Entry) (a : List ℕ) → refusa
     → ((k : ℕ) → isIn k codes ≡ true → 0 < getD a k 0) → refusalIn (requiring codes es) a ≡ 0
 unfolding refusalIn
 required-passes codes es a passed p =
-    let (t, u) = refusal-none (allInRangeIn es 0 a) (totalFits (totalOf a)) passed in
+    let (t, u) = refusal-none TOTAL (omega arith) (allInRangeIn es 0 a) (totalFits (totalOf a)) passed in
     let same : (k : ℕ) → 0 + k ≡ k = λ k. omega arith in
     rw (all-required codes es 0 a t (λ k l i. p k (ap (λ (n : ℕ). isIn n codes) (sym (same k)) ∙ i)), u)
 

@@ -2,6 +2,8 @@
 use mathlib.Core.Path.{_≡_, sym, ap, _∙_}
 use Prim.Native.Nat.{_-_}
 use native.Mathlib.Omega.{arith}
+use Rattle.analysis.specs.Amounts.{volumesIn, analysisOf}
+use Rattle.analysis.specs.Laws.Amounts.{volumes-back}
 use Rattle.sheet.specs.declared.Reading.the-variants.{Read}
 use Rattle.sheet.specs.declared.Sections.the-variants.{Both}
 use Rattle.sheet.specs.Sheet.{sectionsOf}
@@ -59,11 +61,16 @@ amounts-requires c κs =
     let g = sectioned _ (both (c .before .before .before)) in
     omega (arith, g .size)
 
+of-parts-requires : tie.Need-of-parts-requires
+of-parts-requires c κs = search needs
+
 amounts-refused-requires : tie.Need-amounts-refused-requires
 amounts-refused-requires c κs =
-    let g = sectioned _ (both (c .before .before .before .before)) in
-    let k = c .before .before .before in
-    ((omega (arith, g .size), c .amounts .ensures), sym (k .codes .ensures) ∙ c .before .enum-told2 .given .1)
+    let l = c .before .before in
+    let k = l .before .before in
+    let g = sectioned _ (both (k .before)) in
+    let v = ap volumesIn (c .of-parts .ensures) ∙ volumes-back _ ∙ c .before .amounts .ensures in
+    ((omega (arith, g .size), v), sym (k .codes .ensures) ∙ l .enum-told2 .given .1)
 
 enum-known-checked : tie.Need-enum-known-checked
 enum-known-checked c = search needs
@@ -76,13 +83,13 @@ enum-told-4 c = search needs
 
 split-at-requires : tie.Need-split-at-requires
 split-at-requires c κs =
-    let g = sectioned _ (both (c .before .before .before .before .before .before .before)) in
+    let g = sectioned _ (both (c .before .before .before .before .before .before .before .before)) in
     (allowed-room _ (g .allowed), omega (arith, g .size, g .begins))
 
 returns-3 : tie.Need-returns-3
 returns-3 c =
     let a = c .before .before .before .before in
-    let l = a .before .before in
+    let l = a .before .before .before in
     let k = l .before .before in
     answer-amounts _ _ _ _ _ (both (k .before)) (sym (k .codes .ensures) ∙ l .enum-told2 .given .1) _
     (a .amounts-refused .ensures) _ _ (c .before .before .checked .given .1) (c .refused-with2 .ensures)
@@ -91,13 +98,13 @@ returns-4 : tie.Need-returns-4
 returns-4 c =
     let t = c .before in
     let a = t .before .before in
-    let l = a .before .before in
+    let l = a .before .before .before in
     let k = l .before .before in
-    let f = a .before .amounts .ensures in
+    let f = a .before .of-parts .ensures ∙ ap analysisOf (a .before .before .amounts .ensures) in
     let p = c .split-at .ensures in
     answer-good _ _ _ _ _ (both (k .before)) (sym (k .codes .ensures) ∙ l .enum-told2 .given .1) _
     (a .amounts-refused .ensures) (t .enum-told4 .given .1)
-    (λ i. record { answer = Read; analysis = record { amounts = f i }; split = p i })
+    (λ i. record { answer = Read; analysis = f i; split = p i })
 
 pub read-spec : {M : Type 1} → statement M
 read-spec =
@@ -114,6 +121,7 @@ read-spec =
     refused-requires
     returns-2
     amounts-requires
+    of-parts-requires
     amounts-refused-requires
     enum-known-checked
     refused-with-requires-2

@@ -8,7 +8,7 @@ use native.Mathlib.Omega.{arith}
 use lib.Dec.{eqb, leb}
 use lib.ListN.{getD}
 use borrow.Author.Tests.{eqb-false}
-use Rattle.refusal.specs.Register.{carried}
+use Rattle.refusal.specs.Register.{TOTAL, carried}
 use Rattle.analysis.specs.Register.{Status, live, retired, splitsOnly, unknown, statusOf}
 use Rattle.analysis.specs.Check.{refusalByTests, analysisRefusal, allInRange, totalFits, totalOf}
 use Rattle.sheet.specs.declared.Reading.{Reading}
@@ -61,7 +61,7 @@ check-number : (a : List ℕ) → analysisRefusal a ≤ 6
 unfolding analysisRefusal
 check-number a = go (allInRange 0 a) (totalFits (totalOf a))
   where
-    go : (t u : Bool) → refusalByTests t u ≤ 6
+    go : (t u : Bool) → refusalByTests TOTAL t u ≤ 6
     go false u = omega arith
     go true false = omega arith
     go true true = omega arith

@@ -1,7 +1,8 @@
 -- `writer::answer` meets its contract. Assumes nothing.
-use mathlib.Core.Path.{_≡_, refl, sym, _∙_}
+use mathlib.Core.Path.{_≡_, refl, sym, ap, _∙_}
 use mathlib.Core.Bool.{true}
 use borrow.Author.Tests.{not-true, not-false}
+use Rattle.sheet.specs.Components.{listedCount}
 use Rattle.sheet.specs.Split.{allowedCount}
 use Rattle.sheet.specs.Laws.Cases.{allowed-room}
 use Rattle.writer.proofs.Answers.{answer-count, answer-check, answer-room}
@@ -33,6 +34,9 @@ returns-2 c =
 enum-told : tie.Need-enum-told
 enum-told c = search needs
 
+parts-requires : tie.Need-parts-requires
+parts-requires c κs = search needs
+
 length-in-requires : tie.Need-length-in-requires
 length-in-requires c κs = allowed-room _ (allowed (c .before .before .before .before))
 
@@ -40,8 +44,8 @@ returns-3 : tie.Need-returns-3
 returns-3 c =
     let t = c .before .before in
     let k = t .before .before in
-    answer-room _ _ _ (allowed (k .before)) _ (k .check .ensures .0) (t .enum-told .given .1) _ _ refl refl _
-    (c .length-in .ensures)
+    answer-room _ _ _ (allowed (k .before)) _ (k .check .ensures .0) (t .enum-told .given .1) _ _
+    (ap listedCount (c .before .parts .ensures)) refl _ (c .length-in .ensures)
 
 pub answer-spec : {M : Type 1} → statement M
 answer-spec =
@@ -53,5 +57,6 @@ answer-spec =
     enum-known-checked
     returns-2
     enum-told
+    parts-requires
     length-in-requires
     returns-3)

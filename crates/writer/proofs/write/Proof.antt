@@ -18,11 +18,15 @@ enum-told-2 c = search needs
 returns : tie.Need-returns
 returns c = left-alone _ _ _ _ (c .before .before .answer .ensures) _ _ (c .enum-told2 .given .1)
 
+parts-requires : tie.Need-parts-requires
+parts-requires c κs = search needs
+
 put-sheet-requires : tie.Need-put-sheet-requires
 put-sheet-requires c κs =
     let t = c .before .before in
     let k = t .before .before in
-    let g = room _ _ (k .before .before .args .buffer .now) _ (k .answer .ensures) _ (t .enum-told .given .1) in
+    let g = room _ _ (k .before .before .args .buffer .now) _ (k .answer .ensures) _ (t .enum-told .given .1) _
+    (c .before .parts .ensures) in
     (allowed-room _ (g .0), g .1)
 
 same-length : tie.Need-same-length
@@ -31,8 +35,10 @@ same-length c = search needs
 returns-2 : tie.Need-returns-2
 returns-2 c =
     let p = c .before .before in
-    let t = p .before .before .before in
-    wrote _ _ _ _ (t .before .before .answer .ensures) _ (t .enum-told .given .1) _ (p .put-sheet .ensures)
+    let l = p .before .before in
+    let t = l .before in
+    wrote _ _ _ _ (t .before .before .answer .ensures) _ (t .enum-told .given .1) _ (l .parts .ensures) _
+    (p .put-sheet .ensures)
 
 pub write-spec : {M : Type 1} → statement M
 write-spec =
@@ -42,6 +48,7 @@ write-spec =
     enum-told
     enum-told-2
     returns
+    parts-requires
     put-sheet-requires
     same-length
     returns-2)
