@@ -1,0 +1,4 @@
+pub mod Factors
+pub mod Volumes
+pub mod Total
+pub mod Bounds
