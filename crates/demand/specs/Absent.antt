@@ -19,12 +19,14 @@ use Rattle.formula.specs.Partial.{partialNumber}
 use Rattle.analysis.specs.Register.{CODES, statusOf, hydrogenCode}
 use Rattle.analysis.specs.Check.{inRange, totalFits, analysisRefusal}
 use Rattle.sheet.specs.declared.Split.{Split}
+use Rattle.conversion.specs.Conversion.{volumesOf}
+use Rattle.conversion.specs.Present.{absent-exactly-when}
 use Rattle.mixture.specs.Simplification.{tenthsOf, amountOfCode, butaneOf}
 use Rattle.mixture.specs.Inert.{methaneShare, inertFirst}
 use Rattle.mixture.specs.Scaling as scaling
 use Rattle.mixture.specs.Scaling.{distributed, scaledOf}
 use Rattle.mixture.specs.Marked.{methaneEthane, methane-ethane}
-use Rattle.mixture.specs.Laws.Bounds.{simplified-methane, simplified-least, simplified-absent}
+use Rattle.mixture.specs.Laws.Bounds.{ratable-methane, ratable-least, ratable-absent}
 use Rattle.systems.specs.Systems.{COMPONENTS, HYDROGEN, hasOf, memberOf}
 use Rattle.systems.specs.Choice.{countTo, fold, maskFrom, maskOf, inMask, presentAt, presentOf, presentCount}
 use Rattle.systems.specs.Choice.{presentIn, keep, fitnessOf, standingOf, containingOf, scoreOf, betterOf, fittestOf}
@@ -44,8 +46,10 @@ use Rattle.split.specs.Laws.Records.{cells-cell}
 use Rattle.split.specs.Rated.{rated-fit}
 use Rattle.split.specs.AnswerCases.{IsRated}
 use Rattle.split.specs.declared.Answer.the-variants.{Rated, Refused}
-use Rattle.outcome.specs.Rate.{mixOf, systemsFor, countFor, ratingRefusal, splitAnswer, searchOutcome}
-use Rattle.outcome.specs.RatedOn.{InRange, RatedOn}
+use Rattle.outcome.specs.Rate.{mixOf, systemsFor, countFor, Judged, ofVolumes, ofMoles, judgedRefusal, ratingRefusal}
+use Rattle.outcome.specs.Rate.{moleRatingRefusal, judgedSplit, splitAnswer, judgedSearch}
+use Rattle.outcome.specs.Suffices.{volumes-suffice, moles-suffice}
+use Rattle.outcome.specs.RatedOn.{InRange, RatedOn, Suffices}
 use Rattle.outcome.specs.Laws.RatedOn.{enough-on, too-few}
 use Rattle.outcome.specs.Laws.Ready.{chosen}
 use Rattle.demand.specs.Laws.Answers.{expected-fits, split-by-records, split-fits, split-rated}
@@ -54,91 +58,94 @@ use Rattle.demand.specs.Demand.{Expected, cellsFor, proposal, put-back}
 -- ---- the records of an absent component
 
 -- the component of the jth record of the ith chosen system
-abbrev recordComponent : List ℕ → ℕ → ℕ → ℕ
-recordComponent analysis i j = componentAt (systemOf (systemsFor analysis) i) j
+abbrev recordComponent : Judged → ℕ → ℕ → ℕ
+recordComponent gas i j = componentAt (systemOf (systemsFor (gas .volumes)) i) j
 
-module _ (analysis : List ℕ) (on : RatedOn analysis) (p : Split) (i j : ℕ) (h : i < countFor analysis) (l : j < 3) where
-  low : recordComponent analysis i j < COMPONENTS
-  low = component-lt (systemOf (systemsFor analysis) i) (chosen analysis on .known i h) j l
+module _ (gas : Judged) (on : RatedOn gas) (p : Split) (i j : ℕ) (h : i < countFor (gas .volumes)) (l : j < 3) where
+  low : recordComponent gas i j < COMPONENTS
+  low = component-lt (systemOf (systemsFor (gas .volumes)) i) (chosen gas on .known i h) j l
 
-  record-cell : cellOf (cellsFor analysis (p .amounts)) i (recordComponent analysis i j)
+  record-cell : cellOf (cellsFor (gas .volumes) (p .amounts)) i (recordComponent gas i j)
       ≡ getD (p .amounts) (3 * i + j) 0
   record-cell =
-      let system = systemOf (systemsFor analysis) i in
-      let known = chosen analysis on .known i h in
-      cells-cell (systemsFor analysis) (countFor analysis) (p .amounts) i (componentAt system j)
-      (omega (arith, chosen analysis on .most)) low
+      let system = systemOf (systemsFor (gas .volumes)) i in
+      let known = chosen gas on .known i h in
+      cells-cell (systemsFor (gas .volumes)) (countFor (gas .volumes)) (p .amounts) i (componentAt system j)
+      (omega (arith, chosen gas on .most)) low
       ∙ rw
-      (row-held (systemsFor analysis) (countFor analysis) i (componentAt system j) h (component-has system known j l))
+      (row-held (systemsFor (gas .volumes)) (countFor (gas .volumes)) i (componentAt system j) h
+      (component-has system known j l))
       (ap (λ (n : ℕ). getD (p .amounts) (3 * i + n) 0) (rank-component system known j l))
 
   -- where the split re-sums and the component is absent, the record has no parts
-  resummed-none : Resums (mixOf analysis) (countFor analysis) (cellsFor analysis (p .amounts))
-      → getD (mixOf analysis) (recordComponent analysis i j) 0 ≡ 0
+  resummed-none : Resums (mixOf (gas .volumes)) (countFor (gas .volumes)) (cellsFor (gas .volumes) (p .amounts))
+      → getD (mixOf (gas .volumes)) (recordComponent gas i j) 0 ≡ 0
       → getD (p .amounts) (3 * i + j) 0 ≡ 0
   unfolding columnOf
   resummed-none sums e =
       sym record-cell
       ∙ omega (
         arith,
-        sums (recordComponent analysis i j) low,
-        sum-has (λ s. cellOf (cellsFor analysis (p .amounts)) s (recordComponent analysis i j)) (countFor analysis) i
-            h,
+        sums (recordComponent gas i j) low,
+        sum-has (λ s. cellOf (cellsFor (gas .volumes) (p .amounts)) s (recordComponent gas i j))
+            (countFor (gas .volumes)) i h,
         e,
       )
 
 -- a split that is rated has none,
-pub absent-record : (analysis : List ℕ) (p : Split) (w : ℤ) (s r : ℕ)
-    → splitAnswer analysis p ≡ Rated w s r
-    → (i j : ℕ) → i < countFor analysis → j < 3 → getD (mixOf analysis) (recordComponent analysis i j) 0 ≡ 0
+pub absent-record : (gas : Judged) (p : Split) (w : ℤ) (s r : ℕ)
+    → judgedSplit gas p ≡ Rated w s r
+    → (i j : ℕ) → i < countFor (gas .volumes) → j < 3 → getD (mixOf (gas .volumes)) (recordComponent gas i j) 0 ≡ 0
     → getD (p .amounts) (3 * i + j) 0 ≡ 0
-absent-record analysis p w s r is i j h l e =
-    let (on, rated) = split-rated analysis p w s r is in
-    let fit = rated-fit LIMIT (systemsFor analysis) (countFor analysis) (mixOf analysis)
-    (cellsFor analysis (p .amounts)) (inertFirst analysis) (subst IsRated (sym rated) tt) in
-    resummed-none analysis on p i j h l (fit .sums) e
+absent-record gas p w s r is i j h l e =
+    let (on, rated) = split-rated gas p w s r is in
+    let fit = rated-fit LIMIT (systemsFor (gas .volumes)) (countFor (gas .volumes)) (mixOf (gas .volumes))
+    (cellsFor (gas .volumes) (p .amounts)) (inertFirst (gas .volumes)) (subst IsRated (sym rated) tt) in
+    resummed-none gas on p i j h l (fit .sums) e
 
 -- so has a split that the search found,
-pub found-absent-record : (analysis : List ℕ) → length analysis ≡ CODES → (allowance : ℕ) (w : ℤ) (s r : ℕ)
-    → searchOutcome analysis allowance .answer ≡ Rated w s r
-    → (i j : ℕ) → i < countFor analysis → j < 3 → getD (mixOf analysis) (recordComponent analysis i j) 0 ≡ 0
-    → getD (searchOutcome analysis allowance .split .amounts) (3 * i + j) 0 ≡ 0
-found-absent-record analysis long allowance w s r is =
-    absent-record analysis (searchOutcome analysis allowance .split) w s 0
-    (put-back analysis long allowance w s r is)
+pub found-absent-record : (gas : Judged) → Suffices gas → (allowance : ℕ) (w : ℤ) (s r : ℕ)
+    → judgedSearch gas allowance .answer ≡ Rated w s r
+    → (i j : ℕ) → i < countFor (gas .volumes) → j < 3 → getD (mixOf (gas .volumes)) (recordComponent gas i j) 0 ≡ 0
+    → getD (judgedSearch gas allowance .split .amounts) (3 * i + j) 0 ≡ 0
+found-absent-record gas suffices allowance w s r is =
+    absent-record gas (judgedSearch gas allowance .split) w s 0
+    (put-back gas suffices allowance w s r is)
 
 -- and any other amount in the records expected is 8
-pub absent-unsummed : (analysis : List ℕ) → RatedOn analysis → (p : Split) → Expected analysis p
-    → (i j : ℕ) → i < countFor analysis → j < 3 → getD (mixOf analysis) (recordComponent analysis i j) 0 ≡ 0
-    → 0 < getD (p .amounts) (3 * i + j) 0 → splitAnswer analysis p ≡ Refused 8 0
-absent-unsummed analysis on p x i j h l e some =
+pub absent-unsummed : (gas : Judged) → RatedOn gas → (p : Split) → Expected (gas .volumes) p
+    → (i j : ℕ) → i < countFor (gas .volumes) → j < 3 → getD (mixOf (gas .volumes)) (recordComponent gas i j) 0 ≡ 0
+    → 0 < getD (p .amounts) (3 * i + j) 0 → judgedSplit gas p ≡ Refused 8 0
+absent-unsummed gas on p x i j h l e some =
     let fits = expected-fits _ _ _ (p .systems) (p .codes) (x .many) (x .systems) (x .codes) in
     let refused =
-    refused-8-exactly-when LIMIT (systemsFor analysis) (countFor analysis) (mixOf analysis)
-    (cellsFor analysis (p .amounts)) (inertFirst analysis) .1 in
-    split-by-records analysis p true on fits
-    ∙ refused (λ sums. let z = resummed-none analysis on p i j h l sums e in omega arith)
+    refused-8-exactly-when LIMIT (systemsFor (gas .volumes)) (countFor (gas .volumes)) (mixOf (gas .volumes))
+    (cellsFor (gas .volumes) (p .amounts)) (inertFirst (gas .volumes)) .1 in
+    split-by-records gas p true on fits
+    ∙ refused (λ sums. let z = resummed-none gas on p i j h l sums e in omega arith)
 
--- ---- a component is present after simplification exactly where it is in the analysis
+-- ---- a component is present after simplification exactly where it is in the volumes, an analysis's or those made of
+-- moles
 
-module _ (analysis : List ℕ) (long : length analysis ≡ CODES) (passed : InRange analysis) where
+module _ (gas : Judged) (suffices : Suffices gas) (passed : InRange gas) where
   pub present-exactly-when : (c : ℕ) → c < COMPONENTS
-      → (0 < getD (mixOf analysis) c 0) ↔ (0 < getD (tenthsOf analysis) c 0)
+      → (0 < getD (mixOf (gas .volumes)) c 0) ↔ (0 < getD (tenthsOf (gas .volumes)) c 0)
   present-exactly-when c l = (
-    go (ltb 0 (getD (tenthsOf analysis) c 0)) refl,
+    go (ltb 0 (getD (tenthsOf (gas .volumes)) c 0)) refl,
     λ p. omega
-        (arith, simplified-least analysis long passed c l p),
+        (arith, ratable-least (gas .volumes) (suffices passed) c l p),
   )
     where
-      go : (b : Bool) → ltb 0 (getD (tenthsOf analysis) c 0) ≡ b → 0 < getD (mixOf analysis) c 0
-          → 0 < getD (tenthsOf analysis) c 0
-      go true e h = ltb-true 0 (getD (tenthsOf analysis) c 0) e
+      go : (b : Bool) → ltb 0 (getD (tenthsOf (gas .volumes)) c 0) ≡ b → 0 < getD (mixOf (gas .volumes)) c 0
+          → 0 < getD (tenthsOf (gas .volumes)) c 0
+      go true e h = ltb-true 0 (getD (tenthsOf (gas .volumes)) c 0) e
       go false e h =
-          let none = ltb-false 0 (getD (tenthsOf analysis) c 0) e in
-          absurd (omega (arith, simplified-absent analysis long passed c l (omega arith)))
+          let none = ltb-false 0 (getD (tenthsOf (gas .volumes)) c 0) e in
+          absurd (omega (arith, ratable-absent (gas .volumes) (suffices passed) c l (omega arith)))
 
   -- so hydrogen is, and with it systems 1, 5 and 6 are offered, exactly where code 15 is present
-  pub hydrogen-exactly-when : (0 < getD (mixOf analysis) HYDROGEN 0) ↔ (0 < amountOfCode analysis hydrogenCode)
+  pub hydrogen-exactly-when :
+      (0 < getD (mixOf (gas .volumes)) HYDROGEN 0) ↔ (0 < amountOfCode (gas .volumes) hydrogenCode)
   unfolding tenthsOf
   hydrogen-exactly-when =
       let (only, when) = present-exactly-when HYDROGEN (omega arith) in
@@ -148,44 +155,47 @@ module _ (analysis : List ℕ) (long : length analysis ≡ CODES) (passed : InRa
 
 -- ethane, propane, all that makes butane, and hydrogen are absent
 abbrev pub MethaneAlone : List ℕ → Type 0
-MethaneAlone analysis =
-    (amountOfCode analysis 2 ≡ 0)
-    × ((amountOfCode analysis 3 ≡ 0) × ((butaneOf analysis ≡ 0) × (amountOfCode analysis hydrogenCode ≡ 0)))
+MethaneAlone volumes =
+    (amountOfCode volumes 2 ≡ 0)
+    × ((amountOfCode volumes 3 ≡ 0) × ((butaneOf volumes ≡ 0) × (amountOfCode volumes hydrogenCode ≡ 0)))
 
-module _ (analysis : List ℕ) (long : length analysis ≡ CODES) (passed : InRange analysis) where
-  alone-few : MethaneAlone analysis → ratingRefusal analysis ≡ TOO_FEW
+module _ (gas : Judged) (suffices : Suffices gas) (passed : InRange gas) where
+  alone-few : MethaneAlone (gas .volumes) → judgedRefusal gas ≡ TOO_FEW
   unfolding tenthsOf countTo
   alone-few (e, (f, (g, h))) =
-      too-few analysis passed
-      (few (presentAt (mixOf analysis) 0) refl (absent 1 (omega arith) (omega arith))
+      too-few gas passed
+      (few (presentAt (mixOf (gas .volumes)) 0) refl (absent 1 (omega arith) (omega arith))
       (absent 2 (omega arith) (omega arith)) (absent 3 (omega arith) g) (absent 4 (omega arith) (omega arith)))
     where
-      absent : (i : ℕ) → i < COMPONENTS → getD (tenthsOf analysis) i 0 ≡ 0 → presentAt (mixOf analysis) i ≡ false
-      absent i l z = le-ltb 0 (getD (mixOf analysis) i 0) (omega (arith, simplified-absent analysis long passed i l z))
+      absent : (i : ℕ) → i < COMPONENTS → getD (tenthsOf (gas .volumes)) i 0 ≡ 0
+          → presentAt (mixOf (gas .volumes)) i ≡ false
+      absent i l z =
+          let none = ratable-absent (gas .volumes) (suffices passed) i l z in
+          le-ltb 0 (getD (mixOf (gas .volumes)) i 0) (omega (arith, none))
 
-      few : (t : Bool) → presentAt (mixOf analysis) 0 ≡ t → presentAt (mixOf analysis) 1 ≡ false
-          → presentAt (mixOf analysis) 2 ≡ false → presentAt (mixOf analysis) 3 ≡ false
-          → presentAt (mixOf analysis) 4 ≡ false → presentCount (mixOf analysis) < 2
-      few true p q r s t = rw (present-count (mixOf analysis)) (rw (p, q, r, s, t) (omega arith))
-      few false p q r s t = rw (present-count (mixOf analysis)) (rw (p, q, r, s, t) (omega arith))
+      few : (t : Bool) → presentAt (mixOf (gas .volumes)) 0 ≡ t → presentAt (mixOf (gas .volumes)) 1 ≡ false
+          → presentAt (mixOf (gas .volumes)) 2 ≡ false → presentAt (mixOf (gas .volumes)) 3 ≡ false
+          → presentAt (mixOf (gas .volumes)) 4 ≡ false → presentCount (mixOf (gas .volumes)) < 2
+      few true p q r s t = rw (present-count (mixOf (gas .volumes))) (rw (p, q, r, s, t) (omega arith))
+      few false p q r s t = rw (present-count (mixOf (gas .volumes))) (rw (p, q, r, s, t) (omega arith))
 
   -- two are present where another than methane is
-  other-on : (i : ℕ) → 0 < i → i < COMPONENTS → 0 < getD (tenthsOf analysis) i 0 → ratingRefusal analysis ≡ TOO_FEW → ⊥
+  other-on : (i : ℕ) → 0 < i → i < COMPONENTS → 0 < getD (tenthsOf (gas .volumes)) i 0 → judgedRefusal gas ≡ TOO_FEW → ⊥
   other-on i h l p e =
-      let there = simplified-least analysis long passed i l p in
-      let methane = simplified-methane analysis long passed in
-      let two = two-present (mixOf analysis) (omega (arith, methane)) i h l (omega (arith, there)) in
-      let z = enough-on analysis passed two in
+      let there = ratable-least (gas .volumes) (suffices passed) i l p in
+      let methane = ratable-methane (gas .volumes) (suffices passed) in
+      let two = two-present (mixOf (gas .volumes)) (omega (arith, methane)) i h l (omega (arith, there)) in
+      let z = enough-on gas passed two in
       omega arith
 
-  none-other : (i : ℕ) → 0 < i → i < COMPONENTS → ratingRefusal analysis ≡ TOO_FEW → getD (tenthsOf analysis) i 0 ≡ 0
-  none-other i h l e = go (ltb 0 (getD (tenthsOf analysis) i 0)) refl
+  none-other : (i : ℕ) → 0 < i → i < COMPONENTS → judgedRefusal gas ≡ TOO_FEW → getD (tenthsOf (gas .volumes)) i 0 ≡ 0
+  none-other i h l e = go (ltb 0 (getD (tenthsOf (gas .volumes)) i 0)) refl
     where
-      go : (b : Bool) → ltb 0 (getD (tenthsOf analysis) i 0) ≡ b → getD (tenthsOf analysis) i 0 ≡ 0
-      go true q = absurd (other-on i h l (ltb-true 0 (getD (tenthsOf analysis) i 0) q) e)
-      go false q = omega (arith, ltb-false 0 (getD (tenthsOf analysis) i 0) q)
+      go : (b : Bool) → ltb 0 (getD (tenthsOf (gas .volumes)) i 0) ≡ b → getD (tenthsOf (gas .volumes)) i 0 ≡ 0
+      go true q = absurd (other-on i h l (ltb-true 0 (getD (tenthsOf (gas .volumes)) i 0) q) e)
+      go false q = omega (arith, ltb-false 0 (getD (tenthsOf (gas .volumes)) i 0) q)
 
-  few-alone : ratingRefusal analysis ≡ TOO_FEW → MethaneAlone analysis
+  few-alone : judgedRefusal gas ≡ TOO_FEW → MethaneAlone (gas .volumes)
   unfolding tenthsOf
   few-alone e = (
     omega (arith, none-other 1 (omega arith) (omega arith) e),
@@ -195,14 +205,73 @@ module _ (analysis : List ℕ) (long : length analysis ≡ CODES) (passed : InRa
     ),
   )
 
-  -- an analysis in range is refused 16 exactly where methane alone is there
-  pub alone-exactly-when : (ratingRefusal analysis ≡ TOO_FEW) ↔ MethaneAlone analysis
+  -- what is in range is refused 16 exactly where methane alone is there
+  pub alone-exactly-when : (judgedRefusal gas ≡ TOO_FEW) ↔ MethaneAlone (gas .volumes)
   alone-exactly-when = (few-alone, alone-few)
+
+-- of an analysis
+pub volumes-alone : (analysis : List ℕ) → length analysis ≡ CODES → InRange (ofVolumes analysis)
+    → (ratingRefusal analysis ≡ TOO_FEW) ↔ MethaneAlone analysis
+volumes-alone analysis long = alone-exactly-when (ofVolumes analysis) (volumes-suffice analysis long)
+
+-- of a mole analysis: a code is absent by volume exactly where it is by mole
+module _ (moles : List ℕ) (long : length moles ≡ CODES) (h : InRange (ofMoles moles)) where
+  abbrev made : List ℕ
+  made = volumesOf moles
+
+  absent : (code : ℕ) → code < CODES → (amountOfCode made code ≡ 0) ↔ (amountOfCode moles code ≡ 0)
+  absent code l = absent-exactly-when moles long h code l
+
+  made-alone : MethaneAlone made ↔ MethaneAlone moles
+  made-alone = (
+    λ (e, (f, (g, k))). (
+      absent 2 (omega arith) .0 e,
+      (
+        absent 3 (omega arith) .0 f,
+        (
+          omega (
+            arith,
+            absent 4 (omega arith) .0 (omega (arith, g)),
+            absent 5 (omega arith) .0 (omega (arith, g)),
+            absent 6 (omega arith) .0 (omega (arith, g)),
+            absent 7 (omega arith) .0 (omega (arith, g)),
+            absent 8 (omega arith) .0 (omega (arith, g)),
+            absent 10 (omega arith) .0 (omega (arith, g)),
+          ),
+          absent hydrogenCode (omega arith) .0 k,
+        ),
+      ),
+    ),
+    λ (e, (f, (g, k))). (
+      absent 2 (omega arith) .1 e,
+      (
+        absent 3 (omega arith) .1 f,
+        (
+          omega (
+            arith,
+            absent 4 (omega arith) .1 (omega (arith, g)),
+            absent 5 (omega arith) .1 (omega (arith, g)),
+            absent 6 (omega arith) .1 (omega (arith, g)),
+            absent 7 (omega arith) .1 (omega (arith, g)),
+            absent 8 (omega arith) .1 (omega (arith, g)),
+            absent 10 (omega arith) .1 (omega (arith, g)),
+          ),
+          absent hydrogenCode (omega arith) .1 k,
+        ),
+      ),
+    ),
+  )
+
+  pub moles-alone : (moleRatingRefusal moles ≡ TOO_FEW) ↔ MethaneAlone moles
+  moles-alone =
+      let (only, when) = alone-exactly-when (ofMoles moles) (moles-suffice moles long) h in
+      let (down, up) = made-alone in
+      (λ e. down (only e), λ a. when (up a))
 
 -- ---- worked examples
 
 -- methane with ethane alone is rated on, and has systems 4 and 8
-two-passes : InRange methaneEthane
+two-passes : InRange (ofVolumes methaneEthane)
 unfolding analysisRefusal inRange totalFits statusOf
 two-passes = refl
 
@@ -211,7 +280,7 @@ unfolding scaling.largestTo distributed scaledOf tenthsOf presentOf maskFrom one
 two-count = refl
 
 pub two-on : ratingRefusal methaneEthane ≡ 0
-two-on = enough-on methaneEthane two-passes (omega (arith, two-count))
+two-on = enough-on (ofVolumes methaneEthane) two-passes (omega (arith, two-count))
 
 pub two-systems : chooseOf (mixOf methaneEthane) ≡ 4 ∷ 8 ∷ []
 unfolding chooseOf marksOf passOf takeOf containingOf fittestOf betterOf scoreOf chosenOf listOf fold fitnessOf
@@ -233,7 +302,7 @@ six-rated = refl
 pub two-rated : splitAnswer methaneEthane (proposal methaneEthane sixAmounts) ≡ Rated (pos 974058216) 129517 0
 unfolding methaneShare tenthsOf
 two-rated =
-    split-fits methaneEthane (proposal methaneEthane sixAmounts) two-on refl refl refl
+    split-fits (ofVolumes methaneEthane) (proposal methaneEthane sixAmounts) two-on refl refl refl
     ∙ ap (λ (m : List ℕ). proposedOf LIMIT (paddedOf (chooseOf m)) (length (chooseOf m)) m
     (cellsOf (paddedOf (chooseOf m)) (length (chooseOf m)) sixAmounts) 980000) methane-ethane
     ∙ ap (λ (l : List ℕ). proposedOf LIMIT (paddedOf l) (length l) (989796 ∷ 10204 ∷ 0 ∷ 0 ∷ 0 ∷ [])
@@ -244,7 +313,7 @@ two-rated =
 abbrev alone : List ℕ
 alone = 0 ∷ 990000 ∷ 0 ∷ 0 ∷ 0 ∷ 0 ∷ 0 ∷ 0 ∷ 0 ∷ 0 ∷ 0 ∷ 10000 ∷ 0 ∷ 0 ∷ 0 ∷ 0 ∷ []
 
-alone-passes : InRange alone
+alone-passes : InRange (ofVolumes alone)
 unfolding analysisRefusal inRange totalFits statusOf
 alone-passes = refl
 
@@ -253,4 +322,4 @@ unfolding scaling.largestTo distributed scaledOf tenthsOf presentOf maskFrom one
 alone-count = refl
 
 pub alone-refused : ratingRefusal alone ≡ TOO_FEW
-alone-refused = too-few alone alone-passes (omega (arith, alone-count))
+alone-refused = too-few (ofVolumes alone) alone-passes (omega (arith, alone-count))

@@ -3,9 +3,9 @@
 --
 -- An analysis is refused 5 with a code exactly where that code is the lowest at fault: by the check
 -- (`analysis/specs/Lowest`), and here with every proposed split, by the search with every allowance, and by writing
--- where the split has a count of records that a sheet may have (1 comes before 5). A sheet is refused 5 with a code
--- exactly where 1 to 4 let it pass and that code is the lowest at fault in it, listed at 0 or not: by reading
--- (`sheet/specs/Lowest`), and here by rating.
+-- where the split has a count of records that a sheet may have (1 comes before 5). So is a mole analysis, where it has
+-- no hydrogen (18 comes before 5). A sheet is refused 5 with a code exactly where 1 to 4 let it pass and that code is
+-- the lowest at fault in it, listed at 0 or not: by reading (`sheet/specs/Lowest`), and here by rating.
 use mathlib.Core.Path.{_≡_, refl, sym, ap, _∙_}
 use mathlib.Core.Bool.{Bool, true, false, cond}
 use mathlib.Core.Logic.{_↔_, inl, inr}
@@ -13,11 +13,12 @@ use mathlib.Core.List.{List}
 use Prim.Native.Nat.{ℕ}
 use native.Mathlib.Omega.{arith}
 use lib.Dec.{eqb, leb}
-use lib.ListN.{length}
+use lib.ListN.{length, getD}
 use borrow.Author.Tests.{eqb-true, eqb-false, ne-eqb}
 use Rattle.refusal.specs.Register.{TORN, TOO_FEW, SHORT_BLANK, carried}
-use Rattle.analysis.specs.Register.{CODES}
-use Rattle.analysis.specs.Check.{analysisRefusal, lowestFault}
+use Rattle.analysis.specs.Register.{CODES, hydrogenCode}
+use Rattle.analysis.specs.Amounts.{volumesIn}
+use Rattle.analysis.specs.Check.{analysisRefusal, lowestFault, moleRefusal}
 use Rattle.analysis.specs.Faults.{AtFault, Lowest}
 use Rattle.analysis.specs.Laws.Lowest as law
 use Rattle.sheet.specs.Split.{allowedCount}
@@ -36,10 +37,11 @@ use Rattle.sheet.specs.declared.Written.the-variants as writing
 use Rattle.split.specs.AnswerCases.{numberOf, placeOf}
 use Rattle.split.specs.declared.Answer.{Answer}
 use Rattle.split.specs.declared.Answer.the-variants.{Rated, Refused}
-use Rattle.outcome.specs.Rate.{ROUNDS, ratingRefusal, splitAnswer, searchOutcome, sheetOutcome}
+use Rattle.outcome.specs.Rate.{ROUNDS, Judged, ofVolumes, ofMoles, judgedSplit, splitAnswer, moleSplitAnswer}
+use Rattle.outcome.specs.Rate.{judgedSearch, searchOutcome, moleSearchOutcome, sheetOutcome}
 use Rattle.outcome.specs.RatedOn.{InRange}
-use Rattle.outcome.specs.Laws.RatedOn.{range-first}
-use Rattle.outcome.specs.Laws.Ends.{RatedOrFew, split-in-range, search-in-range, read-passed, sheet-by-answer}
+use Rattle.outcome.specs.Laws.Ends.{RatedOrFew, split-in-range, search-in-range, split-away, search-away, read-passed}
+use Rattle.outcome.specs.Laws.Ends.{sheet-by-answer}
 use Rattle.outcome.specs.declared.Outcome.{Outcome}
 use Rattle.demand.specs.Laws.Sheets.{read-searched, read-own}
 
@@ -50,30 +52,37 @@ not-five (Refused n p) (inl (inl r)) e = r
 not-five (Refused n p) (inl (inr b)) e = omega (arith, b .0)
 not-five (Refused n p) (inr q) e = let z : n ≡ TOO_FEW = ap numberOf q in omega arith
 
+-- an answer to what is judged is 5 with a code exactly where its check has both
+module _ (gas : Judged) (code : ℕ) (x : Answer) (ends : InRange gas → RatedOrFew x)
+    (away : (InRange gas → ⊥) → x ≡ Refused (gas .number) (carried (gas .number) (gas .code) 0)) where
+  five-exactly-when : (x ≡ Refused 5 code) ↔ ((gas .number ≡ 5) × (gas .code ≡ code))
+  five-exactly-when = (λ e. go (eqb (gas .number) 0) refl e, λ h. away (λ z. omega (arith, h .0, z)) ∙ rw (h .0, h .1))
+    where
+      go : (b : Bool) → eqb (gas .number) 0 ≡ b → x ≡ Refused 5 code → (gas .number ≡ 5) × (gas .code ≡ code)
+      go true q e = absurd (not-five x (ends (eqb-true _ _ q)) (ap numberOf e))
+      go false q e =
+          let same = sym (away (eqb-false _ _ q)) ∙ e in
+          let n : gas .number ≡ 5 = ap numberOf same in
+          (n, rw n at (ap placeOf same))
+
+-- so of a proposed split and of a search
+split-five : (gas : Judged) (code : ℕ) (p : Split)
+    → (judgedSplit gas p ≡ Refused 5 code) ↔ ((gas .number ≡ 5) × (gas .code ≡ code))
+split-five gas code p =
+    five-exactly-when gas code (judgedSplit gas p) (λ h. split-in-range gas h p) (λ n. split-away gas n p)
+
+search-five : (gas : Judged) (code allowance : ℕ)
+    → (judgedSearch gas allowance .answer ≡ Refused 5 code) ↔ ((gas .number ≡ 5) × (gas .code ≡ code))
+search-five gas code allowance =
+    five-exactly-when gas code (judgedSearch gas allowance .answer) (λ h. search-in-range gas h allowance)
+    (λ n. ap (λ (x : Outcome). x .answer) (search-away gas n allowance))
+
 module _ (a : List ℕ) (long : length a ≡ CODES) (code : ℕ) where
-  -- an answer that is the analysis's own refusal where it is not in range
-  module _ (x : Answer) (ends : InRange a → RatedOrFew x)
-      (turned : eqb (ratingRefusal a) 0 ≡ false
-      → x ≡ Refused (ratingRefusal a) (carried (ratingRefusal a) (lowestFault 0 a) 0)) where
-    own : eqb (analysisRefusal a) 0 ≡ false
-        → x ≡ Refused (analysisRefusal a) (carried (analysisRefusal a) (lowestFault 0 a) 0)
-    own q = let f = range-first a q in rw f at (turned (rw f q))
-
-    refused-lowest : x ≡ Refused 5 code → Lowest (AtFault a) code
-    refused-lowest e = go (eqb (analysisRefusal a) 0) refl
-      where
-        go : (b : Bool) → eqb (analysisRefusal a) 0 ≡ b → Lowest (AtFault a) code
-        go true q = absurd (not-five x (ends (eqb-true _ _ q)) (ap numberOf e))
-        go false q =
-            let same = sym (own q) ∙ e in
-            let n : analysisRefusal a ≡ 5 = ap numberOf same in
-            let c : lowestFault 0 a ≡ code = rw n at (ap placeOf same) in
-            law.five-lowest a long n code (sym c)
-
-    lowest-refused : Lowest (AtFault a) code → x ≡ Refused 5 code
-    lowest-refused l =
-        let (n, c) = law.lowest-five a long code l in
-        own (ne-eqb (analysisRefusal a) 0 (λ z. omega (arith, n, z))) ∙ rw (n, c)
+  by-check : {X : Type 0} → X ↔ ((analysisRefusal a ≡ 5) × (lowestFault 0 a ≡ code)) → X ↔ Lowest (AtFault a) code
+  by-check (only, when) = (
+    λ x. let (n, c) = only x in law.five-lowest a long n code (sym c),
+    λ l. when (law.lowest-five a long code l),
+  )
 
   -- writing, where the count is one that a sheet has
   pub written-out-of-range : (p : Split) (size : ℕ)
@@ -107,20 +116,33 @@ module _ (a : List ℕ) (long : length a ≡ CODES) (code : ℕ) where
 
   -- every proposed split
   pub split-out-of-range : (p : Split) → (splitAnswer a p ≡ Refused 5 code) ↔ Lowest (AtFault a) code
-  unfolding splitAnswer
-  split-out-of-range p = (
-    refused-lowest (splitAnswer a p) (λ h. split-in-range a h p) (λ q. rw q),
-    lowest-refused (splitAnswer a p) (λ h. split-in-range a h p) (λ q. rw q),
-  )
+  split-out-of-range p = by-check (split-five (ofVolumes a) code p)
 
   -- the search
   pub search-out-of-range : (allowance : ℕ)
       → (searchOutcome a allowance .answer ≡ Refused 5 code) ↔ Lowest (AtFault a) code
-  unfolding searchOutcome
-  search-out-of-range allowance = (
-    refused-lowest (searchOutcome a allowance .answer) (λ h. search-in-range a h allowance) (λ q. rw q),
-    lowest-refused (searchOutcome a allowance .answer) (λ h. search-in-range a h allowance) (λ q. rw q),
+  search-out-of-range allowance = by-check (search-five (ofVolumes a) code allowance)
+
+-- a mole analysis, which 18 lets pass where it has no hydrogen
+module _ (moles : List ℕ) (long : length moles ≡ CODES) (code : ℕ) where
+  abbrev OutOfRangeMoles : Type 0
+  OutOfRangeMoles = (getD moles hydrogenCode 0 ≡ 0) × Lowest (AtFault moles) code
+
+  by-mole-check : {X : Type 0} → X ↔ ((moleRefusal moles ≡ 5) × (lowestFault 0 moles ≡ code)) → X ↔ OutOfRangeMoles
+  by-mole-check (only, when) = (
+    λ x.
+        let (n, c) = only x in
+        let (none, lowest) = law.moles-five-lowest moles long n in
+        (none, rw c at lowest),
+    λ h. when (law.moles-lowest-five moles long code (h .0) (h .1)),
   )
+
+  pub moles-split-out-of-range : (p : Split) → (moleSplitAnswer moles p ≡ Refused 5 code) ↔ OutOfRangeMoles
+  moles-split-out-of-range p = by-mole-check (split-five (ofMoles moles) code p)
+
+  pub moles-search-out-of-range : (allowance : ℕ)
+      → (moleSearchOutcome moles allowance .answer ≡ Refused 5 code) ↔ OutOfRangeMoles
+  moles-search-out-of-range allowance = by-mole-check (search-five (ofMoles moles) code allowance)
 
 -- a sheet that is rated
 module _ (s : List ℕ) (code : ℕ) where
@@ -130,10 +152,10 @@ module _ (s : List ℕ) (code : ℕ) where
       go : (b : Bool) → eqb (readOf s .split .count) 0 ≡ b → RatedOrFew (sheetOutcome s .answer)
       go true e =
           rw (read-searched s h (eqb-true _ _ e))
-          (search-in-range (readOf s .analysis .amounts) (read-passed s h) ROUNDS)
+          (search-in-range (ofVolumes (volumesIn (readOf s .analysis))) (read-passed s h) ROUNDS)
       go false e =
           rw (read-own s h (eqb-false _ _ e))
-          (split-in-range (readOf s .analysis .amounts) (read-passed s h) (readOf s .split))
+          (split-in-range (ofVolumes (volumesIn (readOf s .analysis))) (read-passed s h) (readOf s .split))
 
   pub sheet-out-of-range : (sheetOutcome s .answer ≡ Refused 5 code) ↔ OutOfRange s code
   sheet-out-of-range = (λ e. there (readOf s .answer) refl e, here)

@@ -16,7 +16,7 @@ use Rattle.systems.specs.Marked.{fitness, choice, rich-choice}
 use Rattle.split.specs.Start.{sharersOf, shareOf, startAmount, startOf}
 use Rattle.split.specs.Fold.{sumTo, table}
 use Rattle.split.specs.Split.{cellOf, heldOf}
-use Rattle.outcome.specs.Rate.{mixOf, systemsFor, countFor}
+use Rattle.outcome.specs.Rate.{mixOf, systemsFor, countFor, ofVolumes}
 use Rattle.outcome.specs.RatedOn.{InRange}
 
 -- the cells that the search of the gas of 001 Table A.1 starts with
@@ -84,5 +84,5 @@ marked-figures = record {
 }
 
 -- system 2 is chosen by an analysis in range, with no more than 6100 parts of hexanes+ (document 02, One)
-pub system-two : InRange butaneRich × (chooseOf (simplifiedOf butaneRich) ≡ 2 ∷ 7 ∷ 8 ∷ [])
+pub system-two : InRange (ofVolumes butaneRich) × (chooseOf (simplifiedOf butaneRich) ≡ 2 ∷ 7 ∷ 8 ∷ [])
 system-two = (butane-rich .0, ap chooseOf (butane-rich .1) ∙ rich-choice)

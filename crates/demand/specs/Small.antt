@@ -9,6 +9,7 @@ use lib.Dec.{eqb}
 use lib.IntN.{ℤ, natAbs}
 use lib.ListN.{length}
 use Rattle.analysis.specs.Register.{CODES}
+use Rattle.analysis.specs.Amounts.{volumesIn}
 use Rattle.sheet.specs.Split.{noSplit}
 use Rattle.sheet.specs.Read.{readOf}
 use Rattle.sheet.specs.declared.Split.{Split}
@@ -20,8 +21,11 @@ use Rattle.split.specs.Rating.{LIMIT}
 use Rattle.split.specs.Accuracy as accuracy
 use Rattle.split.specs.declared.Answer.{Answer}
 use Rattle.split.specs.declared.Answer.the-variants.{Rated, Refused}
-use Rattle.outcome.specs.Rate.{ROUNDS, mixOf, systemsFor, countFor, outcome, splitAnswer, searchOutcome}
+use Rattle.outcome.specs.Rate.{ROUNDS, mixOf, systemsFor, countFor, Judged, ofVolumes, ofMoles, outcome, judgedSplit}
+use Rattle.outcome.specs.Rate.{splitAnswer, moleSplitAnswer, judgedSearch, searchOutcome, moleSearchOutcome}
 use Rattle.outcome.specs.Rate.{sheetOutcomeBy, sheetOutcome}
+use Rattle.outcome.specs.RatedOn.{Suffices}
+use Rattle.outcome.specs.Suffices.{volumes-suffice, moles-suffice}
 use Rattle.outcome.specs.Laws.Ready.{chosen, million}
 use Rattle.outcome.specs.Laws.Ends.{read-long}
 use Rattle.demand.specs.Laws.Answers.{split-rated, found-back}
@@ -41,38 +45,49 @@ rated-small (Rated w s r) h = h w s r refl
 rated-small (Refused number place) h = tt
 
 -- of a proposed split, and of the one that the search found
-proposed-small : (analysis : List ℕ) → length analysis ≡ CODES → (p : Split) (w : ℤ) (s r : ℕ)
-    → splitAnswer analysis p ≡ Rated w s r
+proposed-small : (gas : Judged) → Suffices gas → (p : Split) (w : ℤ) (s r : ℕ) → judgedSplit gas p ≡ Rated w s r
     → BelowDouble w s
-proposed-small analysis long p w s r is =
-    let (on, e) = split-rated analysis p w s r is in
-    let mix = mixOf analysis in
-    let systems = systemsFor analysis in
-    let count = countFor analysis in
+proposed-small gas suffices p w s r is =
+    let (on, e) = split-rated gas p w s r is in
+    let volumes = gas .volumes in
+    let mix = mixOf volumes in
+    let systems = systemsFor volumes in
+    let count = countFor volumes in
     let cells = cellsOf systems count (p .amounts) in
-    let known = chosen analysis on in (
-      accuracy.rated-small systems count mix cells known LIMIT (inertFirst analysis) w s r e
-          (omega (arith, million analysis long on)),
-      accuracy.rated-spread-small systems count mix cells known LIMIT (inertFirst analysis) w s r e,
+    let known = chosen gas on in (
+      accuracy.rated-small systems count mix cells known LIMIT (inertFirst volumes) w s r e
+          (omega (arith, million gas on suffices)),
+      accuracy.rated-spread-small systems count mix cells known LIMIT (inertFirst volumes) w s r e,
     )
 
-found-small : (analysis : List ℕ) → length analysis ≡ CODES → (allowance : ℕ) (w : ℤ) (s r : ℕ)
-    → searchOutcome analysis allowance .answer ≡ Rated w s r
-    → BelowDouble w s
-found-small analysis long allowance w s r is =
-    proposed-small analysis long (searchOutcome analysis allowance .split) w s 0
-    (found-back analysis long allowance w s r is)
+found-small : (gas : Judged) → Suffices gas → (allowance : ℕ) (w : ℤ) (s r : ℕ)
+    → judgedSearch gas allowance .answer ≡ Rated w s r → BelowDouble w s
+found-small gas suffices allowance w s r is =
+    proposed-small gas suffices (judgedSearch gas allowance .split) w s 0 (found-back gas suffices allowance w s r is)
 
-pub split-small : (analysis : List ℕ) → length analysis ≡ CODES → (p : Split)
-    → SmallFigures (splitAnswer analysis p)
-split-small analysis long p =
-    rated-small (splitAnswer analysis p) (λ w s r is. proposed-small analysis long p w s r is)
+judged-split : (gas : Judged) → Suffices gas → (p : Split) → SmallFigures (judgedSplit gas p)
+judged-split gas suffices p = rated-small (judgedSplit gas p) (λ w s r is. proposed-small gas suffices p w s r is)
+
+judged-search : (gas : Judged) → Suffices gas → (allowance : ℕ) → SmallFigures (judgedSearch gas allowance .answer)
+judged-search gas suffices allowance =
+    rated-small (judgedSearch gas allowance .answer) (λ w s r is. found-small gas suffices allowance w s r is)
+
+-- of an analysis
+pub split-small : (analysis : List ℕ) → length analysis ≡ CODES → (p : Split) → SmallFigures (splitAnswer analysis p)
+split-small analysis long = judged-split (ofVolumes analysis) (volumes-suffice analysis long)
 
 pub search-small : (analysis : List ℕ) → length analysis ≡ CODES → (allowance : ℕ)
     → SmallFigures (searchOutcome analysis allowance .answer)
-search-small analysis long allowance =
-    rated-small (searchOutcome analysis allowance .answer)
-    (λ w s r is. found-small analysis long allowance w s r is)
+search-small analysis long = judged-search (ofVolumes analysis) (volumes-suffice analysis long)
+
+-- of a mole analysis
+pub moles-split-small : (moles : List ℕ) → length moles ≡ CODES → (p : Split)
+    → SmallFigures (moleSplitAnswer moles p)
+moles-split-small moles long = judged-split (ofMoles moles) (moles-suffice moles long)
+
+pub moles-search-small : (moles : List ℕ) → length moles ≡ CODES → (allowance : ℕ)
+    → SmallFigures (moleSearchOutcome moles allowance .answer)
+moles-search-small moles long = judged-search (ofMoles moles) (moles-suffice moles long)
 
 -- of a sheet
 by-split : (none : Bool) (analysis : List ℕ) → length analysis ≡ CODES → (p : Split)
@@ -90,4 +105,4 @@ pub sheet-small : (s : List ℕ) → SmallFigures (sheetOutcome s .answer)
 unfolding sheetOutcome
 sheet-small s =
     let x = readOf s in
-    read-small (x .answer) (x .analysis .amounts) (λ h. read-long s h) (x .split)
+    read-small (x .answer) (volumesIn (x .analysis)) (λ h. read-long s h) (x .split)

@@ -45,7 +45,7 @@ use Rattle.systems.specs.declared.Choice.{Choice}
 use Rattle.split.specs.AnswerCases.{IsRated}
 use Rattle.split.specs.declared.Answer.{Answer}
 use Rattle.split.specs.declared.Answer.the-variants.{Rated, Refused}
-use Rattle.outcome.specs.Rate.{ROUNDS, mixOf, checkedBy, splitAnswer, outcome, searchOutcome, sheetOutcome}
+use Rattle.outcome.specs.Rate.{ROUNDS, mixOf, ofVolumes, checkedBy, splitAnswer, outcome, searchOutcome, sheetOutcome}
 use Rattle.outcome.specs.RatedOn.{InRange, RatedOn}
 use Rattle.outcome.specs.Laws.RatedOn.{enough-on}
 use Rattle.outcome.specs.Laws.Ends.{read-long}
@@ -72,7 +72,7 @@ refusalBeforeFive analysis = refusalIn (requiring requiredBefore registerBefore)
 -- hydrogen
 pub before-exactly-when : (analysis : List ℕ) → length analysis ≡ CODES
     → ((refusalBeforeFive analysis ≡ 0) × HexanesKept analysis)
-    ↔ ((InRange analysis × (getD analysis hydrogenCode 0 ≡ 0))
+    ↔ ((InRange (ofVolumes analysis) × (getD analysis hydrogenCode 0 ≡ 0))
     × ((k : ℕ) → isIn k requiredBefore ≡ true → 0 < getD analysis k 0))
 unfolding isIn
 before-exactly-when analysis long = (
@@ -125,12 +125,12 @@ passed-before = (refl, refl)
 
 module _ (analysis : List ℕ) (long : length analysis ≡ CODES) (before : refusalBeforeFive analysis ≡ 0)
     (hexanes : HexanesKept analysis) where
-  then : (InRange analysis × (getD analysis hydrogenCode 0 ≡ 0))
+  then : (InRange (ofVolumes analysis) × (getD analysis hydrogenCode 0 ≡ 0))
       × ((k : ℕ) → isIn k requiredBefore ≡ true → 0 < getD analysis k 0)
   then = before-exactly-when analysis long .0 (before, hexanes)
 
   -- passes now, without hydrogen
-  pub passes : InRange analysis
+  pub passes : InRange (ofVolumes analysis)
   passes = then .0 .0
 
   none : getD analysis hydrogenCode 0 ≡ 0
@@ -149,9 +149,9 @@ module _ (analysis : List ℕ) (long : length analysis ≡ CODES) (before : refu
   all-four (suc (suc (suc (suc c)))) l = absurd (omega arith)
 
   -- so 16 lets it pass
-  pub rated-on : RatedOn analysis
+  pub rated-on : RatedOn (ofVolumes analysis)
   rated-on =
-      enough-on analysis passes
+      enough-on (ofVolumes analysis) passes
       (two-present (mixOf analysis) (all-four 0 (omega arith)) 1 (omega arith) (omega arith) (all-four 1 (omega arith)))
 
   -- and the choice is the one by fitness

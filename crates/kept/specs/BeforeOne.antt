@@ -13,6 +13,7 @@ use lib.Dec.{eqb, leb}
 use lib.ListN.{length, drop, replicate}
 use Rattle.refusal.specs.Register.{TORN, OUT_OF_RANGE, SHORT_BLANK, carried}
 use Rattle.analysis.specs.Register.{CODES}
+use Rattle.analysis.specs.Amounts.{volumesIn}
 use Rattle.analysis.specs.Check.{answerBy, checkedOf}
 use Rattle.analysis.specs.declared.Checked.{Checked}
 use Rattle.analysis.specs.Required.{refusalIn, lowestFaultIn}
@@ -36,8 +37,9 @@ use Rattle.mixture.specs.Answers.{mixtureOf, inertN1}
 use Rattle.systems.specs.Choice.{choiceOf}
 use Rattle.split.specs.declared.Answer.{Answer}
 use Rattle.split.specs.declared.Answer.the-variants.{Refused}
-use Rattle.outcome.specs.Rate.{ROUNDS, mixOf, systemsFor, countFor, mixtureRefusal, ratingRefusal, checkedBy, splitBy}
-use Rattle.outcome.specs.Rate.{splitAnswer, outcome, foundOutcome, searchedBy, searchOutcome, sheetOutcomeBy}
+use Rattle.outcome.specs.Rate.{ROUNDS, mixOf, systemsFor, countFor, mixtureRefusal, ofVolumes, judgedRefusal}
+use Rattle.outcome.specs.Rate.{ratingRefusal, checkedBy, splitBy, judgedSplit, splitAnswer, outcome, foundOutcome}
+use Rattle.outcome.specs.Rate.{searchedBy, judgedSearch, searchOutcome, sheetOutcomeBy}
 use Rattle.outcome.specs.Rate.{sheetOutcome}
 use Rattle.outcome.specs.RatedOn.{InRange}
 use Rattle.outcome.specs.declared.Outcome.{Outcome}
@@ -130,12 +132,12 @@ sheetByBeforeOne reading.Read analysis split =
 
 unfoldable pub sheetBeforeOne : List ℕ → Outcome
 sheetBeforeOne s =
-    sheetByBeforeOne (readBeforeOne s .answer) (readBeforeOne s .analysis .amounts) (readBeforeOne s .split)
+    sheetByBeforeOne (readBeforeOne s .answer) (volumesIn (readBeforeOne s .analysis)) (readBeforeOne s .split)
 
 -- ---- what passed then with no more hexanes+ than are legal now is in range, and nothing else is
 
 pub in-range-exactly-when : (analysis : List ℕ) → length analysis ≡ CODES
-    → ((numberBeforeOne analysis ≡ 0) × HexanesKept analysis) ↔ InRange analysis
+    → ((numberBeforeOne analysis ≡ 0) × HexanesKept analysis) ↔ InRange (ofVolumes analysis)
 in-range-exactly-when analysis long = one-exactly-when analysis long
 
 -- ---- an analysis with hexanes+ that One leaves as they were is answered as it was
@@ -153,17 +155,17 @@ module _ (analysis : List ℕ) (hexanes : HexanesKept analysis) where
   inert-kept = rw (one-kept analysis hexanes)
 
   refusal-kept : ratingRefusal analysis ≡ refusalBeforeOne analysis
-  unfolding ratingRefusal refusalBeforeOne
+  unfolding judgedRefusal refusalBeforeOne
   refusal-kept = rw (one-kept analysis hexanes)
 
   -- to every proposed split,
   pub split-kept : (p : Split) → splitAnswer analysis p ≡ splitBeforeOne analysis p
-  unfolding splitAnswer splitBeforeOne
+  unfolding judgedSplit splitBeforeOne
   split-kept p = rw (refusal-kept, one-lowest analysis hexanes)
 
   -- by the search with every allowance,
   pub search-kept : (allowance : ℕ) → searchOutcome analysis allowance ≡ searchBeforeOne analysis allowance
-  unfolding searchOutcome searchBeforeOne
+  unfolding judgedSearch searchBeforeOne
   search-kept allowance = rw (refusal-kept, one-lowest analysis hexanes)
 
   -- and written
@@ -204,14 +206,14 @@ module _ (s : List ℕ)
   unfolding sheetOutcome sheetBeforeOne
   sheet-kept =
       go (readOf s .answer) refl
-      ∙ ap (λ (x : Sheet). sheetByBeforeOne (x .answer) (x .analysis .amounts) (x .split)) read-kept
+      ∙ ap (λ (x : Sheet). sheetByBeforeOne (x .answer) (volumesIn (x .analysis)) (x .split)) read-kept
     where
       go : (x : Reading) → readOf s .answer ≡ x
-          → sheetOutcomeBy x (readOf s .analysis .amounts) (readOf s .split)
-          ≡ sheetByBeforeOne x (readOf s .analysis .amounts) (readOf s .split)
+          → sheetOutcomeBy x (volumesIn (readOf s .analysis)) (readOf s .split)
+          ≡ sheetByBeforeOne x (volumesIn (readOf s .analysis)) (readOf s .split)
       go (reading.Refused number place code) e = refl
       go reading.Read e =
-          let a = readOf s .analysis .amounts in
+          let a = volumesIn (readOf s .analysis) in
           let w = read-passed-kept s e in
           ap₂ (λ (x : Outcome) (y : Answer). cond (eqb (readOf s .split .count) 0) x (outcome y noSplit))
           (search-kept a w ROUNDS) (split-kept a w (readOf s .split))

@@ -43,8 +43,9 @@ use Rattle.split.specs.declared.Search.{Search}
 use Rattle.split.specs.declared.Search.the-variants.{Balanced, Unbalanced, Unfit}
 use Rattle.split.specs.declared.Found.{Found}
 use Rattle.outcome.specs.Records.{splitCode, systemAt, codeAt, codesOf, systemsOf, matchesAt, fitsOf, recordsOf}
-use Rattle.outcome.specs.Rate.{ROUNDS, mixOf, systemsFor, countFor, ratingRefusal, checkedBy, splitBy, splitAnswer}
-use Rattle.outcome.specs.Rate.{outcome, foundBy, foundOutcome, searchOutcomeBy, searchOutcome}
+use Rattle.outcome.specs.Rate.{ROUNDS, mixOf, systemsFor, countFor, ofVolumes, judgedRefusal, ratingRefusal, checkedBy}
+use Rattle.outcome.specs.Rate.{splitBy, judgedSplit, splitAnswer, outcome, foundBy, foundOutcome, searchOutcomeBy}
+use Rattle.outcome.specs.Rate.{judgedSearch, searchOutcome}
 use Rattle.outcome.specs.Rate.{sheetOutcome}
 use Rattle.outcome.specs.LeftOut.{mixture-number}
 use Rattle.outcome.specs.RatedOn.{RatedOn}
@@ -133,7 +134,7 @@ module _ (analysis : List ℕ) (none : getD analysis hydrogenCode 0 ≡ 0) where
 
   -- with hexanes+ as they were the same refusal,
   pub refusal-kept : HexanesKept analysis → ratingRefusal analysis ≡ refusalBefore analysis
-  unfolding ratingRefusal
+  unfolding judgedRefusal
   refusal-kept hexanes = rw (without-kept analysis none hexanes, mixture-number (mixOf analysis), count-same)
 
   -- with the same code,
@@ -148,8 +149,10 @@ module _ (analysis : List ℕ) (none : getD analysis hydrogenCode 0 ≡ 0) where
       ∙ before-same (mixOf analysis) (simplifiedBefore analysis) (mixture-same analysis none))
 
   -- none of whose systems contains hydrogen
-  without : RatedOn analysis → Without (systemsFor analysis) (countFor analysis)
-  without on = record { most = chosen analysis on .most; known = chosen analysis on .known; lacks = lacks }
+  without : RatedOn (ofVolumes analysis) → Without (systemsFor analysis) (countFor analysis)
+  without on =
+      let c = chosen (ofVolumes analysis) on in
+      record { most = c .most; known = c .known; lacks = lacks }
     where
       negation : (b : Bool) → true ≡ not b → b ≡ false
       negation false e = refl
@@ -158,14 +161,14 @@ module _ (analysis : List ℕ) (none : getD analysis hydrogenCode 0 ≡ 0) where
       lacks : (s : ℕ) → s < countFor analysis → hasOf (systemOf (systemsFor analysis) s) BEFORE ≡ false
       lacks s h =
           let system = systemOf (systemsFor analysis) s in
-          let offered = choosable analysis on .offered s h in
+          let offered = choosable (ofVolumes analysis) on .offered s h in
           let four = ap (isIn system) (candidates-before (mixOf analysis) (no-hydrogen analysis none)) in
           negation (hasOf system HYDROGEN)
-          (sym (sym four ∙ offered) ∙ hydrocarbons-are system (chosen analysis on .known s h))
+          (sym (sym four ∙ offered) ∙ hydrocarbons-are system (chosen (ofVolumes analysis) on .known s h))
 
   -- so with such hexanes+ it is answered as it was: to every proposed split,
   pub split-kept : HexanesKept analysis → (p : Split) → splitAnswer analysis p ≡ splitBefore analysis p
-  unfolding splitAnswer splitBefore
+  unfolding judgedSplit splitBefore
   split-kept hexanes p =
       go (eqb (ratingRefusal analysis) 0) refl
       ∙ (λ j. checkedBy (refusal-kept hexanes j) (fault-kept hexanes j)
@@ -188,14 +191,15 @@ module _ (analysis : List ℕ) (none : getD analysis hydrogenCode 0 ≡ 0) where
   -- and by the search with every allowance
   pub search-kept-all : HexanesKept analysis → (allowance : ℕ)
       → searchOutcome analysis allowance ≡ searchBefore analysis allowance
-  unfolding searchOutcome searchBefore
+  unfolding judgedSearch searchBefore
   search-kept-all hexanes allowance =
       go (eqb (ratingRefusal analysis) 0) refl
       ∙ (λ j. searchOutcomeWith (refusal-kept hexanes j) (fault-kept hexanes j) (choice-kept j)
       (simplifiedBefore analysis) (inert-kept analysis none j) allowance)
     where
       go : (b : Bool) → eqb (ratingRefusal analysis) 0 ≡ b
-          → searchOutcomeBy (ratingRefusal analysis) (choiceOf (mixOf analysis)) analysis allowance
+          → searchOutcomeBy (ratingRefusal analysis) (lowestFault 0 analysis) (choiceOf (mixOf analysis)) analysis
+          allowance
           ≡ searchOutcomeWith (ratingRefusal analysis) (lowestFault 0 analysis) (choiceOf (mixOf analysis))
           (simplifiedBefore analysis) (inertFirst analysis) allowance
       go true e =

@@ -12,7 +12,10 @@ use lib.ListN.{getD, set, take, length, replicate, length-set, length-map}
 use lib.Seq.{take-all, ext-getD, getD-set-same, getD-set-other}
 use borrow.Author.Tests.{eqb-true, eqb-false, lt-ltb, le-ltb}
 use Rattle.integer.specs.Figures.{MILLION}
+use Rattle.analysis.specs.declared.Volume.{Volume}
+use Rattle.analysis.specs.Amounts.{volume, volumeParts}
 use Rattle.analysis.specs.Check.{totalOf}
+use Rattle.analysis.specs.Laws.Amounts.{volume-at}
 use Rattle.mixture.specs.Scaling.{quotientOf, remainderOf, quotientsOf, remaindersOf, missingOf, largestTo}
 use Rattle.mixture.specs.Scaling.{greatestPlace, distributed, scaledOf}
 use Rattle.mixture.specs.Laws.Share.{getD-map}
@@ -27,24 +30,51 @@ sum-has [] i = omega arith
 sum-has (x ∷ l) zero = omega arith
 sum-has (x ∷ l) (suc i) = omega (arith, sum-has l i)
 
+-- ---- the parts of an analysis at the codes that butane is made of, and at 9: a program that read 9 is refused for its
+-- sum
+
+abbrev pub ButaneParts : List Volume → Type 0
+ButaneParts vs =
+    (getD vs 4 (volume 0) .0 ≡ getD (volumeParts vs) 4 0) × (getD vs 5 (volume 0) .0 ≡ getD (volumeParts vs) 5 0)
+    × (getD vs 6 (volume 0) .0 ≡ getD (volumeParts vs) 6 0) × (getD vs 7 (volume 0) .0 ≡ getD (volumeParts vs) 7 0)
+    × (getD vs 8 (volume 0) .0 ≡ getD (volumeParts vs) 8 0) × (getD vs 9 (volume 0) .0 ≡ getD (volumeParts vs) 9 0)
+    × (getD vs 10 (volume 0) .0 ≡ getD (volumeParts vs) 10 0)
+
+pub butane-parts : (vs : List Volume) → ButaneParts vs
+butane-parts vs =
+    (volume-at vs 4, volume-at vs 5, volume-at vs 6, volume-at vs 7, volume-at vs 8, volume-at vs 9, volume-at vs 10)
+
 -- ---- the components of amounts of 32 bits, butane as the code adds it up. Of butane and hydrogen, the last two, the
 -- bound is proved in either order: components exchanged are refused for their order
 
-module _ (a : List ℕ) (fits : (code : ℕ) → getD a code 0 < 4294967296) where
-  small : (i : ℕ) → getD (tenthsOf a) i 0 ≤ MOST_PARTS
-  unfolding tenthsOf
-  small zero = omega (arith, fits 1)
-  small (suc zero) = omega (arith, fits 2)
-  small (suc (suc zero)) = omega (arith, fits 3)
-  small (suc (suc (suc zero))) = omega (arith, fits 4, fits 5, fits 6, fits 7, fits 8, fits 10, fits 15)
-  small (suc (suc (suc (suc zero)))) = omega (arith, fits 4, fits 5, fits 6, fits 7, fits 8, fits 10, fits 15)
-  small (suc (suc (suc (suc (suc i))))) = omega arith
+module _ (vs : List Volume) where
+  -- the parts of a code, of 32 bits
+  abbrev Wide : ℕ → ℕ → Type 0
+  Wide code n = (n ≡ getD vs code (volume 0) .0) × (n ≤ 4294967295)
 
-  pub tenths-each : (z : ℕ) → z ≡ afterHexanesOf a →
-      let l = 10 * getD a 1 0 ∷ 10 * getD a 2 0 ∷ 10 * getD a 3 0 ∷ z ∷ 10 * getD a 15 0 ∷ [] in
-      (l ≡ tenthsOf a) × Limited l
+  pub tenths-each : (m e p h z : ℕ) → Wide 1 m → Wide 2 e → Wide 3 p → Wide 15 h
+      → (z ≡ afterHexanesOf (volumeParts vs)) × (z ≤ MOST_PARTS)
+      → let l = 10 * m ∷ 10 * e ∷ 10 * p ∷ z ∷ 10 * h ∷ [] in
+      (l ≡ tenthsOf (volumeParts vs)) × Limited l
   unfolding tenthsOf
-  tenths-each z e = rw (e ∙ butane-kept a) (refl, record { long = refl; small = small })
+  tenths-each m e p h z wm we wp wh wz = (
+    rw (
+      wm .0 ∙ volume-at vs 1,
+      we .0 ∙ volume-at vs 2,
+      wp .0 ∙ volume-at vs 3,
+      wh .0 ∙ volume-at vs 15,
+      wz .0 ∙ butane-kept (volumeParts vs),
+    ),
+    record { long = refl; small = small },
+  )
+    where
+      small : (i : ℕ) → getD (10 * m ∷ 10 * e ∷ 10 * p ∷ z ∷ 10 * h ∷ []) i 0 ≤ MOST_PARTS
+      small zero = omega (arith, wm .1)
+      small (suc zero) = omega (arith, we .1)
+      small (suc (suc zero)) = omega (arith, wp .1)
+      small (suc (suc (suc zero))) = omega (arith, wz .1, wh .1)
+      small (suc (suc (suc (suc zero)))) = omega (arith, wz .1, wh .1)
+      small (suc (suc (suc (suc (suc i))))) = omega arith
 
 -- ---- the sum of the first elements
 

@@ -1,18 +1,23 @@
-// The simplified mixture and the inert mixture of an analysis (000 A.3.1 and A.3.7).
+// The simplified mixture and the inert mixture of an analysis, or of the volumes made from a mole analysis (000 A.3.1
+// and A.3.7).
 // No public function has a `requires`.
 use analysis::Analysis;
 use analysis::Checked;
+use analysis::MoleAnalysis;
+use analysis::Volume;
 ghost use mathlib.Core.Path.{_≡_};
 ghost use Prim.Native.Nat.{_+_, _*_, _<_, _≤_};
 ghost use lib.ListN.{length, replicate};
 ghost use Rattle.integer.specs.Figures.{MILLION};
-ghost use Rattle.analysis.specs.Check.{totalOf, checkedOf};
+ghost use Rattle.integer.specs.Halves.{halvesUp};
+ghost use Rattle.analysis.specs.Amounts.{volumesIn, molesIn};
+ghost use Rattle.analysis.specs.Check.{totalOf, checkedOf, molesCheckedOf};
 ghost use Rattle.mixture.specs.Scaling.{quotientOf, remainderOf, greatestPlace, distributed, scaledOf};
 ghost use Rattle.mixture.specs.Simplification.{COMPONENTS, tenthsOf, tenthsTotal, simplifiedOf};
 ghost use Rattle.mixture.specs.Butane.{afterButanesOf, afterPentanesOf, afterHexanesOf};
 ghost use Rattle.mixture.specs.Inner.Limits.{MOST_PARTS, Limited};
-ghost use Rattle.mixture.specs.Answers.{mixtureOf, inertN1};
-ghost use Rattle.mixture.specs.Inert.{halvesUp, methaneShare, inertFirst};
+ghost use Rattle.mixture.specs.Answers.{mixtureOf, inertN1, moleMixtureOf, moleInertN1};
+ghost use Rattle.mixture.specs.Inert.{methaneShare, inertFirst};
 
 // Methane, ethane, propane, butane, hydrogen.
 pub const COMPONENTS: usize = 5;
@@ -47,9 +52,9 @@ pub struct Simplified {
 // The simplified mixture and the inert mixture of an analysis in range, else its refusal beside zeros. Nitrogen does
 // not enter.
 pub fn simplify(analysis: Analysis) -> Simplified
-    ensures { λ r. ⌜ r .answer ≡ checkedOf (analysis .amounts) ⌝ }
-    ensures { λ r. ⌜ r .mixture .amounts ≡ mixtureOf (analysis .amounts) ⌝ }
-    ensures { λ r. ⌜ r .inert ≡ inertN1 (analysis .amounts) ⌝ }
+    ensures { λ r. ⌜ r .answer ≡ checkedOf (volumesIn analysis) ⌝ }
+    ensures { λ r. ⌜ r .mixture .amounts ≡ mixtureOf (volumesIn analysis) ⌝ }
+    ensures { λ r. ⌜ r .inert ≡ inertN1 (volumesIn analysis) ⌝ }
 {
     let answer = analysis::check(analysis);
     match answer {
@@ -58,11 +63,27 @@ pub fn simplify(analysis: Analysis) -> Simplified
     }
 }
 
+// The same of the volumes made from a mole analysis in range, which are not range-tested again, else its refusal beside
+// zeros.
+pub fn simplify_moles(moles: MoleAnalysis) -> Simplified
+    ensures { λ r. ⌜ r .answer ≡ molesCheckedOf (molesIn moles) ⌝ }
+    ensures { λ r. ⌜ r .mixture .amounts ≡ moleMixtureOf (molesIn moles) ⌝ }
+    ensures { λ r. ⌜ r .inert ≡ moleInertN1 (molesIn moles) ⌝ }
+{
+    let converted = conversion::convert(moles);
+    let answer = converted.answer;
+    let volumes = converted.analysis;
+    match answer {
+        Checked::InRange => in_range(volumes),
+        Checked::Refused { number, code } => refused(number, code),
+    }
+}
+
 // The mixtures of amounts whose T is not 0, beside the answer of an analysis in range.
 fn in_range(analysis: Analysis) -> Simplified
-    requires { ⌜ 0 < tenthsTotal (analysis .amounts) ⌝ }
-    ensures { λ r. ⌜ (r .answer ≡ Checked.InRange) × (r .mixture .amounts ≡ simplifiedOf (analysis .amounts))
-        × (r .inert ≡ inertFirst (analysis .amounts)) ⌝ }
+    requires { ⌜ 0 < tenthsTotal (volumesIn analysis) ⌝ }
+    ensures { λ r. ⌜ (r .answer ≡ Checked.InRange) × (r .mixture .amounts ≡ simplifiedOf (volumesIn analysis))
+        × (r .inert ≡ inertFirst (volumesIn analysis)) ⌝ }
 {
     let a = analysis.amounts;
     let x = tenths(analysis);
@@ -90,18 +111,25 @@ fn refused(number: u32, code: u32) -> Simplified
     }
 }
 
+// The parts of a volume, with room for sums of them.
+fn wide(amount: Volume) -> u64
+    ensures { λ r. ⌜ (r ≡ amount .0) × (r ≤ 4294967295) ⌝ }
+{
+    amount.0 as u64
+}
+
 // Butane of any amounts, added up in the order of 000 A.3.1: butanes at 1, then the pentanes at 2.3, then hexanes+ at
 // 5.3. The annex's butadiene and butylene have no code.
 pub fn butane(analysis: Analysis) -> ButaneSum
-    ensures { λ r. ⌜ r .«after_butanes» ≡ afterButanesOf (analysis .amounts) ⌝ }
-    ensures { λ r. ⌜ r .«after_pentanes» ≡ afterPentanesOf (analysis .amounts) ⌝ }
-    ensures { λ r. ⌜ r .«after_hexanes» ≡ afterHexanesOf (analysis .amounts) ⌝ }
+    ensures { λ r. ⌜ r .«after_butanes» ≡ afterButanesOf (volumesIn analysis) ⌝ }
+    ensures { λ r. ⌜ r .«after_pentanes» ≡ afterPentanesOf (volumesIn analysis) ⌝ }
+    ensures { λ r. ⌜ (r .«after_hexanes» ≡ afterHexanesOf (volumesIn analysis)) × (r .«after_hexanes» ≤ MOST_PARTS) ⌝ }
 {
     let a = analysis.amounts;
     // the quantities, in parts
-    let butanes = a[4] as u64 + a[5] as u64;
-    let pentanes = a[6] as u64 + a[7] as u64 + a[8] as u64;
-    let hexanes = a[10] as u64;
+    let butanes = wide(a[4]) + wide(a[5]);
+    let pentanes = wide(a[6]) + wide(a[7]) + wide(a[8]);
+    let hexanes = wide(a[10]);
     // their sum, in tenths of a part
     let after_butanes = 10 * butanes;
     let after_pentanes = after_butanes + 23 * pentanes;
@@ -116,15 +144,15 @@ pub fn butane(analysis: Analysis) -> ButaneSum
 // The components in tenths of a part. They have 64 bits, so that any amounts may come; what follows needs only T
 // above 0 and no tenth above 10^12.
 fn tenths(analysis: Analysis) -> [u64; COMPONENTS]
-    ensures { λ r. ⌜ (r ≡ tenthsOf (analysis .amounts)) × Limited r ⌝ }
+    ensures { λ r. ⌜ (r ≡ tenthsOf (volumesIn analysis)) × Limited r ⌝ }
 {
     let a = analysis.amounts;
     [
-        10 * a[1] as u64,
-        10 * a[2] as u64,
-        10 * a[3] as u64,
+        10 * wide(a[1]),
+        10 * wide(a[2]),
+        10 * wide(a[3]),
         butane(analysis).after_hexanes,
-        10 * a[15] as u64,
+        10 * wide(a[15]),
     ]
 }
 
@@ -231,10 +259,10 @@ fn halves_up(n: u64, d: u64) -> u64
     (2 * n + d) / (2 * d)
 }
 
-// n1 of a total in tenths of a part beside so many parts of carbon dioxide.
-fn methane_share(total: u64, co2: u32) -> u32
+// n1 of a total in tenths of a part beside a volume of carbon dioxide.
+fn methane_share(total: u64, co2: Volume) -> u32
     requires { ⌜ (0 < total) × (total ≤ MOST_PARTS * COMPONENTS) ⌝ }
-    ensures { λ r. ⌜ (r ≡ methaneShare total co2) × (r ≤ MILLION) ⌝ }
+    ensures { λ r. ⌜ (r ≡ methaneShare total (co2 .0)) × (r ≤ MILLION) ⌝ }
 {
-    halves_up(WIDE_MILLION * total, total + 10 * co2 as u64) as u32
+    halves_up(WIDE_MILLION * total, total + 10 * wide(co2)) as u32
 }

@@ -3,6 +3,7 @@ pub mod Rate
 pub mod Misfit
 pub mod SplitCodes
 pub mod RatedOn
+pub mod Suffices
 pub mod LeftOut
 pub mod NoThirteen
 pub mod Laws

@@ -1,5 +1,6 @@
--- The answers to an analysis with a proposed split, to an analysis by the search, and to a sheet
--- (document 01, "The split and the rating", "The search", "What is turned away"). Assumes nothing.
+-- The answers to an analysis with a proposed split and to an analysis by the search, by volumes or by moles, and to a
+-- sheet (document 01, "The split and the rating", "The search", "What is turned away"; document 02, Two). Assumes
+-- nothing.
 use mathlib.Core.Bool.{cond}
 use mathlib.Core.List.{List}
 use Prim.Native.Nat.{ℕ, min}
@@ -7,7 +8,9 @@ use lib.Dec.{eqb, ltb}
 use Rattle.refusal.specs.Keys.{each}
 use Rattle.refusal.specs.Register.{MISFIT, NO_SYSTEM, TOO_FEW, carried}
 use Rattle.formula.specs.Coefficients.{isSystem}
-use Rattle.analysis.specs.Check.{analysisRefusal, lowestFault}
+use Rattle.analysis.specs.Amounts.{volumesIn}
+use Rattle.analysis.specs.Check.{analysisRefusal, lowestFault, moleRefusal}
+use Rattle.conversion.specs.Conversion.{volumesOf}
 use Rattle.sheet.specs.Split.{noSplit}
 use Rattle.sheet.specs.Read.{readOf}
 use Rattle.sheet.specs.ReadingCases as read
@@ -35,18 +38,35 @@ use Rattle.outcome.specs.declared.Outcome.{Outcome}
 abbrev pub ROUNDS : ℕ
 ROUNDS = 4000
 
--- ---- what an analysis is rated by: simplified mixture, chosen systems and their number, inert mixture
+-- ---- what volume amounts are rated by: simplified mixture, chosen systems and their number, inert mixture
 
 abbrev pub mixOf : List ℕ → List ℕ
-mixOf analysis = simplifiedOf analysis
+mixOf volumes = simplifiedOf volumes
 
 abbrev pub systemsFor : List ℕ → List ℕ
-systemsFor analysis = choiceOf (simplifiedOf analysis) .systems
+systemsFor volumes = choiceOf (simplifiedOf volumes) .systems
 
 abbrev pub countFor : List ℕ → ℕ
-countFor analysis = choiceOf (simplifiedOf analysis) .count
+countFor volumes = choiceOf (simplifiedOf volumes) .count
 
--- ---- a refusal of the analysis comes first; 5 carries the lowest code at fault, and the others none
+-- ---- what is judged: an analysis, or a mole analysis on the volume amounts made (document 02, Two)
+
+-- the number with which its check turns it away, 0 where it is in range; the code that 5 carries; and the volume
+-- amounts that it is judged on
+pub record Judged : Type 0 where
+  pub number : ℕ
+  pub code : ℕ
+  pub volumes : List ℕ
+
+abbrev pub ofVolumes : List ℕ → Judged
+ofVolumes analysis =
+    record { number = analysisRefusal analysis; code = lowestFault 0 analysis; volumes = analysis }
+
+-- the volume amounts made are not range-tested again
+abbrev pub ofMoles : List ℕ → Judged
+ofMoles moles = record { number = moleRefusal moles; code = lowestFault 0 moles; volumes = volumesOf moles }
+
+-- ---- a refusal of the check comes first; 5 carries the lowest code at fault, and the others none
 
 -- the fewest components present that a mixture is rated with
 abbrev pub FEWEST : ℕ
@@ -58,10 +78,16 @@ FEWEST = 2
 unfoldable pub mixtureRefusal : List ℕ → ℕ
 mixtureRefusal mix = cond (ltb (presentCount mix) FEWEST) TOO_FEW (cond (each isSystem (chooseOf mix)) 0 NO_SYSTEM)
 
--- the number with which rating turns an analysis away: 5 or 6, then 16 or 13; 0 where it is rated on
-unfoldable pub ratingRefusal : List ℕ → ℕ
-ratingRefusal analysis =
-    cond (eqb (analysisRefusal analysis) 0) (mixtureRefusal (mixOf analysis)) (analysisRefusal analysis)
+-- the number with which rating turns it away: its check's, then 16 or 13; 0 where it is rated on
+unfoldable pub judgedRefusal : Judged → ℕ
+judgedRefusal gas = cond (eqb (gas .number) 0) (mixtureRefusal (mixOf (gas .volumes))) (gas .number)
+
+-- of an analysis 5 or 6, then 16 or 13; of a mole analysis 18, 5 or 15, then 16 or 13
+abbrev pub ratingRefusal : List ℕ → ℕ
+ratingRefusal analysis = judgedRefusal (ofVolumes analysis)
+
+abbrev pub moleRatingRefusal : List ℕ → ℕ
+moleRatingRefusal moles = judgedRefusal (ofMoles moles)
 
 -- the answer by that number; 5 carries `code`
 abbrev pub checkedBy : ℕ → ℕ → Answer → Answer
@@ -77,15 +103,20 @@ splitBy systems count mix n1 split =
     (proposedOf LIMIT systems count mix (cellsOf systems count (split .amounts)) n1)
     (Refused MISFIT 0)
 
--- of an analysis that is refused with a number (0: rated on) and has some choice of systems
-abbrev pub splitAnswerBy : ℕ → Choice → List ℕ → Split → Answer
-splitAnswerBy number choice analysis split =
-    checkedBy number (lowestFault 0 analysis)
-    (splitBy (choice .systems) (choice .count) (mixOf analysis) (inertFirst analysis) split)
+-- of volumes that are rated on
+abbrev pub splitOn : List ℕ → Split → Answer
+splitOn volumes split = splitBy (systemsFor volumes) (countFor volumes) (mixOf volumes) (inertFirst volumes) split
 
--- of an analysis
-unfoldable pub splitAnswer : List ℕ → Split → Answer
-splitAnswer analysis split = splitAnswerBy (ratingRefusal analysis) (choiceOf (mixOf analysis)) analysis split
+-- of what is judged
+unfoldable pub judgedSplit : Judged → Split → Answer
+judgedSplit gas split = checkedBy (judgedRefusal gas) (gas .code) (splitOn (gas .volumes) split)
+
+-- of an analysis, and of a mole analysis
+abbrev pub splitAnswer : List ℕ → Split → Answer
+splitAnswer analysis split = judgedSplit (ofVolumes analysis) split
+
+abbrev pub moleSplitAnswer : List ℕ → Split → Answer
+moleSplitAnswer moles split = judgedSplit (ofMoles moles) split
 
 -- ---- the search
 
@@ -105,21 +136,28 @@ foundOutcome systems count n1 f = foundBy systems count n1 (f .cells) (f .search
 
 -- of a choice: from the written start, at first stride 65536; an allowance above the most rounds counts as those
 abbrev pub searchedBy : Choice → List ℕ → ℕ → Found
-searchedBy choice analysis allowance =
+searchedBy choice volumes allowance =
     searchOf (choice .systems) (choice .count) LIMIT FIRST_LEVEL (min allowance ROUNDS)
-    (startOf (mixOf analysis) (choice .systems) (choice .count))
+    (startOf (mixOf volumes) (choice .systems) (choice .count))
 
--- of an analysis that is refused with a number (0: rated on) and has some choice of systems
-abbrev pub searchOutcomeBy : ℕ → Choice → List ℕ → ℕ → Outcome
-searchOutcomeBy number choice analysis allowance =
+-- of what is refused with a number (0: rated on), 5 with `code`, and has some choice of systems
+abbrev pub searchOutcomeBy : ℕ → ℕ → Choice → List ℕ → ℕ → Outcome
+searchOutcomeBy number code choice volumes allowance =
     cond (eqb number 0)
-    (foundOutcome (choice .systems) (choice .count) (inertFirst analysis) (searchedBy choice analysis allowance))
-    (outcome (Refused number (carried number (lowestFault 0 analysis) 0)) noSplit)
+    (foundOutcome (choice .systems) (choice .count) (inertFirst volumes) (searchedBy choice volumes allowance))
+    (outcome (Refused number (carried number code 0)) noSplit)
 
--- of an analysis
-unfoldable pub searchOutcome : List ℕ → ℕ → Outcome
-searchOutcome analysis allowance =
-    searchOutcomeBy (ratingRefusal analysis) (choiceOf (mixOf analysis)) analysis allowance
+-- of what is judged
+unfoldable pub judgedSearch : Judged → ℕ → Outcome
+judgedSearch gas allowance =
+    searchOutcomeBy (judgedRefusal gas) (gas .code) (choiceOf (mixOf (gas .volumes))) (gas .volumes) allowance
+
+-- of an analysis, and of a mole analysis
+abbrev pub searchOutcome : List ℕ → ℕ → Outcome
+searchOutcome analysis allowance = judgedSearch (ofVolumes analysis) allowance
+
+abbrev pub moleSearchOutcome : List ℕ → ℕ → Outcome
+moleSearchOutcome moles allowance = judgedSearch (ofMoles moles) allowance
 
 -- ---- a sheet: its refusal, else its split, else the search with the most rounds
 
@@ -131,4 +169,4 @@ sheetOutcomeBy reading.Read analysis split =
 
 unfoldable pub sheetOutcome : List ℕ → Outcome
 sheetOutcome sheet =
-    sheetOutcomeBy (readOf sheet .answer) (readOf sheet .analysis .amounts) (readOf sheet .split)
+    sheetOutcomeBy (readOf sheet .answer) (volumesIn (readOf sheet .analysis)) (readOf sheet .split)

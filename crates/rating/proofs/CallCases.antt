@@ -1,4 +1,4 @@
--- What the public calls meet: the check's answer, the values of an analysis in range, a proposed split's records and
+-- What the public calls meet: the check's answer, the values of a gas in range, a proposed split's records and
 -- the answer to its cells, what the search found. Assumes nothing.
 use mathlib.Core.Path.{_≡_, sym, ap, ap₂, _∙_, subst}
 use mathlib.Core.Bool.{Bool, true, false, not, cond, _&&_}
@@ -11,20 +11,19 @@ use lib.IntN.{ℤ}
 use lib.Signed.{mag}
 use mir.Syntax.{w64}
 use mir.Val.{toZ, ofZ}
-use lib.ListN.{length, replicate}
 use borrow.Author.Tests.{ne-eqb, le-leb, not-true, not-false}
 use Rattle.integer.specs.Laws.Ring.{mag-le}
 use Rattle.refusal.specs.Register.{TOO_FEW, carried}
-use Rattle.analysis.specs.Register.{CODES}
-use Rattle.analysis.specs.Check.{analysisRefusal, lowestFault, checkedOf}
-use Rattle.analysis.specs.Laws.Answers.{checked-in-range, checked-refused}
+use Rattle.analysis.specs.Check.{answerBy, checkedOf, molesCheckedOf}
+use Rattle.analysis.specs.Laws.Answers.{answer-in-range, answer-refused}
 use Rattle.analysis.specs.declared.Checked.{Checked}
 use Rattle.analysis.specs.declared.Checked.the-variants as checked
 use Rattle.sheet.specs.Split.{noSplit}
 use Rattle.sheet.specs.declared.Split.{Split}
-use Rattle.mixture.specs.Simplification.{COMPONENTS, simplifiedOf}
+use Rattle.mixture.specs.Simplification.{simplifiedOf}
 use Rattle.mixture.specs.Inert.{inertFirst}
-use Rattle.mixture.specs.Answers.{mixtureOf, inertN1}
+use Rattle.mixture.specs.Answers.{mixtureBy, inertBy, mixtureOf, inertN1, moleMixtureOf, moleInertN1}
+use Rattle.mixture.specs.declared.Simplified.{Simplified}
 use Rattle.systems.specs.Choice.{presentCount, choiceOf}
 use Rattle.systems.specs.declared.Choice.{Choice}
 use Rattle.split.specs.Refused.{wider}
@@ -46,13 +45,13 @@ use Rattle.split.specs.declared.Proposed.{Proposed}
 use Rattle.split.specs.declared.Proposed.the-variants.{Answered, Unfit}
 use Rattle.split.specs.declared.Found.{Found}
 use Rattle.outcome.specs.Records.{MOST_SYSTEMS, fitsOf, recordsOf}
-use Rattle.outcome.specs.Rate.{ROUNDS, FEWEST, mixOf, systemsFor, countFor, ratingRefusal, splitBy, splitAnswer}
-use Rattle.outcome.specs.Rate.{outcome, foundBy, foundOutcome, searchOutcome}
+use Rattle.outcome.specs.Rate.{ROUNDS, FEWEST, mixOf, systemsFor, countFor, Judged, ofVolumes, ofMoles, judgedRefusal}
+use Rattle.outcome.specs.Rate.{splitBy, splitOn, judgedSplit, outcome, foundBy, foundOutcome, judgedSearch}
 use Rattle.split.specs.Laws.Sums.{fit-few}
 use Rattle.split.specs.Laws.Fits.{balance-fit}
 use Rattle.split.specs.Laws.Size.{rating-small}
-use Rattle.rating.specs.Inner.Given.{FoundFit}
-use Rattle.outcome.specs.RatedOn.{InRange, RatedOn}
+use Rattle.rating.specs.Inner.Given.{FoundFit, Simplifies}
+use Rattle.outcome.specs.RatedOn.{InRange, RatedOn, Suffices}
 use Rattle.outcome.specs.Laws.RatedOn.{range-first, enough-on, too-few}
 use Rattle.outcome.specs.Laws.Ready.{chosen, room, million, inert-million, shared, input}
 use Rattle.outcome.specs.Laws.Ends.{searched, never-unfit}
@@ -61,69 +60,73 @@ use Rattle.integer.specs.Laws.Bits.{read-back}
 
 -- ---- the check's answer
 
--- an analysis that is turned away: the refusal is its own, with what it carries
-pub record TurnedAway (a : List ℕ) (number code : ℕ) : Type 0 where
-  pub some : eqb (ratingRefusal a) 0 ≡ false
-  pub same : Refused number code ≡ Refused (ratingRefusal a) (carried (ratingRefusal a) (lowestFault 0 a) 0)
+-- a gas that is turned away: the refusal is its own, with what it carries
+pub record TurnedAway (gas : Judged) (number code : ℕ) : Type 0 where
+  pub some : eqb (judgedRefusal gas) 0 ≡ false
+  pub same : Refused number code ≡ Refused (judgedRefusal gas) (carried (judgedRefusal gas) (gas .code) 0)
 
-module _ (a : List ℕ) (x : Checked) (h : x ≡ checkedOf a) where
-  pub in-range : x ≡ checked.InRange → analysisRefusal a ≡ 0
-  in-range e = checked-in-range a (sym h ∙ e)
+module _ (gas : Judged) (x : Checked) (h : x ≡ answerBy (gas .number) (gas .code)) where
+  pub in-range : x ≡ checked.InRange → InRange gas
+  in-range e = answer-in-range (gas .number) (gas .code) (sym h ∙ e)
 
-  pub turned-away : (number code : ℕ) → x ≡ checked.Refused number code → TurnedAway a number code
+  pub turned-away : (number code : ℕ) → x ≡ checked.Refused number code → TurnedAway gas number code
   turned-away number code e =
-      let (n, c, z) = checked-refused a number code (sym h ∙ e) in
-      let q = ne-eqb (analysisRefusal a) 0 z in
-      let f = range-first a q in
+      let (n, c, z) = answer-refused (gas .number) (gas .code) number code (sym h ∙ e) in
+      let q = ne-eqb (gas .number) 0 z in
+      let f = range-first gas q in
       record { some = rw f q; same = rw f (ap₂ Refused (sym n) c) }
 
 -- so is one with fewer than two components present
-pub few-away : (a : List ℕ) → InRange a → presentCount (mixOf a) < FEWEST → TurnedAway a TOO_FEW 0
-few-away a h l =
-    let f = too-few a h l in
+pub few-away : (gas : Judged) → InRange gas → presentCount (mixOf (gas .volumes)) < FEWEST → TurnedAway gas TOO_FEW 0
+few-away gas h l =
+    let f = too-few gas h l in
     record { some = rw f; same = rw f }
 
-pub split-away : (a : List ℕ) (p : Split) (number code : ℕ) → TurnedAway a number code
-    → Refused number code ≡ splitAnswer a p
-unfolding splitAnswer
-split-away a p number code t =
+pub split-away : (gas : Judged) (p : Split) (number code : ℕ) → TurnedAway gas number code
+    → Refused number code ≡ judgedSplit gas p
+unfolding judgedSplit
+split-away gas p number code t =
     t .same
-    ∙ sym (ap (λ (b : Bool). cond b (splitBy (systemsFor a) (countFor a) (mixOf a) (inertFirst a) p)
-    (Refused (ratingRefusal a) (carried (ratingRefusal a) (lowestFault 0 a) 0))) (t .some))
+    ∙ sym (ap (λ (b : Bool). cond b (splitOn (gas .volumes) p)
+    (Refused (judgedRefusal gas) (carried (judgedRefusal gas) (gas .code) 0))) (t .some))
 
-pub search-away : (a : List ℕ) (allowance number code : ℕ) (r : Outcome) → TurnedAway a number code
-    → r ≡ outcome (Refused number code) noSplit → r ≡ searchOutcome a allowance
-unfolding searchOutcome
-search-away a allowance number code r t e =
+pub search-away : (gas : Judged) (allowance number code : ℕ) (r : Outcome) → TurnedAway gas number code
+    → r ≡ outcome (Refused number code) noSplit → r ≡ judgedSearch gas allowance
+unfolding judgedSearch
+search-away gas allowance number code r t e =
+    let a = gas .volumes in
     e
     ∙ ap (λ (x : Answer). outcome x noSplit) (t .same)
     ∙ sym (ap (λ (b : Bool). cond b (foundOutcome (systemsFor a) (countFor a) (inertFirst a) (searched a allowance))
-    (outcome (Refused (ratingRefusal a) (carried (ratingRefusal a) (lowestFault 0 a) 0)) noSplit)) (t .some))
+    (outcome (Refused (judgedRefusal gas) (carried (judgedRefusal gas) (gas .code) 0)) noSplit)) (t .some))
 
--- ---- an analysis in range
+-- ---- a gas in range
 
-module _ (a : List ℕ) (long : length a ≡ CODES) (passed : analysisRefusal a ≡ 0) where
-  mixture-in : mixtureOf a ≡ simplifiedOf a
-  mixture-in = ap (λ (n : ℕ). cond (eqb n 0) (simplifiedOf a) (replicate COMPONENTS 0)) passed
+module _ (gas : Judged) (passed : InRange gas) where
+  abbrev a : List ℕ
+  a = gas .volumes
+
+  mixture-in : mixtureBy (gas .number) a ≡ simplifiedOf a
+  mixture-in = ap (λ (n : ℕ). mixtureBy n a) passed
 
   -- how many components are present, by what was simplified
-  module _ (mix : List ℕ) (count : ℕ) (m : mix ≡ mixtureOf a) (k : count ≡ presentCount mix) where
+  module _ (mix : List ℕ) (count : ℕ) (m : mix ≡ mixtureBy (gas .number) a) (k : count ≡ presentCount mix) where
     present-is : count ≡ presentCount (mixOf a)
     present-is = k ∙ ap presentCount (m ∙ mixture-in)
 
-    pub count-few : count < FEWEST → TurnedAway a TOO_FEW 0
-    count-few l = few-away a passed (omega (arith, present-is))
+    pub count-few : count < FEWEST → TurnedAway gas TOO_FEW 0
+    count-few l = few-away gas passed (omega (arith, present-is))
 
-    pub count-enough : FEWEST ≤ count → RatedOn a
-    count-enough l = enough-on a passed (omega (arith, present-is))
+    pub count-enough : FEWEST ≤ count → RatedOn gas
+    count-enough l = enough-on gas passed (omega (arith, present-is))
 
-  module _ (on : RatedOn a) (mix : List ℕ) (choice : Choice) (n1 : ℕ) (m : mix ≡ mixtureOf a)
-      (c : choice ≡ choiceOf mix) (n : n1 ≡ inertN1 a) where
+  module _ (suffices : Suffices gas) (on : RatedOn gas) (mix : List ℕ) (choice : Choice) (n1 : ℕ)
+      (m : mix ≡ mixtureBy (gas .number) a) (c : choice ≡ choiceOf mix) (n : n1 ≡ inertBy (gas .number) a) where
     mix-is : mix ≡ mixOf a
     mix-is = m ∙ mixture-in
 
     inert-is : n1 ≡ inertFirst a
-    inert-is = n ∙ ap (λ (k : ℕ). cond (eqb k 0) (inertFirst a) 0) passed
+    inert-is = n ∙ ap (λ (k : ℕ). inertBy k a) passed
 
     choice-is : choice ≡ choiceOf (mixOf a)
     choice-is = c ∙ ap choiceOf mix-is
@@ -131,14 +134,18 @@ module _ (a : List ℕ) (long : length a ≡ CODES) (passed : analysisRefusal a 
     pub given-proposal : Proposal mix (choice .systems) (choice .count) n1
     given-proposal =
         rw (choice-is, mix-is, inert-is)
-        (record { chosen = chosen a on; few = omega (arith, million a long on); inert = inert-million a long on })
+        (record {
+          chosen = chosen gas on;
+          few = omega (arith, million gas on suffices);
+          inert = inert-million gas on suffices;
+        })
 
     pub given-room : 3 * choice .count ≤ RECORDS
-    given-room = rw choice-is (room a on)
+    given-room = rw choice-is (room gas on)
 
     pub split-in : (p : Split) (r : Answer) → r ≡ splitBy (choice .systems) (choice .count) mix n1 p
-        → r ≡ splitAnswer a p
-    unfolding splitAnswer
+        → r ≡ judgedSplit gas p
+    unfolding judgedSplit
     split-in p r e = e ∙ rw (choice-is, mix-is, inert-is, on)
 
     -- the search, of which the guarded one is the same
@@ -148,7 +155,7 @@ module _ (a : List ℕ) (long : length a ≡ CODES) (passed : analysisRefusal a 
       found-is =
           f ∙ rw (choice-is, mix-is, l)
           (sym (find-search (mixOf a) (systemsFor a) (countFor a) FIRST_LEVEL LIMIT (min allowance ROUNDS)
-          (input-fits (mixOf a) (systemsFor a) (countFor a) FIRST_LEVEL (input a long on))))
+          (input-fits (mixOf a) (systemsFor a) (countFor a) FIRST_LEVEL (input gas on suffices))))
 
       found-cells : (s r : ℕ) → found .search ≡ Balanced s r
           → Fit LIMIT (choice .systems) (choice .count) mix (found .cells)
@@ -157,7 +164,7 @@ module _ (a : List ℕ) (long : length a ≡ CODES) (passed : analysisRefusal a 
           (ap (λ (x : Found). x .search) (sym f) ∙ e) in
           rw f (balance-fit mix (choice .systems) (choice .count) LIMIT most
           (findOf mix (choice .systems) (choice .count) LIMIT FIRST_LEVEL most .cells) s r b
-          (λ c l. rw (choice-is, mix-is) (shared a on c l)))
+          (λ c l. rw (choice-is, mix-is) (shared gas on c l)))
 
       pub found-fit : FoundFit mix (choice .systems) (choice .count) found
       found-fit =
@@ -167,9 +174,24 @@ module _ (a : List ℕ) (long : length a ≡ CODES) (passed : analysisRefusal a 
           }
 
       pub search-in : (r : Outcome) → r ≡ foundOutcome (choice .systems) (choice .count) n1 found
-          → r ≡ searchOutcome a allowance
-      unfolding searchOutcome
+          → r ≡ judgedSearch gas allowance
+      unfolding judgedSearch
       search-in r e = e ∙ rw (choice-is, inert-is, found-is, on)
+
+-- ---- what was simplified, of an analysis and of a mole analysis
+
+module _ (simplified : Simplified) where
+  pub volumes-simplified : (analysis : List ℕ) → simplified .answer ≡ checkedOf analysis
+      → simplified .mixture .amounts ≡ mixtureOf analysis → simplified .inert ≡ inertN1 analysis
+      → Simplifies (ofVolumes analysis) simplified
+  unfolding checkedOf
+  volumes-simplified analysis answer mixture inert = record { answer = answer; mixture = mixture; inert = inert }
+
+  pub moles-simplified : (moles : List ℕ) → simplified .answer ≡ molesCheckedOf moles
+      → simplified .mixture .amounts ≡ moleMixtureOf moles → simplified .inert ≡ moleInertN1 moles
+      → Simplifies (ofMoles moles) simplified
+  unfolding molesCheckedOf
+  moles-simplified moles answer mixture inert = record { answer = answer; mixture = mixture; inert = inert }
 
 -- ---- inner functions
 

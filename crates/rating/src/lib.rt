@@ -1,20 +1,25 @@
-// The rating of an analysis by a proposed split or by the search, and of a sheet.
+// The rating of an analysis or of a mole analysis, by a proposed split or by the search, and of a sheet.
 //
 // No public function has a `requires`. What they promise is in crate `outcome`, specs/Rate.antt; the third demand,
 // which is proved of those promises, is in crate `demand`, specs/Demand.antt.
 ghost use mathlib.Core.Path.{_≡_};
 ghost use Prim.Native.Nat.{_*_, _≤_, min};
+ghost use Rattle.analysis.specs.Amounts.{volumesIn, molesIn};
 ghost use Rattle.sheet.specs.Split.{noSplit};
 ghost use Rattle.sheet.specs.declared.Reading.the-variants.{Read};
 ghost use Rattle.split.specs.Split.{RECORDS};
 ghost use Rattle.split.specs.Rating.{ratingOf, LIMIT};
 ghost use Rattle.split.specs.Inner.Proposed.{Proposal};
 ghost use Rattle.split.specs.Fits.{Fit};
-ghost use Rattle.outcome.specs.Rate.{ROUNDS, splitBy, splitAnswer, outcome, foundOutcome, searchOutcome};
+ghost use Rattle.outcome.specs.Rate.{ROUNDS, splitBy, outcome, foundOutcome, Judged, judgedSplit, judgedSearch};
+ghost use Rattle.outcome.specs.Rate.{splitAnswer, moleSplitAnswer, searchOutcome, moleSearchOutcome};
 ghost use Rattle.outcome.specs.Rate.{sheetOutcomeBy, sheetOutcome};
-ghost use Rattle.rating.specs.Inner.Given.{FoundFit};
+ghost use Rattle.outcome.specs.RatedOn.{Suffices};
+ghost use Rattle.rating.specs.Inner.Given.{FoundFit, Simplifies, OfGas};
 use analysis::Analysis;
 use analysis::Checked;
+use analysis::MoleAnalysis;
+use mixture::Simplified;
 use outcome::Outcome;
 use refusal::MISFIT;
 use refusal::TOO_FEW;
@@ -45,9 +50,38 @@ const FEWEST: u32 = 2;
 
 // The rating of a proposed split of an analysis: 5, 6, 16, then 7 to 10, else its rating and its spread.
 pub fn rate_split(analysis: Analysis, split: Split) -> Answer
-    ensures { λ r. ⌜ r ≡ splitAnswer (analysis .amounts) split ⌝ }
+    ensures { λ r. ⌜ r ≡ splitAnswer (volumesIn analysis) split ⌝ }
 {
-    let simplified = mixture::simplify(analysis);
+    rate_simplified_split(mixture::simplify(analysis), split)
+}
+
+// The rating of a proposed split of a mole analysis: 18, 5, 15, then as for the volumes made.
+pub fn rate_moles_split(moles: MoleAnalysis, split: Split) -> Answer
+    ensures { λ r. ⌜ r ≡ moleSplitAnswer (molesIn moles) split ⌝ }
+{
+    rate_simplified_split(mixture::simplify_moles(moles), split)
+}
+
+// The rating of an analysis by the search, with its split: 5, 6, 16 or 11, else rating, spread and rounds. An allowance
+// above the most rounds counts as those.
+pub fn rate_by_search(analysis: Analysis, allowance: u32) -> Outcome
+    ensures { λ r. ⌜ r ≡ searchOutcome (volumesIn analysis) allowance ⌝ }
+{
+    rate_simplified_by_search(mixture::simplify(analysis), allowance)
+}
+
+// The rating of a mole analysis by the search: 18, 5, 15, then as for the volumes made.
+pub fn rate_moles_by_search(moles: MoleAnalysis, allowance: u32) -> Outcome
+    ensures { λ r. ⌜ r ≡ moleSearchOutcome (molesIn moles) allowance ⌝ }
+{
+    rate_simplified_by_search(mixture::simplify_moles(moles), allowance)
+}
+
+// The answer to a proposed split of what was simplified.
+fn rate_simplified_split(simplified: Simplified, split: Split) -> Answer
+    requires { ⌜ OfGas simplified ⌝ }
+    ensures { λ r. ⌜ ((gas : Judged) → Suffices gas → Simplifies gas simplified → r ≡ judgedSplit gas split) ⌝ }
+{
     let answer = simplified.answer;
     let mixture = simplified.mixture;
     let mix = mixture.amounts;
@@ -69,12 +103,11 @@ pub fn rate_split(analysis: Analysis, split: Split) -> Answer
     }
 }
 
-// The rating of an analysis by the search, with its split: 5, 6, 16 or 11, else rating, spread and rounds. An allowance
-// above the most rounds counts as those.
-pub fn rate_by_search(analysis: Analysis, allowance: u32) -> Outcome
-    ensures { λ r. ⌜ r ≡ searchOutcome (analysis .amounts) allowance ⌝ }
+// The outcome of the search of what was simplified.
+fn rate_simplified_by_search(simplified: Simplified, allowance: u32) -> Outcome
+    requires { ⌜ OfGas simplified ⌝ }
+    ensures { λ r. ⌜ ((gas : Judged) → Suffices gas → Simplifies gas simplified → r ≡ judgedSearch gas allowance) ⌝ }
 {
-    let simplified = mixture::simplify(analysis);
     let answer = simplified.answer;
     let mixture = simplified.mixture;
     let mix = mixture.amounts;
@@ -117,7 +150,7 @@ pub fn rate_sheet(s: &[u8]) -> Outcome
 
 // The rating of what was read.
 fn rate_read(analysis: Analysis, split: Split) -> Outcome
-    ensures { λ r. ⌜ r ≡ sheetOutcomeBy Read (analysis .amounts) split ⌝ }
+    ensures { λ r. ⌜ r ≡ sheetOutcomeBy Read (volumesIn analysis) split ⌝ }
 {
     let count = split.count;
     if count == 0 {

@@ -1,6 +1,5 @@
 // Prints the answers to a few gases, a line each. tests/rating_cases.py works the same lines out with the independent
 // program of tests/reference.
-use analysis::Analysis;
 use analysis::CODES;
 use display::LINE;
 use libc::STDOUT_FILENO;
@@ -613,16 +612,16 @@ fn put_answer(answer: Answer) {
 
 // By the search.
 fn put_search(amounts: [u32; CODES], allowance: u32) {
-    let outcome = rating::rate_by_search(Analysis { amounts }, allowance);
+    let outcome = rating::rate_by_search(analysis::of_parts(amounts), allowance);
     let answer = outcome.answer;
     put_answer(answer);
 }
 
 // A gas with the split that the search finds for another.
 fn put_split_of(other: [u32; CODES], amounts: [u32; CODES]) {
-    let outcome = rating::rate_by_search(Analysis { amounts: other }, 4000);
+    let outcome = rating::rate_by_search(analysis::of_parts(other), 4000);
     let split = outcome.split;
-    put_answer(rating::rate_split(Analysis { amounts }, split));
+    put_answer(rating::rate_split(analysis::of_parts(amounts), split));
 }
 
 // The split that the search finds, put back.
@@ -632,7 +631,7 @@ fn put_back(amounts: [u32; CODES]) {
 
 // The first so many records of the split that the search finds, put back.
 fn put_cut(amounts: [u32; CODES], count: usize) {
-    let outcome = rating::rate_by_search(Analysis { amounts }, 4000);
+    let outcome = rating::rate_by_search(analysis::of_parts(amounts), 4000);
     let found = outcome.split;
     let systems = found.systems;
     let codes = found.codes;
@@ -643,7 +642,7 @@ fn put_cut(amounts: [u32; CODES], count: usize) {
         codes,
         amounts: parts,
     };
-    put_answer(rating::rate_split(Analysis { amounts }, split));
+    put_answer(rating::rate_split(analysis::of_parts(amounts), split));
 }
 
 // A number of parts.
@@ -653,7 +652,7 @@ fn put_parts(x: u32) {
 
 // The simplified mixture; zeros beside a refusal.
 fn put_mixture(amounts: [u32; CODES]) {
-    let simplified = mixture::simplify(Analysis { amounts });
+    let simplified = mixture::simplify(analysis::of_parts(amounts));
     let mixture = simplified.mixture;
     let mix = mixture.amounts;
     put(b"MIXTURE");

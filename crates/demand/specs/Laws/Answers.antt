@@ -6,11 +6,9 @@ use Prim.Native.Nat.{ℕ, _+_, _*_, _≤_, _<_, min}
 use native.Mathlib.Omega.{arith}
 use lib.Dec.{eqb}
 use lib.IntN.{ℤ}
-use lib.ListN.{getD, length}
+use lib.ListN.{getD}
 use borrow.Author.Tests.{eq-eqb, eqb-true}
 use Rattle.refusal.specs.Register.{carried}
-use Rattle.analysis.specs.Register.{CODES}
-use Rattle.analysis.specs.Check.{lowestFault}
 use Rattle.sheet.specs.Split.{noSplit}
 use Rattle.sheet.specs.declared.Split.{Split}
 use Rattle.mixture.specs.Inert.{inertFirst}
@@ -32,9 +30,9 @@ use Rattle.split.specs.declared.Search.{Search}
 use Rattle.split.specs.declared.Search.the-variants.{Balanced, Unbalanced, Unfit}
 use Rattle.split.specs.declared.Found.{Found}
 use Rattle.outcome.specs.Records.{systemAt, codeAt, systemsOf, codesOf, matchesAt, fitsOf, recordsOf}
-use Rattle.outcome.specs.Rate.{ROUNDS, mixOf, systemsFor, countFor, ratingRefusal, checkedBy, splitBy, splitAnswer}
-use Rattle.outcome.specs.Rate.{outcome, foundBy, foundOutcome, searchOutcome}
-use Rattle.outcome.specs.RatedOn.{RatedOn}
+use Rattle.outcome.specs.Rate.{ROUNDS, mixOf, systemsFor, countFor, Judged, judgedRefusal, checkedBy, splitBy, splitOn}
+use Rattle.outcome.specs.Rate.{judgedSplit, outcome, foundBy, foundOutcome, judgedSearch}
+use Rattle.outcome.specs.RatedOn.{RatedOn, Suffices}
 use Rattle.outcome.specs.Laws.Ready.{room, shared, input}
 use Rattle.outcome.specs.Laws.Ends.{searched}
 use Rattle.outcome.specs.declared.Outcome.{Outcome}
@@ -86,116 +84,114 @@ module _ (ch : List ℕ) (k count : ℕ) (systems codes : List ℕ) where
           let m : r < 3 * k = omega (arith, many) in
           rw (eq-eqb (getD systems r 0) (systemAt ch k r) (s r m), eq-eqb (getD codes r 0) (codeAt ch k r) (c r m))
 
--- ---- a proposed split
+-- ---- a proposed split of what is judged
 
--- of an analysis that is rated on: the answer of its chosen systems
-pub split-passed : (a : List ℕ) (p : Split) → RatedOn a
-    → splitAnswer a p ≡ splitBy (systemsFor a) (countFor a) (mixOf a) (inertFirst a) p
-unfolding splitAnswer
-split-passed a p passed =
-    ap (λ (n : ℕ). checkedBy n (lowestFault 0 a) (splitBy (systemsFor a) (countFor a) (mixOf a) (inertFirst a) p))
-    passed
+module _ (gas : Judged) where
+  abbrev mix : List ℕ
+  mix = mixOf (gas .volumes)
 
--- 7 where its records do not fit, else the answer to its cells
-pub split-by-records : (a : List ℕ) (p : Split) (fits : Bool) → RatedOn a
-    → fitsOf (systemsFor a) (countFor a) (p .count) (p .systems) (p .codes) ≡ fits
-    → let cells = cellsOf (systemsFor a) (countFor a) (p .amounts) in
-    let rated = proposedOf LIMIT (systemsFor a) (countFor a) (mixOf a) cells (inertFirst a) in
-    splitAnswer a p ≡ cond fits rated (Refused 7 0)
-unfolding splitAnswer splitBy
-split-by-records a p fits passed e = rw (passed, e)
+  abbrev systems : List ℕ
+  systems = systemsFor (gas .volumes)
 
--- with the expected records, of an analysis that is rated on, the answer is that to its cells
-pub split-fits : (a : List ℕ) (p : Split) → RatedOn a → p .count ≡ 3 * countFor a
-    → p .systems ≡ systemsOf (systemsFor a) (countFor a) → p .codes ≡ codesOf (systemsFor a) (countFor a)
-    → splitAnswer a p ≡ proposedOf LIMIT (systemsFor a) (countFor a) (mixOf a)
-    (cellsOf (systemsFor a) (countFor a) (p .amounts)) (inertFirst a)
-unfolding splitBy
-split-fits a p passed c s d =
-    split-passed a p passed
-    ∙ rw (c, s, d, written-fits (systemsFor a) (countFor a) (room a passed))
+  abbrev count : ℕ
+  count = countFor (gas .volumes)
 
--- a rating says that 5, 6 and 16 let the analysis pass, and is that of the cells
-pub split-rated : (a : List ℕ) (p : Split) (w : ℤ) (s r : ℕ) → splitAnswer a p ≡ Rated w s r
-    → (RatedOn a) ×
-    (proposedOf LIMIT (systemsFor a) (countFor a) (mixOf a) (cellsOf (systemsFor a) (countFor a) (p .amounts))
-    (inertFirst a) ≡ Rated w s r)
-unfolding splitAnswer splitBy
-split-rated a p w s r is =
-    go (eqb (ratingRefusal a) 0) (fitsOf (systemsFor a) (countFor a) (p .count) (p .systems) (p .codes)) refl is
-  where
-    rated : Answer
-    rated =
-        proposedOf LIMIT (systemsFor a) (countFor a) (mixOf a) (cellsOf (systemsFor a) (countFor a) (p .amounts))
-        (inertFirst a)
+  abbrev n1 : ℕ
+  n1 = inertFirst (gas .volumes)
 
-    go : (b f : Bool) → eqb (ratingRefusal a) 0 ≡ b
-        → cond b (cond f rated (Refused 7 0))
-        (Refused (ratingRefusal a) (carried (ratingRefusal a) (lowestFault 0 a) 0)) ≡ Rated w s r
-        → (RatedOn a) × (rated ≡ Rated w s r)
-    go true true e h = (eqb-true (ratingRefusal a) 0 e, h)
-    go true false e h = absurd (subst IsRated (sym h) tt)
-    go false f e h = absurd (subst IsRated (sym h) tt)
+  -- the cells of a split, and the answer to them
+  abbrev cellsIn : Split → List ℕ
+  cellsIn p = cellsOf systems count (p .amounts)
 
--- a proposed split is rated with no rounds
-pub rated-zero : (a : List ℕ) (p : Split) (w : ℤ) (s r : ℕ) → splitAnswer a p ≡ Rated w s r
-    → splitAnswer a p ≡ Rated w s 0
-rated-zero a p w s r is =
-    let e = split-rated a p w s r is .1 in
-    let z =
-    rated-is LIMIT (systemsFor a) (countFor a) (mixOf a) (cellsOf (systemsFor a) (countFor a) (p .amounts))
-    (inertFirst a) w s r e .2 in
-    is ∙ ap (Rated w s) z
+  abbrev rated : Split → Answer
+  rated p = proposedOf LIMIT systems count mix (cellsIn p) n1
 
--- ---- the search
+  -- of what is rated on: the answer of its chosen systems
+  pub split-passed : (p : Split) → RatedOn gas → judgedSplit gas p ≡ splitOn (gas .volumes) p
+  unfolding judgedSplit
+  split-passed p passed = ap (λ (n : ℕ). checkedBy n (gas .code) (splitOn (gas .volumes) p)) passed
 
--- a rating by the search: the analysis is rated on, and the search came to a balance
-pub search-rated : (a : List ℕ) (allowance : ℕ) (w : ℤ) (s r : ℕ)
-    → searchOutcome a allowance .answer ≡ Rated w s r
-    → (RatedOn a) × (searched a allowance .search ≡ Balanced s r)
-    × (w ≡ ratingOf (systemsFor a) (countFor a) (searched a allowance .cells) (inertFirst a))
-    × (searchOutcome a allowance .split ≡ recordsOf (systemsFor a) (countFor a) (searched a allowance .cells))
-unfolding searchOutcome foundOutcome
-search-rated a allowance w s r is = go (eqb (ratingRefusal a) 0) (searched a allowance .search) refl refl is
-  where
-    by : Bool → Search → Outcome
-    by b x = cond b (foundBy (systemsFor a) (countFor a) (inertFirst a) (searched a allowance .cells) x)
-        (outcome (Refused (ratingRefusal a) (carried (ratingRefusal a) (lowestFault 0 a) 0)) noSplit)
+  -- 7 where its records do not fit, else the answer to its cells
+  pub split-by-records : (p : Split) (fits : Bool) → RatedOn gas
+      → fitsOf systems count (p .count) (p .systems) (p .codes) ≡ fits
+      → judgedSplit gas p ≡ cond fits (rated p) (Refused 7 0)
+  unfolding judgedSplit splitBy
+  split-by-records p fits passed e = rw (passed, e)
 
-    go : (b : Bool) (x : Search) → eqb (ratingRefusal a) 0 ≡ b → searched a allowance .search ≡ x
-        → by b x .answer ≡ Rated w s r
-        → (RatedOn a) × (x ≡ Balanced s r)
-        × (w ≡ ratingOf (systemsFor a) (countFor a) (searched a allowance .cells) (inertFirst a))
-        × (by b x .split ≡ recordsOf (systemsFor a) (countFor a) (searched a allowance .cells))
-    go true (Balanced s′ r′) e f h = (eqb-true (ratingRefusal a) 0 e, cc, cc, refl)
-    go true Unbalanced e f h = absurd (subst IsRated (sym h) tt)
-    go true Unfit e f h = absurd (subst IsRated (sym h) tt)
-    go false x e f h = absurd (subst IsRated (sym h) tt)
+  -- with the expected records, of what is rated on, the answer is that to its cells
+  pub split-fits : (p : Split) → RatedOn gas → p .count ≡ 3 * count → p .systems ≡ systemsOf systems count
+      → p .codes ≡ codesOf systems count → judgedSplit gas p ≡ rated p
+  unfolding splitBy
+  split-fits p passed c s d = split-passed p passed ∙ rw (c, s, d, written-fits systems count (room gas passed))
 
--- what a balance is: a split that re-sums, with no system empty, and its spread within the limit
-pub balance : (a : List ℕ) → length a ≡ CODES → RatedOn a → (allowance s r : ℕ)
-    → searched a allowance .search ≡ Balanced s r
-    → Balance (mixOf a) (systemsFor a) (countFor a) LIMIT (min allowance ROUNDS) (searched a allowance .cells) s r
-balance a long passed allowance s r is =
-    let u =
-    find-search (mixOf a) (systemsFor a) (countFor a) FIRST_LEVEL LIMIT (min allowance ROUNDS)
-    (input-fits (mixOf a) (systemsFor a) (countFor a) FIRST_LEVEL (input a long passed)) in
-    rw u
-    (find-balanced (mixOf a) (systemsFor a) (countFor a) LIMIT FIRST_LEVEL (min allowance ROUNDS) s r
-    (ap (λ (f : Found). f .search) (sym u) ∙ is))
+  -- a rating says that it is rated on, and is that of the cells
+  pub split-rated : (p : Split) (w : ℤ) (s r : ℕ) → judgedSplit gas p ≡ Rated w s r
+      → (RatedOn gas) × (rated p ≡ Rated w s r)
+  unfolding judgedSplit splitBy
+  split-rated p w s r is =
+      go (eqb (judgedRefusal gas) 0) (fitsOf systems count (p .count) (p .systems) (p .codes)) refl is
+    where
+      go : (b f : Bool) → eqb (judgedRefusal gas) 0 ≡ b
+          → cond b (cond f (rated p) (Refused 7 0))
+          (Refused (judgedRefusal gas) (carried (judgedRefusal gas) (gas .code) 0)) ≡ Rated w s r
+          → (RatedOn gas) × (rated p ≡ Rated w s r)
+      go true true e h = (eqb-true (judgedRefusal gas) 0 e, h)
+      go true false e h = absurd (subst IsRated (sym h) tt)
+      go false f e h = absurd (subst IsRated (sym h) tt)
 
--- the found split, put back
-pub found-back : (a : List ℕ) → length a ≡ CODES → (allowance : ℕ) (w : ℤ) (s r : ℕ)
-    → searchOutcome a allowance .answer ≡ Rated w s r
-    → splitAnswer a (searchOutcome a allowance .split) ≡ Rated w s 0
-found-back a long allowance w s r is =
-    let (passed, x, e, f) = search-rated a allowance w s r is in
-    let b = balance a long passed allowance s r x in
-    let ch = systemsFor a in
-    let k = countFor a in
-    let cells = searched a allowance .cells in
-    ap (splitAnswer a) f
-    ∙ split-fits a (recordsOf ch k cells) passed refl refl refl
-    ∙ put-back-records (mixOf a) ch k LIMIT (min allowance ROUNDS) cells s r b (shared a passed) (inertFirst a)
-    (room a passed)
-    ∙ ap (λ (x : ℤ). Rated x s 0) (sym e)
+  -- a proposed split is rated with no rounds
+  pub rated-zero : (p : Split) (w : ℤ) (s r : ℕ) → judgedSplit gas p ≡ Rated w s r → judgedSplit gas p ≡ Rated w s 0
+  rated-zero p w s r is =
+      let e = split-rated p w s r is .1 in
+      is ∙ ap (Rated w s) (rated-is LIMIT systems count mix (cellsIn p) n1 w s r e .2)
+
+  -- ---- the search
+
+  abbrev found : ℕ → Found
+  found allowance = searched (gas .volumes) allowance
+
+  -- a rating by the search: it is rated on, and the search came to a balance
+  pub search-rated : (allowance : ℕ) (w : ℤ) (s r : ℕ) → judgedSearch gas allowance .answer ≡ Rated w s r
+      → (RatedOn gas) × (found allowance .search ≡ Balanced s r)
+      × (w ≡ ratingOf systems count (found allowance .cells) n1)
+      × (judgedSearch gas allowance .split ≡ recordsOf systems count (found allowance .cells))
+  unfolding judgedSearch foundOutcome
+  search-rated allowance w s r is = go (eqb (judgedRefusal gas) 0) (found allowance .search) refl refl is
+    where
+      by : Bool → Search → Outcome
+      by b x = cond b (foundBy systems count n1 (found allowance .cells) x)
+          (outcome (Refused (judgedRefusal gas) (carried (judgedRefusal gas) (gas .code) 0)) noSplit)
+
+      go : (b : Bool) (x : Search) → eqb (judgedRefusal gas) 0 ≡ b → found allowance .search ≡ x
+          → by b x .answer ≡ Rated w s r
+          → (RatedOn gas) × (x ≡ Balanced s r) × (w ≡ ratingOf systems count (found allowance .cells) n1)
+          × (by b x .split ≡ recordsOf systems count (found allowance .cells))
+      go true (Balanced s′ r′) e f h = (eqb-true (judgedRefusal gas) 0 e, cc, cc, refl)
+      go true Unbalanced e f h = absurd (subst IsRated (sym h) tt)
+      go true Unfit e f h = absurd (subst IsRated (sym h) tt)
+      go false x e f h = absurd (subst IsRated (sym h) tt)
+
+  module _ (suffices : Suffices gas) where
+    -- what a balance is: a split that re-sums, with no system empty, and its spread within the limit
+    pub balance : RatedOn gas → (allowance s r : ℕ) → found allowance .search ≡ Balanced s r
+        → Balance mix systems count LIMIT (min allowance ROUNDS) (found allowance .cells) s r
+    balance passed allowance s r is =
+        let u =
+        find-search mix systems count FIRST_LEVEL LIMIT (min allowance ROUNDS)
+        (input-fits mix systems count FIRST_LEVEL (input gas passed suffices)) in
+        rw u
+        (find-balanced mix systems count LIMIT FIRST_LEVEL (min allowance ROUNDS) s r
+        (ap (λ (f : Found). f .search) (sym u) ∙ is))
+
+    -- the found split, put back
+    pub found-back : (allowance : ℕ) (w : ℤ) (s r : ℕ) → judgedSearch gas allowance .answer ≡ Rated w s r
+        → judgedSplit gas (judgedSearch gas allowance .split) ≡ Rated w s 0
+    found-back allowance w s r is =
+        let (passed, x, e, f) = search-rated allowance w s r is in
+        let b = balance passed allowance s r x in
+        let cells = found allowance .cells in
+        ap (judgedSplit gas) f
+        ∙ split-fits (recordsOf systems count cells) passed refl refl refl
+        ∙ put-back-records mix systems count LIMIT (min allowance ROUNDS) cells s r b (shared gas passed) n1
+        (room gas passed)
+        ∙ ap (λ (x : ℤ). Rated x s 0) (sym e)

@@ -11,6 +11,7 @@ use lib.ListN.{length}
 use borrow.Author.Tests.{eq-eqb, ne-eqb}
 use Rattle.refusal.specs.Register.{TOO_FEW}
 use Rattle.analysis.specs.Register.{CODES}
+use Rattle.analysis.specs.Amounts.{volumesIn}
 use Rattle.sheet.specs.Split.{noSplit}
 use Rattle.sheet.specs.Laws.Numbers.{Numbered, read-number}
 use Rattle.sheet.specs.Read.{readOf}
@@ -20,8 +21,10 @@ use Rattle.sheet.specs.declared.Reading.the-variants as reading
 use Rattle.split.specs.AnswerCases.{IsRated}
 use Rattle.split.specs.declared.Answer.{Answer}
 use Rattle.split.specs.declared.Answer.the-variants.{Rated, Refused}
-use Rattle.outcome.specs.Rate.{ROUNDS, ratingRefusal, splitAnswer, searchOutcome, outcome, sheetOutcomeBy, sheetOutcome}
+use Rattle.outcome.specs.Rate.{ROUNDS, ofVolumes, ratingRefusal, splitAnswer, searchOutcome, outcome, sheetOutcomeBy}
+use Rattle.outcome.specs.Rate.{sheetOutcome}
 use Rattle.outcome.specs.RatedOn.{InRange, RatedOn}
+use Rattle.outcome.specs.Suffices.{volumes-suffice}
 use Rattle.outcome.specs.Laws.Ends.{RatedOr, RatedOrFew, search-ends, search-few, split-few, search-in-range}
 use Rattle.outcome.specs.Laws.Ends.{split-in-range, read-passed, read-long, sheet-by-answer}
 use Rattle.outcome.specs.declared.Outcome.{Outcome}
@@ -36,39 +39,39 @@ ratedBy a p none = cond none (searchOutcome a ROUNDS) (outcome (splitAnswer a p)
 
 module _ (s : List ℕ) (h : readOf s .answer ≡ reading.Read) where
   by-count : (none : Bool) → eqb (readOf s .split .count) 0 ≡ none
-      → sheetOutcome s ≡ ratedBy (readOf s .analysis .amounts) (readOf s .split) none
+      → sheetOutcome s ≡ ratedBy (volumesIn (readOf s .analysis)) (readOf s .split) none
   by-count none e =
-      sheet-by-answer s reading.Read h ∙ ap (ratedBy (readOf s .analysis .amounts) (readOf s .split)) e
+      sheet-by-answer s reading.Read h ∙ ap (ratedBy (volumesIn (readOf s .analysis)) (readOf s .split)) e
 
   -- without a split as the search of its analysis, and with one as that split
   pub read-searched : readOf s .split .count ≡ 0
-      → sheetOutcome s ≡ searchOutcome (readOf s .analysis .amounts) ROUNDS
+      → sheetOutcome s ≡ searchOutcome (volumesIn (readOf s .analysis)) ROUNDS
   read-searched e = by-count true (eq-eqb (readOf s .split .count) 0 e)
 
   pub read-own : (readOf s .split .count ≡ 0 → ⊥)
       → sheetOutcome s
-      ≡ outcome (splitAnswer (readOf s .analysis .amounts) (readOf s .split)) noSplit
+      ≡ outcome (splitAnswer (volumesIn (readOf s .analysis)) (readOf s .split)) noSplit
   read-own n = by-count false (ne-eqb (readOf s .split .count) 0 n)
 
   -- 16, whichever it has
-  pub read-few : ratingRefusal (readOf s .analysis .amounts) ≡ TOO_FEW
+  pub read-few : ratingRefusal (volumesIn (readOf s .analysis)) ≡ TOO_FEW
       → sheetOutcome s ≡ outcome (Refused TOO_FEW 0) noSplit
   read-few e = by-count (eqb (readOf s .split .count) 0) refl ∙ go (eqb (readOf s .split .count) 0)
     where
-      go : (none : Bool) → ratedBy (readOf s .analysis .amounts) (readOf s .split) none
+      go : (none : Bool) → ratedBy (volumesIn (readOf s .analysis)) (readOf s .split) none
           ≡ outcome (Refused TOO_FEW 0) noSplit
-      go true = search-few (readOf s .analysis .amounts) ROUNDS e
+      go true = search-few (ofVolumes (volumesIn (readOf s .analysis))) ROUNDS e
       go false =
           ap (λ (x : Answer). outcome x noSplit)
-          (split-few (readOf s .analysis .amounts) (readOf s .split) e)
+          (split-few (ofVolumes (volumesIn (readOf s .analysis))) (readOf s .split) e)
 
 -- accepted and rated on, with no split: a rating or 11
 pub accepted-ends : (s : List ℕ) → readOf s .answer ≡ reading.Read
-    → RatedOn (readOf s .analysis .amounts) → readOf s .split .count ≡ 0
+    → RatedOn (ofVolumes (volumesIn (readOf s .analysis))) → readOf s .split .count ≡ 0
     → IsRated (sheetOutcome s .answer) ⊎ (sheetOutcome s .answer ≡ Refused 11 0)
 accepted-ends s h on e =
     subst (λ (x : Outcome). IsRated (x .answer) ⊎ (x .answer ≡ Refused 11 0)) (sym (read-searched s h e))
-    (search-ends (readOf s .analysis .amounts) ROUNDS on)
+    (search-ends (ofVolumes (volumesIn (readOf s .analysis))) ROUNDS on)
 
 -- any sheet at all: a rating, one of 1 to 11, or 16
 wider : (x : Answer) → RatedOrFew x → RatedOr 1 11 x ⊎ (x ≡ Refused TOO_FEW 0)
@@ -82,16 +85,16 @@ unfolding sheetOutcome
 sheet-ends s = go (readOf s .answer) refl (read-number s)
   where
     a : List ℕ
-    a = readOf s .analysis .amounts
+    a = volumesIn (readOf s .analysis)
 
     p : Split
     p = readOf s .split
 
-    by-split : InRange a → (t : Bool)
+    by-split : InRange (ofVolumes a) → (t : Bool)
         → let x = cond t (searchOutcome a ROUNDS) (outcome (splitAnswer a p) noSplit) .answer in
         RatedOr 1 11 x ⊎ (x ≡ Refused TOO_FEW 0)
-    by-split h true = wider (searchOutcome a ROUNDS .answer) (search-in-range a h ROUNDS)
-    by-split h false = wider (splitAnswer a p) (split-in-range a h p)
+    by-split h true = wider (searchOutcome a ROUNDS .answer) (search-in-range (ofVolumes a) h ROUNDS)
+    by-split h false = wider (splitAnswer a p) (split-in-range (ofVolumes a) h p)
 
     go : (x : Reading) → readOf s .answer ≡ x → Numbered 1 6 x
         → RatedOr 1 11 (sheetOutcomeBy x a p .answer) ⊎ (sheetOutcomeBy x a p .answer ≡ Refused TOO_FEW 0)
@@ -105,7 +108,7 @@ unfolding sheetOutcome
 sheet-split s w d r is = go (readOf s .answer) refl is
   where
     a : List ℕ
-    a = readOf s .analysis .amounts
+    a = volumesIn (readOf s .analysis)
 
     p : Split
     p = readOf s .split
@@ -114,8 +117,8 @@ sheet-split s w d r is = go (readOf s .answer) refl is
         → cond t (searchOutcome a ROUNDS) (outcome (splitAnswer a p) noSplit) .answer ≡ Rated w d r
         → splitAnswer a (cond t (cond t (searchOutcome a ROUNDS) (outcome (splitAnswer a p) noSplit) .split)
         p) ≡ Rated w d 0
-    by long true e = found-back a long ROUNDS w d r e
-    by long false e = rated-zero a p w d r e
+    by long true e = found-back (ofVolumes a) (volumes-suffice a long) ROUNDS w d r e
+    by long false e = rated-zero (ofVolumes a) p w d r e
 
     go : (x : Reading) → readOf s .answer ≡ x → sheetOutcomeBy x a p .answer ≡ Rated w d r
         → (length a ≡ CODES)

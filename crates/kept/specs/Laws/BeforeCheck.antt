@@ -9,6 +9,8 @@ use native.Mathlib.Omega.{arith}
 use lib.Dec.{eqb, leb}
 use lib.ListN.{length, getD, drop}
 use borrow.Author.Tests.{eqb-true, eqb-false, ne-eqb, leb-true, le-leb, lt-leb}
+use Rattle.refusal.specs.Register.{TOTAL}
+use Rattle.analysis.specs.Amounts.{volumesIn}
 use Rattle.analysis.specs.Register.{CODES, BASE, Status, live, unknown, Entry, register, statusIn, statusOf}
 use Rattle.analysis.specs.Register.{hexanesCode, hydrogenCode}
 use Rattle.analysis.specs.Check.{leastOf, greatestOf, requiredOf, totalOf, totalFits, refusalByTests}
@@ -54,7 +56,7 @@ lowest-alike es fs code (x ∷ xs) h =
 
 refusal-alike : (es fs : List Entry) (a : List ℕ) → Alike es fs 0 a → refusalIn es a ≡ refusalIn fs a
 unfolding refusalIn
-refusal-alike es fs a h = ap (λ (b : Bool). refusalByTests b (totalFits (totalOf a))) (all-alike es fs 0 a h)
+refusal-alike es fs a h = ap (λ (b : Bool). refusalByTests TOTAL b (totalFits (totalOf a))) (all-alike es fs 0 a h)
 
 -- two registers that differ in one code alone, whose amount is in range by both or by none
 alike-but : (es fs : List Entry) (code : ℕ) (a : List ℕ)
@@ -153,7 +155,7 @@ unknown-none x h = go (eqb x 0) refl h
 before-none : (a : List ℕ) → length a ≡ CODES → refusalIn registerBefore a ≡ 0 → getD a hydrogenCode 0 ≡ 0
 unfolding refusalIn
 before-none a l h =
-    let t = refusal-none (allInRangeIn registerBefore 0 a) (totalFits (totalOf a)) h .0 in
+    let t = refusal-none TOTAL (omega arith) (allInRangeIn registerBefore 0 a) (totalFits (totalOf a)) h .0 in
     unknown-none (getD a hydrogenCode 0) (all-from registerBefore a 0 hydrogenCode t (omega arith))
 
 -- what passes has no more than is legal, and so has what is read
@@ -161,7 +163,7 @@ pub passed-kept : (a : List ℕ) → length a ≡ CODES → analysisRefusal a �
 unfolding statusOf
 passed-kept a l h = inl (at-most a l h hexanesCode (omega arith))
 
-pub read-passed-kept : (s : List ℕ) → readOf s .answer ≡ Read → HexanesKept (readOf s .analysis .amounts)
+pub read-passed-kept : (s : List ℕ) → readOf s .answer ≡ Read → HexanesKept (volumesIn (readOf s .analysis))
 read-passed-kept s h = passed-kept _ (read-long s h) (read-passed s h)
 
 -- what passed before One with such hexanes+: what passes

@@ -1,9 +1,12 @@
 -- `mixture::in_range` meets its contract. Assumes nothing.
-use mathlib.Core.Path.{_≡_, refl, ap, _∙_}
+use mathlib.Core.Path.{_≡_, refl, ap, ap₂, _∙_}
+use Prim.Native.Nat.{ℕ}
 use native.Mathlib.Omega.{arith}
+use Rattle.analysis.specs.Amounts.{volumeParts}
 use Rattle.analysis.specs.Check.{totalOf}
+use Rattle.analysis.specs.Laws.Amounts.{volume-at}
 use Rattle.mixture.specs.Scaling.{scaledOf}
-use Rattle.mixture.specs.Simplification.{amountOfCode, tenthsOf, tenthsTotal}
+use Rattle.mixture.specs.Simplification.{tenthsOf, tenthsTotal}
 use Rattle.mixture.specs.Inert.{methaneShare}
 use borrow.Author.Needs.{needs}
 use Rattle.mixture.proofs.in_range.Statement.{statement}
@@ -24,27 +27,27 @@ scale-requires c κs =
     let e : c .sum .result ≡ totalOf (t .tenths .result) = omega (arith, c .sum .ensures .0, f) in
     (t .tenths .ensures .1, e, omega (arith, t .before .before .pre, f))
 
-array-read-methane-share : tie.Need-array-read-methane-share
-array-read-methane-share c = search needs
+array-copy-out-methane-share : tie.Need-array-copy-out-methane-share
+array-copy-out-methane-share c = search needs
 
 methane-share-requires : tie.Need-methane-share-requires
 unfolding tenthsOf
 methane-share-requires c κs =
-    let s = c .before in
+    let s = c .before .before in
     let t = s .before .before in
     (omega (arith, t .before .before .pre, s .sum .ensures .0, ap totalOf (t .tenths .ensures .0)), s .sum .ensures .1)
 
 returns : tie.Need-returns
 unfolding tenthsOf
 returns c =
-    let s = c .before .before in
+    let s = c .before .before .before in
     let t = s .before .before in
-    let a = t .before .before .args .analysis .amounts in
-    let e : s .sum .result ≡ tenthsTotal a = omega (arith, s .sum .ensures .0, ap totalOf (t .tenths .ensures .0)) in (
+    let vs = t .before .before .args .analysis .amounts in
+    let e : s .sum .result ≡ tenthsTotal (volumeParts vs) =
+    omega (arith, s .sum .ensures .0, ap totalOf (t .tenths .ensures .0)) in (
       refl,
-      c .before .scale .ensures ∙ ap scaledOf (t .tenths .ensures .0),
-      c .methane-share .ensures .0
-          ∙ ap (λ n. methaneShare n (amountOfCode a 11)) e,
+      c .before .before .scale .ensures ∙ ap scaledOf (t .tenths .ensures .0),
+      c .methane-share .ensures .0 ∙ ap₂ methaneShare e (volume-at vs 11),
     )
 
 pub in-range-spec : {M : Type 1} → statement M
@@ -54,6 +57,6 @@ in-range-spec =
     tenths-requires
     sum-requires
     scale-requires
-    array-read-methane-share
+    array-copy-out-methane-share
     methane-share-requires
     returns)

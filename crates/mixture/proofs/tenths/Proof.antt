@@ -1,75 +1,73 @@
 -- `mixture::tenths` meets its contract. Assumes nothing.
-use Prim.Native.Nat.{ℕ}
-use native.Mathlib.Omega.{arith}
-use lib.ListN.{getD}
-use mir.Syntax.{w32}
-use mir.Val.{Fits}
 use Rattle.mixture.proofs.Loops.{tenths-each}
 use borrow.Author.Needs.{needs}
 use Rattle.mixture.proofs.tenths.Statement.{statement}
 use Rattle.mixture.proofs.tenths.Tie as tie
 
--- an amount has 32 bits
-fits : (c : tie.After-a) (code : ℕ) → Fits w32 (getD (c .before .args .analysis .amounts) code 0)
-fits c code = search needs
+array-copy-out-wide : tie.Need-array-copy-out-wide
+array-copy-out-wide c = search needs
 
-array-read-t5 : tie.Need-array-read-t5
-array-read-t5 c = search needs
-
-cast-t6 : tie.Need-cast-t6
-cast-t6 c = search needs
+wide-requires : tie.Need-wide-requires
+wide-requires c κs = search needs
 
 mul-t7 : tie.Need-mul-t7
-mul-t7 c = omega (arith, fits c 1)
+mul-t7 c = search needs
 
-array-read-t10 : tie.Need-array-read-t10
-array-read-t10 c = search needs
+array-copy-out-wide-2 : tie.Need-array-copy-out-wide-2
+array-copy-out-wide-2 c = search needs
 
-cast-t11 : tie.Need-cast-t11
-cast-t11 c = search needs
+wide-requires-2 : tie.Need-wide-requires-2
+wide-requires-2 c κs = search needs
 
 mul-t12 : tie.Need-mul-t12
-mul-t12 c = omega (arith, fits c 2)
+mul-t12 c = search needs
 
-array-read-t15 : tie.Need-array-read-t15
-array-read-t15 c = search needs
+array-copy-out-wide-3 : tie.Need-array-copy-out-wide-3
+array-copy-out-wide-3 c = search needs
 
-cast-t16 : tie.Need-cast-t16
-cast-t16 c = search needs
+wide-requires-3 : tie.Need-wide-requires-3
+wide-requires-3 c κs = search needs
 
 mul-t17 : tie.Need-mul-t17
-mul-t17 c = omega (arith, fits c 3)
+mul-t17 c = search needs
 
 butane-requires : tie.Need-butane-requires
 butane-requires c κs = search needs
 
-array-read-t21 : tie.Need-array-read-t21
-array-read-t21 c = search needs
+array-copy-out-wide-4 : tie.Need-array-copy-out-wide-4
+array-copy-out-wide-4 c = search needs
 
-cast-t22 : tie.Need-cast-t22
-cast-t22 c = search needs
+wide-requires-4 : tie.Need-wide-requires-4
+wide-requires-4 c κs = search needs
 
 mul-t23 : tie.Need-mul-t23
-mul-t23 c = omega (arith, fits (c .before) 15)
+mul-t23 c = search needs
 
 returns : tie.Need-returns
-returns c = tenths-each _ (λ code. fits (c .before) code .fits) _ (c .butane .ensures .1 .1)
+returns c =
+    let b = c .before .before in
+    let w3 = b .before in
+    let w2 = w3 .before .before in
+    let w1 = w2 .before .before in
+    let vs = w1 .before .before .before .args .analysis .amounts in
+    tenths-each vs _ _ _ _ _ (w1 .wide .ensures) (w2 .wide2 .ensures) (w3 .wide3 .ensures) (c .wide4 .ensures)
+    (b .butane .ensures .1 .1)
 
 pub tenths-spec : {M : Type 1} → statement M
 tenths-spec =
     tie.close
     (tie.spec
-    array-read-t5
-    cast-t6
+    array-copy-out-wide
+    wide-requires
     mul-t7
-    array-read-t10
-    cast-t11
+    array-copy-out-wide-2
+    wide-requires-2
     mul-t12
-    array-read-t15
-    cast-t16
+    array-copy-out-wide-3
+    wide-requires-3
     mul-t17
     butane-requires
-    array-read-t21
-    cast-t22
+    array-copy-out-wide-4
+    wide-requires-4
     mul-t23
     returns)

@@ -65,12 +65,12 @@ LEAST_PRESENT = 10 * least 4
 abbrev pub LEAST_PARTS : ℕ
 LEAST_PARTS = LEAST_PRESENT * MILLION / GREATEST_TENTHS
 
-times-ten : (x : ℕ) → NoneOr 10 x → NoneOr LEAST_PRESENT (10 * x)
+pub times-ten : (x : ℕ) → NoneOr 10 x → NoneOr LEAST_PRESENT (10 * x)
 times-ten x (inl e) = inl (omega arith)
 times-ten x (inr k) = inr (omega arith)
 
--- butane, of what is absent or 10 parts at least
-butane-or-absent : (p q r s t u : ℕ) → NoneOr 10 p → NoneOr 10 q → NoneOr 10 r → NoneOr 10 s → NoneOr 10 t → NoneOr 10 u
+-- butane, of what is absent or 10 parts at least, pentanes and hexanes+ 9 (which moles of them may come to)
+pub butane-or-absent : (p q r s t u : ℕ) → NoneOr 10 p → NoneOr 10 q → NoneOr 9 r → NoneOr 9 s → NoneOr 9 t → NoneOr 9 u
     → NoneOr LEAST_PRESENT (10 * (p + q) + 23 * (r + s + t) + 53 * u)
 butane-or-absent p q r s t u (inr h) b c d e f = inr (omega arith)
 butane-or-absent p q r s t u (inl a) (inr h) c d e f = inr (omega arith)
@@ -101,13 +101,19 @@ module _ (a : List ℕ) (l : length a ≡ CODES) (h : analysisRefusal a ≡ 0) w
   pub tenths-positive : 0 < tenthsTotal a
   tenths-positive = omega (arith, tenths-least)
 
-  -- a code is absent or has 10 parts at least, where its range begins there or above
-  ten-or-absent : (k : ℕ) → k < CODES → 10 ≤ leastOf k → NoneOr 10 (amountOfCode a k)
-  ten-or-absent k s m = go (or-absent a l h k s)
+  -- a code is absent or has so many parts at least, where its range begins there or above
+  so-many-or-absent : (least k : ℕ) → k < CODES → least ≤ leastOf k → NoneOr least (amountOfCode a k)
+  so-many-or-absent least k s m = go (or-absent a l h k s)
     where
-      go : NoneOr (leastOf k) (amountOfCode a k) → NoneOr 10 (amountOfCode a k)
+      go : NoneOr (leastOf k) (amountOfCode a k) → NoneOr least (amountOfCode a k)
       go (inl e) = inl e
       go (inr p) = inr (omega arith)
+
+  ten-or-absent : (k : ℕ) → k < CODES → 10 ≤ leastOf k → NoneOr 10 (amountOfCode a k)
+  ten-or-absent = so-many-or-absent 10
+
+  nine-or-absent : (k : ℕ) → k < CODES → 9 ≤ leastOf k → NoneOr 9 (amountOfCode a k)
+  nine-or-absent = so-many-or-absent 9
 
   -- a component is absent or has 100 tenths of a part at least
   tenths-or-absent : (i : ℕ) → i < COMPONENTS → NoneOr LEAST_PRESENT (getD (tenthsOf a) i 0)
@@ -118,34 +124,71 @@ module _ (a : List ℕ) (l : length a ≡ CODES) (h : analysisRefusal a ≡ 0) w
   tenths-or-absent (suc (suc (suc zero))) k =
       butane-or-absent _ _ _ _ _ _
       (ten-or-absent 4 (omega arith) (omega arith)) (ten-or-absent 5 (omega arith) (omega arith))
-      (ten-or-absent 6 (omega arith) (omega arith)) (ten-or-absent 7 (omega arith) (omega arith))
-      (ten-or-absent 8 (omega arith) (omega arith)) (ten-or-absent 10 (omega arith) (omega arith))
+      (nine-or-absent 6 (omega arith) (omega arith)) (nine-or-absent 7 (omega arith) (omega arith))
+      (nine-or-absent 8 (omega arith) (omega arith)) (nine-or-absent 10 (omega arith) (omega arith))
   tenths-or-absent (suc (suc (suc (suc zero)))) k = times-ten _ (ten-or-absent 15 (omega arith) (omega arith))
   tenths-or-absent (suc (suc (suc (suc (suc i))))) k = absurd (omega arith)
 
-  -- one that is absent stays 0
-  pub simplified-absent : (i : ℕ) → i < COMPONENTS → getD (tenthsOf a) i 0 ≡ 0 → getD (simplifiedOf a) i 0 ≡ 0
+-- ---- volumes that can be rated
+
+-- a bound of T under which a component that is present keeps so many parts
+abbrev pub MOST_TENTHS : ℕ
+MOST_TENTHS = LEAST_PRESENT * MILLION / LEAST_PARTS
+
+-- what rating needs of volume amounts, whether they are an analysis in range or were made from moles: T is above 0 and
+-- below a bound, methane is present, and each component is absent or has 100 tenths of a part at least
+pub record Ratable (a : List ℕ) : Type 0 where
+  pub positive : 0 < tenthsTotal a
+  pub below : tenthsTotal a ≤ MOST_TENTHS
+  pub methane : 0 < getD (tenthsOf a) 0 0
+  pub tenths : (i : ℕ) → i < COMPONENTS → NoneOr LEAST_PRESENT (getD (tenthsOf a) i 0)
+
+-- an analysis in range can be
+pub range-ratable : (a : List ℕ) → length a ≡ CODES → analysisRefusal a ≡ 0 → Ratable a
+unfolding tenthsOf statusOf
+range-ratable a l h =
+    record {
+      positive = tenths-positive a l h;
+      below = omega (arith, tenths-greatest a l h);
+      methane = omega (arith, at-least a l h 1 (omega arith) refl);
+      tenths = tenths-or-absent a l h;
+    }
+
+module _ (a : List ℕ) (r : Ratable a) where
+  -- a component that is absent stays 0
+  pub ratable-absent : (i : ℕ) → i < COMPONENTS → getD (tenthsOf a) i 0 ≡ 0 → getD (simplifiedOf a) i 0 ≡ 0
   unfolding tenthsOf
-  simplified-absent i k e = scaled-absent (tenthsOf a) tenths-positive i k e
+  ratable-absent i k e = scaled-absent (tenthsOf a) (r .positive) i k e
 
   -- one that is present gets so many parts at least
-  pub simplified-least : (i : ℕ) → i < COMPONENTS → 0 < getD (tenthsOf a) i 0 → LEAST_PARTS ≤ getD (simplifiedOf a) i 0
-  unfolding tenthsOf statusOf
-  simplified-least i k p = go (tenths-or-absent i k)
+  pub ratable-least : (i : ℕ) → i < COMPONENTS → 0 < getD (tenthsOf a) i 0 → LEAST_PARTS ≤ getD (simplifiedOf a) i 0
+  unfolding tenthsOf
+  ratable-least i k p = go (r .tenths i k)
     where
       go : NoneOr LEAST_PRESENT (getD (tenthsOf a) i 0) → LEAST_PARTS ≤ getD (simplifiedOf a) i 0
       go (inl e) = absurd (omega arith)
-      go (inr m) = scaled-least (tenthsOf a) tenths-positive LEAST_PARTS i k (omega (arith, tenths-greatest))
+      go (inr m) = scaled-least (tenthsOf a) (r .positive) LEAST_PARTS i k (omega (arith, r .below))
 
   -- so a component has no parts after simplification, or so many at least
-  pub simplified-or-absent : (i : ℕ) → i < COMPONENTS → NoneOr LEAST_PARTS (getD (simplifiedOf a) i 0)
-  simplified-or-absent i k = go (tenths-or-absent i k)
+  pub ratable-or-absent : (i : ℕ) → i < COMPONENTS → NoneOr LEAST_PARTS (getD (simplifiedOf a) i 0)
+  ratable-or-absent i k = go (r .tenths i k)
     where
       go : NoneOr LEAST_PRESENT (getD (tenthsOf a) i 0) → NoneOr LEAST_PARTS (getD (simplifiedOf a) i 0)
-      go (inl e) = inl (simplified-absent i k e)
-      go (inr m) = inr (simplified-least i k (omega arith))
+      go (inl e) = inl (ratable-absent i k e)
+      go (inr m) = inr (ratable-least i k (omega arith))
 
-  -- methane is
+  -- methane has
+  pub ratable-methane : LEAST_PARTS ≤ getD (simplifiedOf a) 0 0
+  ratable-methane = ratable-least 0 (omega arith) (r .methane)
+
+-- ---- the same of an analysis in range
+
+module _ (a : List ℕ) (l : length a ≡ CODES) (h : analysisRefusal a ≡ 0) where
+  pub simplified-absent : (i : ℕ) → i < COMPONENTS → getD (tenthsOf a) i 0 ≡ 0 → getD (simplifiedOf a) i 0 ≡ 0
+  simplified-absent = ratable-absent a (range-ratable a l h)
+
+  pub simplified-least : (i : ℕ) → i < COMPONENTS → 0 < getD (tenthsOf a) i 0 → LEAST_PARTS ≤ getD (simplifiedOf a) i 0
+  simplified-least = ratable-least a (range-ratable a l h)
+
   pub simplified-methane : LEAST_PARTS ≤ getD (simplifiedOf a) 0 0
-  unfolding tenthsOf statusOf
-  simplified-methane = simplified-least 0 (omega arith) (omega (arith, at-least a l h 1 (omega arith) refl))
+  simplified-methane = ratable-methane a (range-ratable a l h)

@@ -1,4 +1,4 @@
--- How the answers to an analysis end, where it is rated on and where it is in range, and that what was read is in
+-- How the answers to what is judged end, where it is rated on and where it is in range, and that what was read is in
 -- range. Assumes nothing.
 use mathlib.Core.Path.{_≡_, refl, ap, _∙_, subst}
 use mathlib.Core.Bool.{Bool, true, false, cond}
@@ -8,11 +8,14 @@ use Prim.Native.Nat.{ℕ, _≤_, _<_, min}
 use native.Mathlib.Omega.{arith}
 use lib.Dec.{ltb}
 use lib.ListN.{length}
-use Rattle.refusal.specs.Register.{TOO_FEW}
+use borrow.Author.Tests.{ne-eqb}
+use Rattle.refusal.specs.Register.{TOO_FEW, carried}
 use Rattle.analysis.specs.Register.{CODES}
+use Rattle.analysis.specs.Amounts.{volumesIn}
 use Rattle.analysis.specs.Check.{analysisRefusal}
+use Rattle.analysis.specs.Laws.Amounts.{volumes-back}
 use Rattle.sheet.specs.Split.{noSplit}
-use Rattle.sheet.specs.Read.{readOf, contentOf}
+use Rattle.sheet.specs.Read.{readAmounts, readOf, contentOf}
 use Rattle.sheet.specs.Laws.Cases.{Whole, read-whole, read-good, amounts-back, amounts-long}
 use Rattle.sheet.specs.declared.Split.{Split}
 use Rattle.sheet.specs.declared.Reading.{Reading}
@@ -32,11 +35,11 @@ use Rattle.split.specs.declared.Search.{Search}
 use Rattle.split.specs.declared.Search.the-variants.{Balanced, Unbalanced, Unfit}
 use Rattle.split.specs.declared.Found.{Found}
 use Rattle.outcome.specs.Records.{fitsOf}
-use Rattle.outcome.specs.Rate.{ROUNDS, FEWEST, mixOf, systemsFor, countFor, ratingRefusal, splitBy}
-use Rattle.outcome.specs.Rate.{splitAnswer, outcome, foundBy, foundOutcome, searchedBy, searchOutcome}
+use Rattle.outcome.specs.Rate.{ROUNDS, FEWEST, mixOf, systemsFor, countFor, Judged, ofVolumes, judgedRefusal}
+use Rattle.outcome.specs.Rate.{splitBy, judgedSplit, outcome, foundBy, foundOutcome, searchedBy, judgedSearch}
 use Rattle.outcome.specs.Rate.{sheetOutcomeBy, sheetOutcome}
 use Rattle.outcome.specs.RatedOn.{InRange, RatedOn}
-use Rattle.outcome.specs.Laws.RatedOn.{on-or-few, few-by-count}
+use Rattle.outcome.specs.Laws.RatedOn.{range-first, on-or-few, few-by-count}
 use Rattle.outcome.specs.declared.Outcome.{Outcome}
 
 -- a rating, or a refusal with a number from `low` to `high`
@@ -56,11 +59,11 @@ search-wider x (inr q) = inr (rw q (omega arith), rw q (omega arith))
 abbrev pub RatedOrFew : Answer → Type 0
 RatedOrFew x = RatedOr 7 11 x ⊎ (x ≡ Refused TOO_FEW 0)
 
--- ---- by the search, of an analysis that is rated on: a rating or 11
+-- ---- by the search, of what is rated on: a rating or 11
 
--- what the search of an analysis found
+-- what the search of volumes found
 abbrev pub searched : List ℕ → ℕ → Found
-searched analysis allowance = searchedBy (choiceOf (mixOf analysis)) analysis allowance
+searched volumes allowance = searchedBy (choiceOf (mixOf volumes)) volumes allowance
 
 -- it ends balanced or unbalanced
 pub never-unfit : (a : List ℕ) (allowance : ℕ) → searched a allowance .search ≡ Unfit → ⊥
@@ -75,12 +78,13 @@ found-ends ch k n1 a (Balanced s r) h = inl tt
 found-ends ch k n1 a Unbalanced h = inr refl
 found-ends ch k n1 a Unfit h = absurd (h refl)
 
-pub search-ends : (a : List ℕ) (allowance : ℕ) → RatedOn a
-    → IsRated (searchOutcome a allowance .answer) ⊎ (searchOutcome a allowance .answer ≡ Refused 11 0)
-unfolding searchOutcome foundOutcome
-search-ends a allowance h = rw h (found-ends _ _ _ _ (searched a allowance .search) (never-unfit a allowance))
+pub search-ends : (gas : Judged) (allowance : ℕ) → RatedOn gas
+    → IsRated (judgedSearch gas allowance .answer) ⊎ (judgedSearch gas allowance .answer ≡ Refused 11 0)
+unfolding judgedSearch foundOutcome
+search-ends gas allowance h =
+    rw h (found-ends _ _ _ _ (searched (gas .volumes) allowance .search) (never-unfit (gas .volumes) allowance))
 
--- ---- a proposed split of an analysis that is rated on: a rating or 7 to 10
+-- ---- a proposed split of what is rated on: a rating or 7 to 10
 
 verdict-ends : (b e w : Bool) (x : Answer) → IsRated x → RatedOr 7 10 (verdict b e w x)
 verdict-ends false e w x r = inr (omega arith, omega arith)
@@ -99,40 +103,58 @@ proposed-ends limit ch k mix a n1 =
     verdict-ends (resums mix k a) (someEmpty ch k a) (ltb limit (spreadOf (rowNumber ch a) k))
     (Rated (ratingOf ch k a n1) (spreadOf (rowNumber ch a) k) 0) tt
 
-pub split-ends : (a : List ℕ) (p : Split) → RatedOn a → RatedOr 7 10 (splitAnswer a p)
-unfolding splitAnswer splitBy
-split-ends a p h =
+pub split-ends : (gas : Judged) (p : Split) → RatedOn gas → RatedOr 7 10 (judgedSplit gas p)
+unfolding judgedSplit splitBy
+split-ends gas p h =
+    let a = gas .volumes in
     rw h
     (fits-ends (fitsOf (systemsFor a) (countFor a) (p .count) (p .systems) (p .codes)) _
     (proposed-ends LIMIT (systemsFor a) (countFor a) (mixOf a) (cellsOf (systemsFor a) (countFor a) (p .amounts))
     (inertFirst a)))
 
--- ---- an analysis in range: as above, or 16 and no split
+-- ---- what is in range: as above, or 16 and no split
 
-pub search-few : (a : List ℕ) (allowance : ℕ) → ratingRefusal a ≡ TOO_FEW
-    → searchOutcome a allowance ≡ outcome (Refused TOO_FEW 0) noSplit
-unfolding searchOutcome
-search-few a allowance h = rw h
+pub search-few : (gas : Judged) (allowance : ℕ) → judgedRefusal gas ≡ TOO_FEW
+    → judgedSearch gas allowance ≡ outcome (Refused TOO_FEW 0) noSplit
+unfolding judgedSearch
+search-few gas allowance h = rw h
 
-pub split-few : (a : List ℕ) (p : Split) → ratingRefusal a ≡ TOO_FEW
-    → splitAnswer a p ≡ Refused TOO_FEW 0
-unfolding splitAnswer
-split-few a p h = rw h
+pub split-few : (gas : Judged) (p : Split) → judgedRefusal gas ≡ TOO_FEW
+    → judgedSplit gas p ≡ Refused TOO_FEW 0
+unfolding judgedSplit
+split-few gas p h = rw h
 
-module _ (a : List ℕ) (h : InRange a) where
-  pub search-in-range : (allowance : ℕ) → RatedOrFew (searchOutcome a allowance .answer)
-  search-in-range allowance = go (on-or-few a h)
+-- ---- what is not in range: its check's number, with what it carries
+
+module _ (gas : Judged) (n : InRange gas → ⊥) where
+  turned : judgedRefusal gas ≡ gas .number
+  turned = range-first gas (ne-eqb (gas .number) 0 n)
+
+  pub split-away : (p : Split) → judgedSplit gas p ≡ Refused (gas .number) (carried (gas .number) (gas .code) 0)
+  unfolding judgedSplit
+  split-away p = rw (turned, ne-eqb (gas .number) 0 n)
+
+  pub search-away : (allowance : ℕ)
+      → judgedSearch gas allowance ≡ outcome (Refused (gas .number) (carried (gas .number) (gas .code) 0)) noSplit
+  unfolding judgedSearch
+  search-away allowance = rw (turned, ne-eqb (gas .number) 0 n)
+
+-- ---- what is in range
+
+module _ (gas : Judged) (h : InRange gas) where
+  pub search-in-range : (allowance : ℕ) → RatedOrFew (judgedSearch gas allowance .answer)
+  search-in-range allowance = go (on-or-few gas h)
     where
-      go : RatedOn a ⊎ (ratingRefusal a ≡ TOO_FEW) → RatedOrFew (searchOutcome a allowance .answer)
-      go (inl e) = inl (search-wider (searchOutcome a allowance .answer) (search-ends a allowance e))
-      go (inr e) = inr (ap (λ (x : Outcome). x .answer) (search-few a allowance e))
+      go : RatedOn gas ⊎ (judgedRefusal gas ≡ TOO_FEW) → RatedOrFew (judgedSearch gas allowance .answer)
+      go (inl e) = inl (search-wider (judgedSearch gas allowance .answer) (search-ends gas allowance e))
+      go (inr e) = inr (ap (λ (x : Outcome). x .answer) (search-few gas allowance e))
 
-  pub split-in-range : (p : Split) → RatedOrFew (splitAnswer a p)
-  split-in-range p = go (on-or-few a h)
+  pub split-in-range : (p : Split) → RatedOrFew (judgedSplit gas p)
+  split-in-range p = go (on-or-few gas h)
     where
-      go : RatedOn a ⊎ (ratingRefusal a ≡ TOO_FEW) → RatedOrFew (splitAnswer a p)
-      go (inl e) = inl (split-wider (splitAnswer a p) (split-ends a p e))
-      go (inr e) = inr (split-few a p e)
+      go : RatedOn gas ⊎ (judgedRefusal gas ≡ TOO_FEW) → RatedOrFew (judgedSplit gas p)
+      go (inl e) = inl (split-wider (judgedSplit gas p) (split-ends gas p e))
+      go (inr e) = inr (split-few gas p e)
 
   -- and 16 exactly where fewer than two components are present
   never-few : (x : Answer) → RatedOr 7 11 x → x ≡ Refused TOO_FEW 0 → ⊥
@@ -140,29 +162,29 @@ module _ (a : List ℕ) (h : InRange a) where
   never-few x (inr b) e = let z : numberOf x ≡ TOO_FEW = ap numberOf e in omega (arith, b .1)
 
   pub search-few-exactly-when : (allowance : ℕ)
-      → (searchOutcome a allowance .answer ≡ Refused TOO_FEW 0) ↔ (presentCount (mixOf a) < FEWEST)
+      → (judgedSearch gas allowance .answer ≡ Refused TOO_FEW 0) ↔ (presentCount (mixOf (gas .volumes)) < FEWEST)
   search-few-exactly-when allowance = (
-    go (on-or-few a h),
-    λ l. ap (λ (x : Outcome). x .answer) (search-few a allowance (few-by-count a h .1 l)),
+    go (on-or-few gas h),
+    λ l. ap (λ (x : Outcome). x .answer) (search-few gas allowance (few-by-count gas h .1 l)),
   )
     where
-      go : RatedOn a ⊎ (ratingRefusal a ≡ TOO_FEW) → searchOutcome a allowance .answer ≡ Refused TOO_FEW 0
-          → presentCount (mixOf a) < FEWEST
+      go : RatedOn gas ⊎ (judgedRefusal gas ≡ TOO_FEW) → judgedSearch gas allowance .answer ≡ Refused TOO_FEW 0
+          → presentCount (mixOf (gas .volumes)) < FEWEST
       go (inl on) e =
           absurd
-          (never-few (searchOutcome a allowance .answer)
-          (search-wider (searchOutcome a allowance .answer) (search-ends a allowance on)) e)
-      go (inr f) e = few-by-count a h .0 f
+          (never-few (judgedSearch gas allowance .answer)
+          (search-wider (judgedSearch gas allowance .answer) (search-ends gas allowance on)) e)
+      go (inr f) e = few-by-count gas h .0 f
 
   pub split-few-exactly-when : (p : Split)
-      → (splitAnswer a p ≡ Refused TOO_FEW 0) ↔ (presentCount (mixOf a) < FEWEST)
-  split-few-exactly-when p = (go (on-or-few a h), λ l. split-few a p (few-by-count a h .1 l))
+      → (judgedSplit gas p ≡ Refused TOO_FEW 0) ↔ (presentCount (mixOf (gas .volumes)) < FEWEST)
+  split-few-exactly-when p = (go (on-or-few gas h), λ l. split-few gas p (few-by-count gas h .1 l))
     where
-      go : RatedOn a ⊎ (ratingRefusal a ≡ TOO_FEW) → splitAnswer a p ≡ Refused TOO_FEW 0
-          → presentCount (mixOf a) < FEWEST
+      go : RatedOn gas ⊎ (judgedRefusal gas ≡ TOO_FEW) → judgedSplit gas p ≡ Refused TOO_FEW 0
+          → presentCount (mixOf (gas .volumes)) < FEWEST
       go (inl on) e =
-          absurd (never-few (splitAnswer a p) (split-wider (splitAnswer a p) (split-ends a p on)) e)
-      go (inr f) e = few-by-count a h .0 f
+          absurd (never-few (judgedSplit gas p) (split-wider (judgedSplit gas p) (split-ends gas p on)) e)
+      go (inr f) e = few-by-count gas h .0 f
 
 -- ---- what was read is an analysis in range
 
@@ -173,16 +195,19 @@ module _ (s : List ℕ) (h : readOf s .answer ≡ reading.Read) where
   content : readOf s ≡ contentOf (whole .n) (whole .m) (whole .first) s
   content = read-good s (whole .n) (whole .m) (whole .first) (whole .sections) (whole .codes) (whole .amounts)
 
-  pub read-passed : InRange (readOf s .analysis .amounts)
-  read-passed =
-      ap (λ (x : Sheet). analysisRefusal (x .analysis .amounts)) content ∙ amounts-back (whole .n) s (whole .amounts) .1
+  -- its amounts
+  amounts-are : volumesIn (readOf s .analysis) ≡ readAmounts (whole .n) s
+  amounts-are = ap (λ (x : Sheet). volumesIn (x .analysis)) content ∙ volumes-back (readAmounts (whole .n) s)
 
-  pub read-long : length (readOf s .analysis .amounts) ≡ CODES
-  read-long = ap (λ (x : Sheet). length (x .analysis .amounts)) content ∙ amounts-long (whole .n) s 1 _
+  pub read-passed : InRange (ofVolumes (volumesIn (readOf s .analysis)))
+  read-passed = ap analysisRefusal amounts-are ∙ amounts-back (whole .n) s (whole .amounts) .1
+
+  pub read-long : length (volumesIn (readOf s .analysis)) ≡ CODES
+  read-long = ap (λ (l : List ℕ). length l) amounts-are ∙ amounts-long (whole .n) s 1 _
 
 -- ---- a sheet, by the reader's answer
 
 pub sheet-by-answer : (s : List ℕ) (x : Reading) → readOf s .answer ≡ x
-    → sheetOutcome s ≡ sheetOutcomeBy x (readOf s .analysis .amounts) (readOf s .split)
+    → sheetOutcome s ≡ sheetOutcomeBy x (volumesIn (readOf s .analysis)) (readOf s .split)
 unfolding sheetOutcome
-sheet-by-answer s x e = ap (λ (y : Reading). sheetOutcomeBy y (readOf s .analysis .amounts) (readOf s .split)) e
+sheet-by-answer s x e = ap (λ (y : Reading). sheetOutcomeBy y (volumesIn (readOf s .analysis)) (readOf s .split)) e
