@@ -1,6 +1,6 @@
 /* Saugrinte: the methane number of a gas by the MWM method.
 
-   A part is 0.0001 % by volume. A unit is 0.0000001 of a methane number.
+   A part is 0.0001 % by volume, in a mole analysis 0.0001 % of the moles. A unit is 0.0000001 of a methane number.
 
    Every function answers every input. An answer holds a number: 0 means done, anything else is a refusal, which changes
    no buffer. Its place tells more: for 2 to 4 the record's place from 0, for 5 the lowest code at fault, for all else
@@ -9,6 +9,11 @@
 
    amounts[k] is the amount in parts of code k, 0 where it is absent; only methane must be there. At 0, 9, 13 and 14
    no amount is legal: anything but 0 there is at fault, as code 0, 9, 13 or 14.
+
+   moles[k] is likewise the amount of code k in an analysis by moles, which three calls take: the ranges are the same,
+   their sum is tested by a refusal of its own, and hydrogen is turned away. Volume amounts are made from them and are
+   not tested again: one that falls outside its range is rated all the same. No other call takes moles: a sheet has
+   volume amounts.
 
    A split is a count of records and three arrays: record i gives amount parts[i] of component codes[i] to system
    systems[i]. Codes in a split are 1 methane, 2 ethane, 3 propane, 14 butanes, 15 hydrogen. A rated gas's split has
@@ -25,8 +30,9 @@
    version 1.3 hydrogen has code 15, which was refused 2 in a sheet and 5 in an analysis; a sheet may list 12 components
    and have a split of 12, 15, 18 or 21 records, which was refused 1. Since version 1.4 the code with 5 is the lowest at
    fault; before, it was any one at fault. Since version 1.5 more than 6100 parts of hexanes+ are refused 5; before,
-   more than 15000 were. A gas that was rated before and is in range still has the rating, the split and the rounds that
-   it had.
+   more than 15000 were. Since version 1.6 there are the calls that take moles, with refusals 15 and 18, which no other
+   call gives; nothing else has changed. A gas that was rated before and is in range still has the rating, the split and
+   the rounds that it had.
 
    The functions keep nothing between calls, so several threads may call them at once. They use no heap, no floating
    point but in saugrinte_controller, and of a C library memcpy alone. No pointer may be null, not even with a length,
@@ -34,11 +40,11 @@
    another argument.
 
    Platform: the archive is for x86-64 Linux with its usual calling convention; the toolchain makes no other.
-   Stack, measured: saugrinte_rate 4.2 KB, saugrinte_search 3.9 KB, saugrinte_rate_split 2.2 KB, all others 1 KB at
-   most.
-   Longest call of the sheets in tests/data, measured on an Intel Xeon (family 6, model 207): 0.8 ms for saugrinte_rate
-   and saugrinte_search, of a gas whose search uses all 4000 rounds; all others 1 microsecond. tests/bench/limits.c
-   measures both. */
+   Stack, measured: saugrinte_rate 3.8 KB, saugrinte_search and saugrinte_search_moles 3.5 KB, saugrinte_rate_split and
+   saugrinte_rate_split_moles 1.9 KB, all others 1 KB at most.
+   Longest call of the sheets in tests/data, measured on an AMD EPYC (family 25, model 17): 0.8 ms for saugrinte_rate and
+   the two searches, of a gas whose search uses all 4000 rounds; all others 1 microsecond. tests/bench/limits.c measures
+   both. */
 #ifndef SAUGRINTE_H
 #define SAUGRINTE_H
 
@@ -49,7 +55,7 @@
 extern "C" {
 #endif
 
-#define SAUGRINTE_VERSION 10500     /* of this header, 1.5.0: 10000, 100 and 1 times its three figures */
+#define SAUGRINTE_VERSION 10600     /* of this header, 1.6.0: 10000, 100 and 1 times its three figures */
 
 #define SAUGRINTE_CODES 16          /* entries of an analysis, one for each code from 0 to 15 */
 #define SAUGRINTE_RECORDS 21        /* room for a split's records */
@@ -73,8 +79,10 @@ enum {
     SAUGRINTE_NO_MIXTURE = 12,      /* no mixture: amounts whose sum is 0 or above 1000000 */
     SAUGRINTE_NO_SYSTEM = 13,       /* no system: not one of those below, at saugrinte_partial_number */
     SAUGRINTE_SHORT_BLANK = 14,     /* short blank: the writer's buffer is too short */
+    SAUGRINTE_MOLE_TOTAL = 15,      /* mole total: the mole amounts' sum outside 999900..1000100 */
     SAUGRINTE_TOO_FEW = 16,         /* too few: fewer than two of the five components after simplification */
-    SAUGRINTE_SHARE = 17            /* share: a share outside the system's range of validity */
+    SAUGRINTE_SHARE = 17,           /* share: a share outside the system's range of validity */
+    SAUGRINTE_HYDROGEN_IN_MOLES = 18 /* hydrogen in moles: a mole analysis has hydrogen (code 15) */
 };
 
 /* Component codes, each with the range of its amount; 9 and 13 are retired and never given again. */
@@ -148,6 +156,33 @@ saugrinte_answer saugrinte_rate_split(const uint32_t amounts[SAUGRINTE_CODES], s
                                       const uint8_t systems[SAUGRINTE_RECORDS],
                                       const uint8_t codes[SAUGRINTE_RECORDS],
                                       const uint32_t parts[SAUGRINTE_RECORDS], saugrinte_figures *figures);
+
+/* Rates a mole analysis by the search, with at most `allowance` rounds; above 4000 counts as 4000. What is rated are
+   the volume amounts that saugrinte_convert makes, which are not range-tested again; given to saugrinte_search they
+   would be.
+   Done: *figures holds rating, spread and rounds; *count and the three arrays the split found, which
+   saugrinte_rate_split_moles rates alike with the same moles.
+   Refused 18, then 5, 15, 16, 11: no buffer is changed. */
+saugrinte_answer saugrinte_search_moles(const uint32_t moles[SAUGRINTE_CODES], uint32_t allowance,
+                                        saugrinte_figures *figures, size_t *count, uint8_t systems[SAUGRINTE_RECORDS],
+                                        uint8_t codes[SAUGRINTE_RECORDS], uint32_t parts[SAUGRINTE_RECORDS]);
+
+/* Rates a mole analysis with a proposed split, of the volume amounts that saugrinte_convert makes.
+   Done: *figures holds rating, spread and 0.
+   Refused 18, then 5, 15, 16, 7 to 10, 7 also where count is not three times the systems chosen: *figures is
+   unchanged. */
+saugrinte_answer saugrinte_rate_split_moles(const uint32_t moles[SAUGRINTE_CODES], size_t count,
+                                            const uint8_t systems[SAUGRINTE_RECORDS],
+                                            const uint8_t codes[SAUGRINTE_RECORDS],
+                                            const uint32_t parts[SAUGRINTE_RECORDS], saugrinte_figures *figures);
+
+/* The volume amounts made from a mole analysis: each is 1000000 times its amount times its factor over the sum of those
+   products, halves up, with the factors of the GOST draft's Table 2. They add up to 999995 to 1000005, and none that
+   is present becomes 0. One may lie outside its range, and saugrinte_search, saugrinte_rate_split and saugrinte_write
+   would then refuse them 5: for a rating, give the moles.
+   Done: amounts holds them, 0 where a code is absent.
+   Refused 18, then 5, 15: amounts is unchanged. */
+saugrinte_answer saugrinte_convert(const uint32_t moles[SAUGRINTE_CODES], uint32_t amounts[SAUGRINTE_CODES]);
 
 /* The partial number, in units, of a system at amounts n1, n2, n3 of its components. These stand here in the order of
    the formula, each with its range of validity: the least and the greatest share, in percent, that its amount may have

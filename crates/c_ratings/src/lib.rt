@@ -1,13 +1,12 @@
-// The calls of the C interface that rate: a sheet, an analysis by the search, an analysis with a proposed split. What
-// each leaves in each buffer is in c_reply/specs/Interface.antt.
+// The calls of the C interface that rate: a sheet, an analysis by the search or with a proposed split, and a mole
+// analysis likewise. What each leaves in each buffer is in c_reply/specs/Interface.antt.
 //
 // No public function has a `requires`.
 ghost use mathlib.Core.Path.{_≡_};
 ghost use Rattle.split.specs.AnswerCases.{figuresOf, bufferOf};
-ghost use Rattle.outcome.specs.Rate.{splitAnswer, searchOutcome, sheetOutcome};
+ghost use Rattle.outcome.specs.Rate.{splitAnswer, searchOutcome, sheetOutcome, moleSplitAnswer, moleSearchOutcome};
 ghost use Rattle.demand.specs.Small.{SmallFigures};
 ghost use Rattle.c_reply.specs.Interface.{replyOf, splitFrom};
-use analysis::Analysis;
 use analysis::CODES;
 use c_reply::Reply;
 use c_reply::put_split;
@@ -33,14 +32,27 @@ fn rated(sheet: &[u8]) -> Outcome
 fn searched(amounts: [u32; CODES], allowance: u32) -> Outcome
     ensures { λ r. ⌜ (r ≡ searchOutcome amounts allowance) × SmallFigures (r .answer) ⌝ }
 {
-    rating::rate_by_search(Analysis { amounts }, allowance)
+    rating::rate_by_search(analysis::of_parts(amounts), allowance)
 }
 
 // The rating of a proposed split, with figures that fit.
 fn proposed(amounts: [u32; CODES], split: Split) -> Answer
     ensures { λ r. ⌜ (r ≡ splitAnswer amounts split) × SmallFigures r ⌝ }
 {
-    rating::rate_split(Analysis { amounts }, split)
+    rating::rate_split(analysis::of_parts(amounts), split)
+}
+
+// The same two of moles.
+fn searched_moles(moles: [u32; CODES], allowance: u32) -> Outcome
+    ensures { λ r. ⌜ (r ≡ moleSearchOutcome moles allowance) × SmallFigures (r .answer) ⌝ }
+{
+    rating::rate_moles_by_search(analysis::of_mole_parts(moles), allowance)
+}
+
+fn proposed_moles(moles: [u32; CODES], split: Split) -> Answer
+    ensures { λ r. ⌜ (r ≡ moleSplitAnswer moles split) × SmallFigures r ⌝ }
+{
+    rating::rate_moles_split(analysis::of_mole_parts(moles), split)
 }
 
 // The figures of a rating; a refusal leaves them.
@@ -143,6 +155,49 @@ pub fn rate_split(
     let split = split_from(count, systems, codes, parts);
     let gas = *amounts;
     let rated = proposed(gas, split);
+    put_figures(rated, figures);
+    reply_of(rated)
+}
+
+// Rates a mole analysis by the search.
+pub fn rate_moles_by_search(
+    moles: &[u32; CODES],
+    allowance: u32,
+    figures: &mut [i64; FIGURES],
+    count: &mut usize,
+    systems: &mut [u8; RECORDS],
+    codes: &mut [u8; RECORDS],
+    parts: &mut [u32; RECORDS],
+) -> Reply
+    ensures { λ r. let x = moleSearchOutcome (now (moles .entry)) allowance in
+        let answer = x .answer in let split = x .split in ⌜ (r ≡ replyOf answer)
+        × (now (figures .exit) ≡ figuresOf answer (now (figures .entry)))
+        × (now (count .exit) ≡ bufferOf answer (split .count) (now (count .entry)))
+        × (now (systems .exit) ≡ bufferOf answer (split .systems) (now (systems .entry)))
+        × (now (codes .exit) ≡ bufferOf answer (split .codes) (now (codes .entry)))
+        × (now (parts .exit) ≡ bufferOf answer (split .amounts) (now (parts .entry))) ⌝ }
+{
+    let gas = *moles;
+    let found = searched_moles(gas, allowance);
+    put_outcome(found, figures, count, systems, codes, parts)
+}
+
+// Rates a mole analysis with a proposed split.
+pub fn rate_moles_split(
+    moles: &[u32; CODES],
+    count: usize,
+    systems: &[u8; RECORDS],
+    codes: &[u8; RECORDS],
+    parts: &[u32; RECORDS],
+    figures: &mut [i64; FIGURES],
+) -> Reply
+    ensures { λ r. let p = splitFrom count (now (systems .entry)) (now (codes .entry)) (now (parts .entry)) in
+        let x = moleSplitAnswer (now (moles .entry)) p in ⌜ (r ≡ replyOf x)
+        × (now (figures .exit) ≡ figuresOf x (now (figures .entry))) ⌝ }
+{
+    let split = split_from(count, systems, codes, parts);
+    let gas = *moles;
+    let rated = proposed_moles(gas, split);
     put_figures(rated, figures);
     reply_of(rated)
 }

@@ -1,14 +1,16 @@
 -- What the C interface answers, and what it leaves in each buffer. Assumes nothing.
 --
 -- A reply is an answer's number with its place, and a refusal leaves every buffer as it was: by what each case of the
--- answer is, as the crate that has it says (`AnswerCases`, `PartialCases`, `ReadingCases`, `WrittenCases`). `x` is the
--- answer of the library's function, and `old` is what the buffer held.
+-- answer is, as the crate that has it says (`AnswerCases`, `PartialCases`, `CheckedCases`, `ReadingCases`,
+-- `WrittenCases`). `x` is the answer of the library's function, and `old` is what the buffer held.
 use mathlib.Core.List.{List}
 use Prim.Native.Nat.{ℕ}
 use lib.ListN.{length}
 use lib.IntN.{ℤ}
 use Rattle.ternary.specs.declared.Partial.{Partial}
 use Rattle.ternary.specs.PartialCases as partial
+use Rattle.analysis.specs.declared.Checked.{Checked}
+use Rattle.analysis.specs.CheckedCases as checked
 use Rattle.sheet.specs.declared.Split.{Split}
 use Rattle.sheet.specs.declared.Reading.{Reading}
 use Rattle.sheet.specs.ReadingCases as reading
@@ -18,9 +20,9 @@ use Rattle.split.specs.AnswerCases as answer
 use Rattle.split.specs.declared.Answer.{Answer}
 use Rattle.c_reply.specs.declared.Reply.{Reply}
 
--- the version, 1.5.0: 10000, 100 and 1 times its three figures
+-- the version, 1.6.0: 10000, 100 and 1 times its three figures
 abbrev pub VERSION : ℕ
-VERSION = 10500
+VERSION = 10600
 
 abbrev pub reply : ℕ → ℕ → Reply
 reply number place = record { number = number; place = place }
@@ -37,6 +39,14 @@ partialReply x = reply (partial.numberOf x) (partial.placeOf x)
 
 abbrev pub partialIn : Partial → ℤ → ℤ
 partialIn x old = partial.figuresOf x old
+
+-- ---- a conversion
+
+abbrev pub convertedReply : Checked → Reply
+convertedReply x = reply (checked.numberOf x) (checked.faultOf x)
+
+abbrev pub convertedOr : Checked → List ℕ → List ℕ → List ℕ
+convertedOr x new old = checked.bufferOf x new old
 
 -- ---- reading
 

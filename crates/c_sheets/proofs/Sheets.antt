@@ -13,19 +13,19 @@ use Rattle.sheet.specs.declared.Written.the-variants.{Length, Refused}
 use Rattle.c_reply.specs.Interface.{reply, readReply, readOr, writtenReply, writtenLength}
 use Rattle.c_reply.specs.declared.Reply.{Reply}
 
--- ---- writing, of the split `q` that `p` is
+-- ---- writing, of the parts `a` that `v` are and the split `q` that `p` is
 
-module _ (a : List ℕ) (p q : Split) (b : List ℕ) (r : Written) (left : List ℕ) (e : p ≡ q)
-    (w : (r ≡ writtenOf a p (length b)) × (left ≡ leftOf a p b)) where
+module _ (v a : List ℕ) (p q : Split) (b : List ℕ) (r : Written) (left : List ℕ) (d : v ≡ a) (e : p ≡ q)
+    (w : (r ≡ writtenOf v p (length b)) × (left ≡ leftOf v p b)) where
   answered : r ≡ writtenOf a q (length b)
-  answered = w .0 ∙ ap (λ (s : Split). writtenOf a s (length b)) e
+  answered = w .0 ∙ (λ i. writtenOf (d i) (e i) (length b))
 
   written : (o : Reply) (n old : ℕ) → o ≡ writtenReply r → n ≡ writtenLength r old
       → (o ≡ writtenReply (writtenOf a q (length b))) × (left ≡ leftOf a q b)
       × (n ≡ writtenLength (writtenOf a q (length b)) old)
   written o n old f g = (
     f ∙ ap writtenReply answered,
-    w .1 ∙ ap (λ (s : Split). leftOf a s b) e,
+    w .1 ∙ (λ i. leftOf (d i) (e i) b),
     g ∙ ap (λ (x : Written). writtenLength x old) answered,
   )
 

@@ -3,10 +3,10 @@
 //
 // No public function has a `requires`.
 ghost use mathlib.Core.Path.{_≡_};
+ghost use Rattle.analysis.specs.Amounts.{volumesIn};
 ghost use Rattle.sheet.specs.Read.{readOf};
 ghost use Rattle.sheet.specs.Write.{writtenOf, leftOf};
 ghost use Rattle.c_reply.specs.Interface.{splitFrom, bytesIn, readReply, readOr, writtenReply, writtenLength};
-use analysis::Analysis;
 use analysis::CODES;
 use c_reply::Reply;
 use c_reply::refused;
@@ -27,7 +27,7 @@ pub fn read_sheet(
 ) -> Reply
     ensures { λ r. let x = readOf (now (sheet .entry)) in
         let answer = x .answer in let split = x .split in ⌜ (r ≡ readReply answer)
-        × (now (amounts .exit) ≡ readOr answer (x .analysis .amounts) (now (amounts .entry)))
+        × (now (amounts .exit) ≡ readOr answer (volumesIn (x .analysis)) (now (amounts .entry)))
         × (now (count .exit) ≡ readOr answer (split .count) (now (count .entry)))
         × (now (systems .exit) ≡ readOr answer (split .systems) (now (systems .entry)))
         × (now (codes .exit) ≡ readOr answer (split .codes) (now (codes .entry)))
@@ -42,7 +42,7 @@ pub fn read_sheet(
     } = answer {
         return refused(number, carried(number, code, place));
     }
-    let read_amounts = read.analysis.amounts;
+    let read_amounts = analysis::parts(read.analysis);
     *amounts = read_amounts;
     *count = read.split.count;
     let read_systems = read.split.systems;
@@ -73,7 +73,8 @@ pub fn write_sheet(
         × (now (length .exit) ≡ writtenLength x (now (length .entry))) ⌝ }
 {
     let given = split_from(count, systems, codes, parts);
-    let written = writer::write(Analysis { amounts: *amounts }, given, buffer);
+    let gas = *amounts;
+    let written = writer::write(analysis::of_parts(gas), given, buffer);
     match written {
         Written::Length(n) => {
             *length = n;

@@ -4,15 +4,18 @@
 //
 // No public function has a `requires`.
 ghost use mathlib.Core.Path.{_≡_};
+ghost use Rattle.analysis.specs.Amounts.{volumesIn};
 ghost use Rattle.sheet.specs.Read.{readOf};
 ghost use Rattle.sheet.specs.Write.{writtenOf, leftOf};
 ghost use Rattle.ternary.specs.Answer.{partialOf};
 ghost use Rattle.whole_number.specs.Whole.{wholeNumber};
 ghost use Rattle.controller.specs.Record.{recordOf};
 ghost use Rattle.split.specs.AnswerCases.{figuresOf, bufferOf};
-ghost use Rattle.outcome.specs.Rate.{splitAnswer, searchOutcome, sheetOutcome};
+ghost use Rattle.outcome.specs.Rate.{splitAnswer, searchOutcome, sheetOutcome, moleSplitAnswer, moleSearchOutcome};
+ghost use Rattle.analysis.specs.Check.{molesCheckedOf};
+ghost use Rattle.conversion.specs.Conversion.{volumesOf};
 ghost use Rattle.c_reply.specs.Interface.{VERSION, replyOf, splitFrom, bytesIn};
-ghost use Rattle.c_reply.specs.Interface.{partialReply, partialIn, readReply, readOr};
+ghost use Rattle.c_reply.specs.Interface.{partialReply, partialIn, convertedReply, convertedOr, readReply, readOr};
 ghost use Rattle.c_reply.specs.Interface.{writtenReply, writtenLength};
 use analysis::CODES;
 use c_ratings::FIGURES;
@@ -20,8 +23,8 @@ use c_reply::Reply;
 use controller::ControllerRecord;
 use sheet::RECORDS;
 
-// The version, 1.5.0: 10000, 100 and 1 times its three figures.
-const VERSION: u32 = 10500;
+// The version, 1.6.0: 10000, 100 and 1 times its three figures.
+const VERSION: u32 = 10600;
 
 // The library's version.
 #[no_mangle]
@@ -91,6 +94,54 @@ pub extern "C" fn saugrinte_rate_split(
     c_ratings::rate_split(amounts, count, systems, codes, parts, figures)
 }
 
+// Rates a mole analysis by the search.
+#[no_mangle]
+pub extern "C" fn saugrinte_search_moles(
+    moles: &[u32; CODES],
+    allowance: u32,
+    figures: &mut [i64; FIGURES],
+    count: &mut usize,
+    systems: &mut [u8; RECORDS],
+    codes: &mut [u8; RECORDS],
+    parts: &mut [u32; RECORDS],
+) -> Reply
+    ensures { λ r. let x = moleSearchOutcome (now (moles .entry)) allowance in
+        let answer = x .answer in let split = x .split in ⌜ (r ≡ replyOf answer)
+        × (now (figures .exit) ≡ figuresOf answer (now (figures .entry)))
+        × (now (count .exit) ≡ bufferOf answer (split .count) (now (count .entry)))
+        × (now (systems .exit) ≡ bufferOf answer (split .systems) (now (systems .entry)))
+        × (now (codes .exit) ≡ bufferOf answer (split .codes) (now (codes .entry)))
+        × (now (parts .exit) ≡ bufferOf answer (split .amounts) (now (parts .entry))) ⌝ }
+{
+    c_ratings::rate_moles_by_search(moles, allowance, figures, count, systems, codes, parts)
+}
+
+// Rates a mole analysis with a proposed split.
+#[no_mangle]
+pub extern "C" fn saugrinte_rate_split_moles(
+    moles: &[u32; CODES],
+    count: usize,
+    systems: &[u8; RECORDS],
+    codes: &[u8; RECORDS],
+    parts: &[u32; RECORDS],
+    figures: &mut [i64; FIGURES],
+) -> Reply
+    ensures { λ r. let p = splitFrom count (now (systems .entry)) (now (codes .entry)) (now (parts .entry)) in
+        let x = moleSplitAnswer (now (moles .entry)) p in ⌜ (r ≡ replyOf x)
+        × (now (figures .exit) ≡ figuresOf x (now (figures .entry))) ⌝ }
+{
+    c_ratings::rate_moles_split(moles, count, systems, codes, parts, figures)
+}
+
+// The volume amounts made from a mole analysis.
+#[no_mangle]
+pub extern "C" fn saugrinte_convert(moles: &[u32; CODES], amounts: &mut [u32; CODES]) -> Reply
+    ensures { λ r. let x = molesCheckedOf (now (moles .entry)) in ⌜ (r ≡ convertedReply x)
+        × (now (amounts .exit) ≡ convertedOr x (volumesOf (now (moles .entry))) (now (amounts .entry))) ⌝ }
+{
+    c_conversion::convert(moles, amounts)
+}
+
 // The partial number of a system.
 #[no_mangle]
 pub extern "C" fn saugrinte_partial_number(
@@ -118,7 +169,7 @@ pub extern "C" fn saugrinte_read(
 ) -> Reply
     ensures { λ r. let x = readOf (now (sheet .entry)) in
         let answer = x .answer in let split = x .split in ⌜ (r ≡ readReply answer)
-        × (now (amounts .exit) ≡ readOr answer (x .analysis .amounts) (now (amounts .entry)))
+        × (now (amounts .exit) ≡ readOr answer (volumesIn (x .analysis)) (now (amounts .entry)))
         × (now (count .exit) ≡ readOr answer (split .count) (now (count .entry)))
         × (now (systems .exit) ≡ readOr answer (split .systems) (now (systems .entry)))
         × (now (codes .exit) ≡ readOr answer (split .codes) (now (codes .entry)))

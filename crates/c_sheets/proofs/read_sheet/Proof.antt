@@ -1,5 +1,6 @@
 -- `c_sheets::read_sheet` meets its contract. Assumes nothing.
 use mathlib.Core.Path.{refl, ap, _∙_}
+use Rattle.analysis.specs.Amounts.{volumesIn}
 use Rattle.sheet.specs.declared.Sheet.{Sheet}
 use Rattle.c_reply.specs.Interface.{reply}
 use Rattle.c_sheets.proofs.Sheets.{reply-is, left-is}
@@ -35,12 +36,17 @@ returns c =
 enum-told : tie.Need-enum-told
 enum-told c = search needs
 
+parts-requires : tie.Need-parts-requires
+parts-requires c κs = search needs
+
 returns-2 : tie.Need-returns-2
 returns-2 c =
-    let h = c .before .before .before .before .before .before .read .ensures in
-    let e = c .before .before .before .before .enum-told .given .1 in (
+    let p = c .before .before .before in
+    let t = p .before in
+    let h = t .before .before .read .ensures in
+    let e = t .enum-told .given .1 in (
       reply-is _ _ h _ e _ refl,
-      left-is _ _ h _ e _ _ _ (ap (λ (x : Sheet). x .analysis .amounts) h),
+      left-is _ _ h _ e _ _ _ (p .parts .ensures ∙ ap (λ (x : Sheet). volumesIn (x .analysis)) h),
       left-is _ _ h _ e _ _ _ (ap (λ (x : Sheet). x .split .count) h),
       left-is _ _ h _ e _ _ _ (ap (λ (x : Sheet). x .split .systems) h),
       left-is _ _ h _ e _ _ _ (ap (λ (x : Sheet). x .split .codes) h),
@@ -50,4 +56,12 @@ returns-2 c =
 pub read-sheet-spec : {M : Type 1} → statement M
 read-sheet-spec =
     tie.close
-    (tie.spec read-requires enum-known-answer carried-requires refused-requires returns enum-told returns-2)
+    (tie.spec
+    read-requires
+    enum-known-answer
+    carried-requires
+    refused-requires
+    returns
+    enum-told
+    parts-requires
+    returns-2)
