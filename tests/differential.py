@@ -101,9 +101,17 @@ def search(analysis, allowance):
     return gases.searched(analysis) if allowance >= ref.MOST_ROUNDS else ref.search(analysis, allowance)
 
 
+def given(count, records):
+    """So many records; no split has the count where fewer are given, for the driver fills no record that fits."""
+    return records[:count] if count <= len(records) else ()
+
+
 def rate_split(analysis, count, records):
-    """Of so many records; no split has the count where fewer are given, for the driver fills no record that fits."""
-    return ref.rate_split(analysis, records[:count] if count <= len(records) else ())
+    return ref.rate_split(analysis, given(count, records))
+
+
+def search_moles(moles, allowance):
+    return gases.searched_moles(moles) if allowance >= ref.MOST_ROUNDS else ref.search_moles(moles, allowance)
 
 
 def read(sheet):
@@ -156,6 +164,23 @@ class Cases:
         self.add(kind, 'split %02x %d %s %s' % (fill, count, amounts(analysis).hex(), packed(records)),
                  replied(result, figures(fill, result)))
 
+    def search_moles(self, kind, moles, allowance):
+        fill, result = self.next_fill(), search_moles(moles, allowance)
+        found = None if isinstance(result, ref.Refusal) else result.split
+        self.add(kind, 'search-moles %02x %d %s' % (fill, allowance, amounts(moles).hex()),
+                 replied(result, figures(fill, result) + split_blocks(fill, found)))
+
+    def split_moles(self, kind, moles, count, records):
+        fill, result = self.next_fill(), ref.rate_split_moles(moles, given(count, records))
+        self.add(kind, 'split-moles %02x %d %s %s' % (fill, count, amounts(moles).hex(), packed(records)),
+                 replied(result, figures(fill, result)))
+
+    def convert(self, kind, moles):
+        fill, result = self.next_fill(), ref.convert(moles)
+        made = None if isinstance(result, ref.Refusal) else amounts(result)
+        self.add(kind, 'convert %02x %s' % (fill, amounts(moles).hex()),
+                 replied(result, block(fill, made, 4 * CODES)))
+
     def write(self, kind, analysis, count, records, low, high):
         fill = self.next_fill()
         expected = []
@@ -164,8 +189,8 @@ class Cases:
             if count not in ref.SPLIT_COUNTS:
                 result = ref.Refusal(1)
             else:
-                given = (*(records or ()), *((fill, fill, fill * 0x01010101),) * RECORDS)[:count]
-                result = ref.write(analysis, given, buffer)
+                whole = (*(records or ()), *((fill, fill, fill * 0x01010101),) * RECORDS)[:count]
+                result = ref.write(analysis, whole, buffer)
             length = None if isinstance(result, ref.Refusal) else big((result,), WORD)
             expected.append(replied(result, block(fill, bytes(buffer), room) + block(fill, length, WORD)))
         self.add(kind, 'write %02x %d %s %s %d %d' % (fill, count, amounts(analysis).hex(), packed(records), low, high),
@@ -647,6 +672,155 @@ def fault_cases(cases, seed):
             faulty_analysis_cases(cases, draw, kind, tuple(a), code)
 
 
+# ------------------------------------------------------------ analyses in moles
+
+MOLE_TOTALS = 999899, 999900, 1000100, 1000101
+HYDROGEN_IN_MOLES = 1, 9, 10, 100000, 100001, U32 - 1
+MOLE_GASES, MOLE_HALVES = 8, 2      # gases with found splits, and with a volume on a half, in a part
+# Moles whose search would end rated after 4142, 4390 and 4675 rounds: refused 11 by an allowance of 5000 too.
+LONG_MOLES = ((0, 737554, 18244, 101, 18571, 29185, 500, 19999, 19999, 0, 5698, 50, 149999, 0, 0, 0),
+              (0, 784550, 6117, 100, 39999, 33125, 11, 10590, 19999, 0, 5509, 100000, 0, 0, 0, 0),
+              (0, 637268, 8428, 101, 40000, 39351, 10, 5355, 19488, 0, 0, 99999, 150000, 0, 0, 0))
+# Splits of a mole analysis: the found one, changed ones, the start, any that re-sums, another gas's, and the one found
+# for the same amounts by volume.
+MOLE_SPLITS = (*gases.FOUND_KINDS, *gases.WRONG_KINDS, 'start', 'wide', 'other-gas', 'of-volumes')
+
+
+def mole_call_cases(cases, draw, kind, moles, wanted=None, allowances=(0, 3, ref.MOST_ROUNDS)):
+    """By each call that takes moles; where 18, 5 or 15 is wanted, the reference has to say so too."""
+    refusal = ref.check_moles(moles)
+    if wanted is not None and refusal != wanted:
+        raise Difference('the reference has %s for the moles %s, not %s' % (refusal, moles, wanted))
+    cases.convert(kind + ', made', moles)
+    cases.search_moles(kind, moles, draw.pick(allowances))
+    records = gases.random_records(draw) if refusal else gases.start_split(ref.volumes_of(moles))
+    count = draw.pick((len(records), len(records), draw.pick(COUNTS)))
+    cases.split_moles(kind + ', proposed', moles, count, records)
+
+
+def mole_end_cases(cases, draw):
+    """Each code at either end of its range and one part beyond; each total at and beyond its ends."""
+    for code in gases.MOLE_CODES:
+        least, greatest = ref.RANGE[code]
+        for word, amount in (('below', least - 1), ('least', least), ('greatest', greatest), ('above', greatest + 1)):
+            moles = gases.moles_with(draw, code, amount)
+            wanted = ref.Refusal(5, code) if word in ('below', 'above') else None
+            mole_call_cases(cases, draw, 'moles, code %d %s' % (code, word), moles, wanted, (4000, 5000))
+    for total in MOLE_TOTALS:
+        for _ in range(3):
+            a = list(gases.moles_with(draw, 12, draw.between(500, 50000)))
+            a[12] += total - sum(a)
+            wanted = None if ref.LEAST_TOTAL <= total <= ref.GREATEST_TOTAL else ref.Refusal(15)
+            mole_call_cases(cases, draw, 'moles, total %d' % total, tuple(a), wanted, (4000, 5000))
+    while True:                 # out of total and out of range: 5 goes before 15
+        a = list(gases.mole_gas(draw))
+        a[1] -= 500
+        code = draw.pick(gases.MOLE_CODES)
+        a[code] = wrong_amount(draw, code)
+        if not 999900 <= sum(a) <= 1000100:
+            return mole_call_cases(cases, draw, 'moles, range and total', tuple(a), ref.Refusal(5, code))
+
+
+def mole_fault_cases(cases, draw):
+    """Hydrogen alone, beside other faults and a wrong total: 18 goes before all; the lowest of several codes at fault,
+    those that no analysis has among them."""
+    for amount in HYDROGEN_IN_MOLES:
+        a = list(gases.mole_gas(draw))
+        a[15] = amount
+        if amount <= 1000:      # the total stays as it was
+            a[1] -= amount
+        mole_call_cases(cases, draw, 'moles, hydrogen', tuple(a), ref.Refusal(18))
+        for code in some_of(draw, range(15), draw.between(1, 3)):
+            a[code] = wrong_amount(draw, code)
+        mole_call_cases(cases, draw, 'moles, hydrogen and codes at fault', tuple(a), ref.Refusal(18))
+        a = list(gases.mole_gas(draw))
+        a[1], a[15] = draw.pick((0, a[1] - 5000, a[1] + 5000)), amount
+        mole_call_cases(cases, draw, 'moles, hydrogen and total', tuple(a), ref.Refusal(18))
+    for code in range(15):
+        a = list(gases.mole_gas(draw))
+        above = some_of(draw, range(code + 1, 15), draw.between(0, 3)) if code < 14 else ()
+        for c in (code, *above):
+            a[c] = wrong_amount(draw, c)
+        if code == 1 and draw.one_in(2):
+            a[1] = 0
+        mole_call_cases(cases, draw, 'moles, at fault: code %d' % code, tuple(a), ref.Refusal(5, code))
+
+
+def alone_mole_cases(cases, draw):
+    """Methane and inert gases alone: 15 goes before 16, and 16 before 7 and 11."""
+    a = list(gases.alone_gas(draw))
+    mole_call_cases(cases, draw, 'moles, methane alone', tuple(a))
+    a[12] = max(a[12], 500)
+    a[1] = draw.pick((999899, 1000101)) - sum(a[2:])
+    if ref.RANGE[1][0] <= a[1] <= ref.RANGE[1][1]:
+        mole_call_cases(cases, draw, 'moles, methane alone and total', tuple(a), ref.Refusal(15))
+
+
+def found_mole_cases(cases, exact, kind, moles):
+    """The search at allowances about its rounds; the found split put back: the same rating and spread. It."""
+    cases.convert(kind + ', made', moles)
+    result = search_moles(moles, ref.MOST_ROUNDS)
+    rounds = result.rounds if isinstance(result, ref.Rating) else ref.MOST_ROUNDS
+    for allowance in sorted({0, max(rounds, 1) - 1, rounds, 4000, 4001, 5000, U32 - 1}):
+        cases.search_moles(kind, moles, allowance)
+    if isinstance(result, ref.Refusal):
+        return None
+    back = ref.rate_split_moles(moles, result.split)
+    if isinstance(back, ref.Refusal) or back[:3] != result[:3]:
+        raise Difference('the reference does not rate the split found for the moles %s' % (moles,))
+    exact.compare(ref.volumes_of(moles), result.split, result.rating, True)
+    cases.split_moles('moles, found, put back', moles, len(result.split), result.split)
+    return result.split
+
+
+def mole_split(draw, kind, moles, found):
+    """The records of one of MOLE_SPLITS."""
+    volumes = ref.volumes_of(moles)
+    if kind in gases.FOUND_KINDS:
+        return gases.changed(draw, kind, found)
+    if kind in gases.WRONG_KINDS:
+        return gases.changed(draw, kind, draw.pick((found, gases.random_split(draw, volumes))))
+    if kind == 'start':
+        return gases.start_split(volumes)
+    if kind == 'wide':
+        return gases.random_split(draw, volumes)
+    if kind == 'other-gas':
+        return gases.start_split(ref.volumes_of(gases.mole_gas(draw)))
+    got = gases.searched(moles)
+    return gases.start_split(moles) if isinstance(got, ref.Refusal) else got.split
+
+
+def mole_cases(cases, exact, seed):
+    """Mole analyses: ends of ranges and totals, what is turned away and in which order, volumes made that lie out of
+    range or on a half, found splits and others."""
+    draw = gases.Draw(seed + 8)
+    mole_end_cases(cases, draw)
+    mole_fault_cases(cases, draw)
+    for _ in range(3):
+        alone_mole_cases(cases, draw)
+    for above, codes in enumerate((gases.BELOW, gases.ABOVE)):
+        for code in codes:
+            moles = gases.beyond_moles(draw, code, above)
+            if ref.check(ref.volumes_of(moles)).number != 5:
+                raise Difference('the volumes made from %s are in range' % (moles,))
+            kind = 'moles, volume of code %d %s' % (code, 'above' if above else 'below')
+            found_mole_cases(cases, exact, kind, moles)
+    for _ in range(MOLE_HALVES):
+        found_mole_cases(cases, exact, 'moles, volume on a half', gases.half_moles(draw))
+    made = 0
+    while made < MOLE_GASES:
+        moles = gases.mole_gas(draw)
+        found = found_mole_cases(cases, exact, 'moles', moles)
+        if found is None:
+            continue
+        made += 1
+        for kind in MOLE_SPLITS:
+            records = mole_split(draw, kind, moles, found)
+            cases.split_moles('moles, split ' + kind, moles, len(records), records)
+        count = draw.pick([n for n in COUNTS if n != len(found)])
+        cases.split_moles('moles, another count', moles, count, found)
+
+
 def at_no_code(draw, analysis):
     a = list(wide(analysis))
     a[draw.pick(NO_CODE)] = draw.pick((1, 100, U32 - 1))
@@ -707,6 +881,12 @@ def known(cases, exact, kind, sheet, shown):
         raise Difference('the reference no longer prints %s for %s' % (shown, sheet))
     sheet_cases(cases, exact, kind, bytes.fromhex(sheet))
     return result
+
+
+def long_mole_cases(cases):
+    for moles in LONG_MOLES:
+        for allowance in (4000, 4001, 5000, U32 - 1):
+            cases.search_moles('moles, more than 4000 rounds', moles, allowance)
 
 
 def kept_cases(cases, exact):
@@ -771,6 +951,7 @@ def part_cases(seed, sheets, first):
     exact, cases = Exact(seed), Cases()
     if first:
         kept_cases(cases, exact)
+        long_mole_cases(cases)
         for case in gases.share_cases(seed):
             cases.partial('ends of shares, ' + system_word(case[0]), *case)
     seldom_cases(cases, exact, seed)
@@ -778,6 +959,7 @@ def part_cases(seed, sheets, first):
     blend_cases(cases, exact, seed)
     hexanes_cases(cases, exact, seed)
     fault_cases(cases, seed)
+    mole_cases(cases, exact, seed)
     call_cases(cases, seed, sheets)
     for kind, sheet in itertools.islice(gases.sheets(seed, SEARCH_ONE_IN), sheets):
         sheet_cases(cases, exact, kind, sheet)
@@ -812,6 +994,20 @@ def show(tally):
 
 # Numbers of no system, each with a kind of its own; the systems themselves stand in LEAST.
 NO_SYSTEMS = 0, 9, 10, 11, 19, 21, U32 - 1
+
+
+def least_of_moles(kind, searched, made, proposed):
+    """The kinds of an analysis that each call with moles takes, with the numbers and how often at least."""
+    return {kind: searched, kind + ', made': made, kind + ', proposed': proposed}
+
+
+def refused_moles(kind, number, least):
+    return least_of_moles(kind, {number: least}, {number: least}, {number: least})
+
+
+def merged(*tables):
+    return {kind: numbers for table in tables for kind, numbers in table.items()}
+
 
 # Of DEFAULT_SHEETS sheets: for each kind the numbers (0 for an answer) and how often at least, about half of what the
 # seed gives; of several codes at fault, of the ends of shares and of the cases kept in tests/data all.
@@ -894,6 +1090,41 @@ LEAST = {
     **{'at fault in an analysis: code %d' % code: {5: 240} for code in (0, *range(2, 16))},
     'at fault in an analysis: code 1': {5: 120},
     'at fault in an analysis: code 1, absent': {5: 120},
+    # moles: ends of ranges and totals
+    **merged(*(refused_moles('moles, code %d %s' % (code, end), 5, 10) for code in gases.MOLE_CODES
+               for end in ('below', 'above'))),
+    **merged(*(least_of_moles('moles, code %d %s' % (code, end), {0: 5}, {0: 10}, {10: 3})
+               for code in gases.MOLE_CODES for end in ('least', 'greatest') if (code, end) != (1, 'least'))),
+    **refused_moles('moles, code 1 least', 15, 10),         # the others cannot make up the total
+    **merged(*(least_of_moles('moles, total %d' % total, {0: 15}, {0: 30}, {10: 12}) for total in MOLE_TOTALS[1:3])),
+    **merged(*(refused_moles('moles, total %d' % total, 15, 30) for total in (MOLE_TOTALS[0], MOLE_TOTALS[3]))),
+    **refused_moles('moles, range and total', 5, 10),
+    # what is turned away, and in which order
+    **merged(*(refused_moles('moles, ' + kind, 18, 60) for kind in (
+        'hydrogen', 'hydrogen and codes at fault', 'hydrogen and total'))),
+    **merged(*(refused_moles('moles, at fault: code %d' % code, 5, 10) for code in range(15))),
+    **least_of_moles('moles, methane alone', {16: 30}, {0: 30}, {16: 30}),
+    **refused_moles('moles, methane alone and total', 15, 30),
+    # volumes made that lie out of range, rated all the same, or on a half
+    **{'moles, volume of code %d below' % code: {0: 35} for code in gases.BELOW},
+    **{'moles, volume of code %d above' % code: {0: 35} for code in gases.ABOVE},
+    **{'moles, volume of code %d below, made' % code: {0: 10} for code in gases.BELOW},
+    **{'moles, volume of code %d above, made' % code: {0: 10} for code in gases.ABOVE},
+    'moles, volume on a half': {0: 100, 11: 40},
+    'moles, volume on a half, made': {0: 20},
+    # found splits, and others
+    'moles': {0: 400, 11: 250, 16: 20},
+    'moles, made': {0: 100},
+    'moles, more than 4000 rounds': {11: 12},
+    'moles, found, put back': {0: 170},
+    **{'moles, split ' + kind: {0: 35, 10: 40} for kind in ('near', 'border')},
+    **{'moles, split ' + kind: {8: 75} for kind in ('miss-by-one', 'miss', 'wrap', 'all-zero', 'of-volumes')},
+    **{'moles, split ' + kind: {10: 75} for kind in ('start', 'wide')},
+    **{'moles, split ' + kind: {7: 70} for kind in ('misfit', 'miscount')},
+    'moles, split put-back': {0: 80},
+    'moles, split empty': {9: 60, 10: 15},
+    'moles, split other-gas': {7: 20, 8: 50},
+    'moles, another count': {7: 75},
     # sheets with a split
     'split absent-held': {8: 800},
     'split alone': {16: 800},
@@ -987,7 +1218,7 @@ LEAST = {
 }
 # Each number, of all kinds together; and ratings compared with the exact fraction.
 LEAST_NUMBERS = {0: 90000, 1: 20000, 2: 4500, 3: 5000, 4: 9000, 5: 21000, 6: 6300, 7: 11000, 8: 9000, 9: 1500,
-                 10: 6000, 11: 1000, 12: 2000, 13: 1000, 14: 10000, 16: 2500, 17: 700}
+                 10: 6000, 11: 1000, 12: 2000, 13: 1000, 14: 10000, 15: 300, 16: 2500, 17: 700, 18: 500}
 LEAST_EXACT = 4000
 
 

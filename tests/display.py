@@ -1,13 +1,20 @@
 #!/usr/bin/env python3
-"""The display program itself: every byte that it writes, 0A included, compared with the independent program's line.
+"""The display programs themselves: every byte that they write, 0A included, compared with the independent program's
+line.
 
-  python3 tests/display.py PROGRAM
+  python3 tests/display.py PROGRAM MOLES
+
+PROGRAM reads sheets, MOLES mole analyses.
 
 The published gases, without a split and with the found one; the sheets kept in tests/data, at the limits of the spread
 and of the search; document 01's own cases: totals and ethane at their limits, its seven bytes, one byte more, and none;
 request One's: hexanes+ at its ceiling and above; request Five's: lean gases, with splits of six and nine records, and
 methane alone; and request Seven's: hydrogen blends, with splits of fifteen records, codes about 15, the ends of
 hydrogen's range, the longest sheet.
+
+And request Two's, 16 amounts by code and a split's section: Table A.1 as analysed, with the found split and others, the
+ends of each range and of the total, hydrogen, volumes made that are out of their ranges, methane alone; fewer bytes
+than there must be and more, counts that are not allowed, and sheets.
 """
 import os
 import subprocess
@@ -148,20 +155,118 @@ def blends():
     yield 'methane at 100, hydrogen', listed(1, 15), 'REFUSED 5\n'
 
 
-def main():
-    if len(sys.argv) != 2:
-        sys.exit(__doc__)
+MOLES = (0, 970640, 16758, 2453, 356, 253, 11, 76, 132, 0, 91, 530, 8700, 0, 0, 0)      # Table A.1
+LONGEST_MOLES = 191
+
+
+def mole_bytes(moles, split=()):
+    """What the program of mole analyses reads."""
+    return b''.join(a.to_bytes(4, 'big') for a in moles) + bytes([len(split)]) \
+        + b''.join(bytes([s, c]) + a.to_bytes(4, 'big') for s, c, a in split)
+
+
+def rate_moles(data):
+    """The independent program's answer to such bytes."""
+    if len(data) < 65 or data[64] not in ref.SPLIT_COUNTS or len(data) != 65 + 6 * data[64]:
+        return ref.Refusal(1)
+    moles = tuple(int.from_bytes(data[at:at + 4], 'big') for at in range(0, 64, 4))
+    split = [(data[at], data[at + 1], int.from_bytes(data[at + 2:at + 6], 'big')) for at in range(65, len(data), 6)]
+    return ref.rate_split_moles(moles, split) if split else ref.search_moles(moles)
+
+
+def other(**amounts):
+    a = list(MOLES)
+    for code, amount in amounts.items():
+        a[int(code[1:])] = amount
+    return a
+
+
+def mole_ends():
+    """(name, bytes, line) of both ends of each range, and one beyond each; methane is the rest of a million."""
+    for code, (least, greatest) in ref.RANGE.items():
+        for amount in (least - 1, least, greatest, greatest + 1):
+            held = {1: amount, 2: 300} if code == 1 else {2: 20000, 11: 1000, code: amount}
+            moles = [held.get(c, 0) for c in range(ref.CODES)]
+            if code != 1:
+                moles[1] = 1000000 - sum(moles)
+            line = 'REFUSED 18\n' if code == 15 else None if least <= amount <= greatest else 'REFUSED 5\n'
+            if (code, amount) == (1, least):
+                line = 'REFUSED 15\n'      # no analysis in range has so little methane and a million in all
+            answer = rate_moles(mole_bytes(moles))
+            assert line or isinstance(answer, ref.Rating), (moles, answer)
+            yield '%d of code %d in moles' % (amount, code), mole_bytes(moles), line
+
+
+def of_moles():
+    """(name, bytes, line) of request Two; None for a line that it leaves to the rules."""
+    found = ref.search_moles(MOLES).split
+    whole = mole_bytes(MOLES, found)
+    yield 'Table A.1', mole_bytes(MOLES), 'RATED 910833230 91 436527 7\n'
+    yield 'Table A.1, split put back', whole, 'RATED 910833230 91 436527 0\n'
+    yield 'six of its records', mole_bytes(MOLES, found[:6]), 'REFUSED 7\n'
+    yield 'a part less', mole_bytes(MOLES, ((*found[0][:2], found[0][2] - 1), *found[1:])), 'REFUSED 8\n'
+    for total, line in ((999899, 'REFUSED 15\n'), (999900, None), (1000100, None), (1000101, 'REFUSED 15\n')):
+        yield 'mole total %d' % total, mole_bytes(other(c1=total - 1000000 + MOLES[1])), line
+    yield 'mole total 999899, a split', mole_bytes(other(c1=970539), found), 'REFUSED 15\n'
+    yield 'ethane 99 and the total', mole_bytes(other(c1=970539, c2=99)), 'REFUSED 5\n'
+    for code in (0, 9, 13, 14):
+        yield 'an amount at %d' % code, mole_bytes(other(**{'c%d' % code: 1})), 'REFUSED 5\n'
+    for amount in (1, 10, 50000, 4294967295):
+        yield 'hydrogen %d' % amount, mole_bytes(other(c15=amount)), 'REFUSED 18\n'
+        yield 'hydrogen %d, before 5' % amount, mole_bytes(other(c0=1, c2=99, c15=amount)), 'REFUSED 18\n'
+    yield 'hydrogen, a split', mole_bytes(other(c15=10), found), 'REFUSED 18\n'
+    yield 'nothing', bytes(65), 'REFUSED 5\n'
+    yield 'bytes 255', bytes([255]) * 64 + bytes(1), 'REFUSED 18\n'
+    yield 'methane alone', mole_bytes(METHANE), 'REFUSED 16\n'
+    yield 'methane alone, a split', mole_bytes(METHANE, found), 'REFUSED 16\n'
+    for name, analysis in (('biomethane', BIOMETHANE), ('no butane', NO_BUTANE), ('neo-pentane alone', PENTANES)):
+        yield name + ' in moles', mole_bytes(analysis), None
+        yield name + ' in moles, split put back', mole_bytes(analysis, ref.search_moles(analysis).split), None
+    below = (0, 999000, 100, *[0] * 8, 900, 0, 0, 0, 0)
+    assert ref.check(ref.volumes_of(below)) == ref.Refusal(5, 2)
+    yield 'a volume made below its range', mole_bytes(below), None
+    yield from mole_ends()
+    longest = mole_bytes(MOLES, (found * 3)[:21])
+    assert len(longest) == LONGEST_MOLES
+    yield '191 bytes', longest, 'REFUSED 7\n'
+    for size in (0, 1, 63, 64, 65, 66, 100, 118):
+        yield '%d bytes of a split put back' % size, whole[:size], 'REFUSED 1\n'
+    yield '190 bytes', longest[:-1], 'REFUSED 1\n'
+    for more in (b'\0', b'\n', bytes(1000)):
+        yield '%d bytes more' % len(more), longest + more, 'REFUSED 1\n'
+        yield '%d bytes more, nine records' % len(more), whole + more, 'REFUSED 1\n'
+        yield '%d bytes more, no split' % len(more), mole_bytes(MOLES) + more, 'REFUSED 1\n'
+    for count in (1, 3, 7, 22, 24, 255):
+        yield '%d records' % count, mole_bytes(MOLES, (found * 29)[:count]), 'REFUSED 1\n'
+
+
+def compare(program, cases, answer):
+    """Runs the program on each case; how many there are."""
     count = 0
-    for name, sheet, line in (*scope(), *lean(), *blends(), *published(), *limits()):
-        wanted = ref.display(ref.rate(sheet))
+    for name, data, line in cases:
+        wanted = ref.display(answer(data))
         if line not in (None, wanted):
             sys.exit('display: %s: %r is known, the reference has %r' % (name, line, wanted))
-        run = subprocess.run([sys.argv[1]], input=sheet, capture_output=True)
+        run = subprocess.run([program], input=data, capture_output=True)
         if (run.returncode, run.stdout, run.stderr) != (0, wanted.encode('ascii'), b''):
             sys.exit('display: %s: wrote %r for %r (status %d, errors %r)' % (
                 name, run.stdout, wanted.encode('ascii'), run.returncode, run.stderr))
         count += 1
-    print('display: %d sheets of up to %d bytes, and longer ones, print their lines, byte for byte' % (count, LONGEST))
+    return count
+
+
+def main():
+    if len(sys.argv) != 3:
+        sys.exit(__doc__)
+    sheets = compare(sys.argv[1], (*scope(), *lean(), *blends(), *published(), *limits()), ref.rate)
+    analyses = list(of_moles())
+    moles = compare(sys.argv[2], analyses, rate_moles)
+    # Neither takes the other's bytes.
+    compare(sys.argv[1], [(name + ' as a sheet', data, 'REFUSED 1\n') for name, data, _ in analyses], ref.rate)
+    compare(sys.argv[2], [('sheet %d in moles' % i, ref.layout(TABLE_A1, split), 'REFUSED 1\n')
+                          for i, split in enumerate((None, ref.search(TABLE_A1).split))], rate_moles)
+    print('display: %d sheets of up to %d bytes, %d mole analyses of up to %d, and longer ones, print their lines, '
+          'byte for byte' % (sheets, LONGEST, moles, LONGEST_MOLES))
 
 
 if __name__ == '__main__':

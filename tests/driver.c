@@ -5,6 +5,9 @@
      read       FILL HEX
      search     FILL ALLOWANCE AMOUNTS
      split      FILL COUNT AMOUNTS RECORDS
+     search-moles FILL ALLOWANCE AMOUNTS                 (AMOUNTS are moles in these three)
+     split-moles  FILL COUNT AMOUNTS RECORDS
+     convert    FILL AMOUNTS
      write      FILL COUNT AMOUNTS RECORDS LOW HIGH     (a line for each room from LOW to HIGH)
      partial    FILL SYSTEM N1 N2 N3
      controller RATING SPREAD
@@ -284,7 +287,10 @@ static void read_sheet(void)
     free(sheet);
 }
 
-static void search(void)
+typedef saugrinte_answer search_call(const uint32_t *, uint32_t, saugrinte_figures *, size_t *, uint8_t *, uint8_t *,
+                                     uint32_t *);
+
+static void search_by(search_call *call)
 {
     int fill = fill_byte();
     uint32_t allowance = (uint32_t)number(), amounts[CODES];
@@ -292,22 +298,57 @@ static void search(void)
     uint32_t *lent = lend(amounts, sizeof amounts);
     region figures = filled(sizeof(saugrinte_figures), fill);
     columns c = filled_columns(fill);
-    put_answer(saugrinte_search(lent, allowance, at(figures), at(c.count), at(c.systems), at(c.codes), at(c.parts)));
+    put_answer(call(lent, allowance, at(figures), at(c.count), at(c.systems), at(c.codes), at(c.parts)));
     put(figures, 8);
     put_columns(c);
     give_back(lent, amounts, sizeof amounts);
 }
 
-static void split(void)
+static void search(void)
+{
+    search_by(saugrinte_search);
+}
+
+static void search_moles(void)
+{
+    search_by(saugrinte_search_moles);
+}
+
+typedef saugrinte_answer split_call(const uint32_t *, size_t, const uint8_t *, const uint8_t *, const uint32_t *,
+                                    saugrinte_figures *);
+
+static void split_by(split_call *call)
 {
     int fill = fill_byte();
     gas g;
     gas_words(&g, fill);
     lent_gas l = lend_gas(&g);
     region figures = filled(sizeof(saugrinte_figures), fill);
-    put_answer(saugrinte_rate_split(l.amounts, g.count, l.systems, l.codes, l.parts, at(figures)));
+    put_answer(call(l.amounts, g.count, l.systems, l.codes, l.parts, at(figures)));
     put(figures, 8);
     give_back_gas(l, &g);
+}
+
+static void split(void)
+{
+    split_by(saugrinte_rate_split);
+}
+
+static void split_moles(void)
+{
+    split_by(saugrinte_rate_split_moles);
+}
+
+static void convert(void)
+{
+    int fill = fill_byte();
+    uint32_t moles[CODES];
+    amounts_word(moles);
+    uint32_t *lent = lend(moles, sizeof moles);
+    region amounts = filled(4 * CODES, fill);
+    put_answer(saugrinte_convert(lent, at(amounts)));
+    put(amounts, 4);
+    give_back(lent, moles, sizeof moles);
 }
 
 static void write_sheet(void)
@@ -374,6 +415,7 @@ int main(int count, char **words)
 {
     static const struct { const char *name; void (*call)(void); } calls[] = {
         { "rate", rate }, { "read", read_sheet }, { "search", search }, { "split", split },
+        { "search-moles", search_moles }, { "split-moles", split_moles }, { "convert", convert },
         { "write", write_sheet }, { "partial", partial }, { "controller", controller }, { "whole", whole },
         { "version", version }, { "touch", touch },
     };

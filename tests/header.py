@@ -14,7 +14,8 @@ import sys
 
 ROOT = os.path.join(os.path.dirname(os.path.abspath(__file__)), '..')
 LIVE, RETIRED, SPLITS_ONLY = 'live', 'retired', 'splitsOnly'
-NOT_YET = {15, 18}          # refusals of mole analyses, which come with request Two
+# Refusals whose name in the register is not their word: there TOTAL and HYDROGEN may be no part of another name.
+WORD_OF = {'MOLE_SUM': 'MOLE_TOTAL', 'MOLE_BLEND': 'HYDROGEN_IN_MOLES'}
 
 
 def text(*path):
@@ -126,7 +127,8 @@ def main():
     # refusals: README has document 01's table, and the register its words
     words = {int(n): w for n, w in re.findall(r'^\| ([0-9]+) \| ([a-z ]+) \|', text('README.md'), re.M)}
     register = text('crates', 'refusal', 'specs', 'Register.antt')
-    entries = [(upper(w), name) for name, w in re.findall(r'^    entry ([A-Z_]+) "([a-z ]+)"', register, re.M)]
+    entries = [(upper(w), WORD_OF.get(name, name))
+               for name, w in re.findall(r'^    entry ([A-Z_]+) "([a-z ]+)"', register, re.M)]
     if [w for w, _ in entries] != [name for _, name in entries] or {w for w, _ in entries} != set(map(upper, words.values())):
         fail("the words of the register of refusals are not document 01's")
     if refusals.pop('DONE') != 0 or refusals != {upper(w): n for n, w in words.items()}:
@@ -134,8 +136,8 @@ def main():
     for name, n in refusals.items():
         if not re.search(r'SAUGRINTE_%s = %d,? +/\* %s: ' % (name, n, words[n]), header):
             fail('refusal %d is without its word' % n)
-    if sorted([*words, *NOT_YET]) != list(range(1, len(words) + len(NOT_YET) + 1)):
-        fail('refusals are not numbered from 1, with %s left free' % sorted(NOT_YET))
+    if sorted(words) != list(range(1, len(words) + 1)):
+        fail('refusals are not numbered from 1, or one is left out: %s' % sorted(words))
 
     # component codes: the register's entries, each under its name (a remark after it is left out)
     register = text('crates', 'analysis', 'specs', 'Register.antt')

@@ -27,8 +27,8 @@ ROOT = os.path.dirname(os.path.dirname(os.path.abspath(__file__)))
 DOCUMENT, README = 'docs/PROMISES.md', 'README.md'
 OTHERS = (README, 'docs/DECISIONS.md', 'docs/CONTRIBUTING.md')
 HEADINGS = [
-    'The three demands', 'The register and the sheet', 'Simplification', 'Choice of systems', 'A partial number',
-    'The split and the rating', 'The search', 'Writer, display, controller', 'What is turned away',
+    'The three demands', 'The register and the sheet', 'Moles to volumes', 'Simplification', 'Choice of systems',
+    'A partial number', 'The split and the rating', 'The search', 'Writer, display, controller', 'What is turned away',
     'Gases and their figures', 'Mistakes lying ready', 'Which form to use where', 'Raters worth nothing',
     'Public functions', "Answers' cases", 'Keys', 'Refusals', 'Must-fail edits']
 LINK = re.compile(r'\[([^][]*)\]\(([^()\s]*)\)')

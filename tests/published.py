@@ -6,7 +6,9 @@ number and the difference beside each.
 
 A small difference from a published number is no failure: the papers solve for equal partial numbers, and the search
 ends within 0.05. A difference of 1 or more ends with 1, as does one between driver and reference, a figure that the
-scope fixes and is another, and fewer examples than there are. Mix 1 of 000 Table A.10 is held to the difference that
+scope fixes and is another, and fewer examples than there are. 001's gases in moles are rated as such too: their volumes
+and answers are those of published.txt, and of Table A.1 the volumes that 001 prints, but for one in the last figure
+printed. Mix 1 of 000 Table A.10 is held to the difference that
 the choice of systems makes: the annex took A1 and A4, document 02's choice takes 4 and 8.
 """
 import os
@@ -19,6 +21,7 @@ from differential import ref
 DATA = os.path.join(d.HERE, 'data')
 BOUND = 1                   # each difference from a published number is smaller
 GASES, COMPARED = 37, 16    # examples at least, and those of them with a published number that are rated
+MOLES = 6                   # examples in moles at least
 # The annex's systems and ours where they differ, and the difference that this makes, to a hundredth.
 OTHER_SYSTEMS = {'A10-mix-1': ('A1, A4', '4, 8', '-2.64')}
 
@@ -55,6 +58,23 @@ def example_cases(cases, analysis):
     return result
 
 
+def mole_examples():
+    """{name: moles}"""
+    return {words[0]: (0, *map(int, words[1:16])) for words in map(str.split, lines('published-moles.txt'))}
+
+
+def mole_example_cases(cases, moles, analysis, result):
+    """The gas by moles: the volumes of the analysis, and the answer that it has; its found split put back."""
+    made, got = ref.convert(moles), ref.search_moles(moles)
+    if got != result or made != (got if isinstance(got, ref.Refusal) and got.number != 11 else analysis):
+        sys.exit('published: the moles %s have %s' % (moles, made if got == result else got))
+    cases.convert('moles', moles)
+    for rounds in (*range(getattr(result, 'rounds', 0)), ref.MOST_ROUNDS):
+        cases.search_moles('moles', moles, rounds)
+    records = getattr(result, 'split', ())
+    cases.split_moles('moles', moles, len(records), records)
+
+
 def show(name, published, result):
     if isinstance(result, ref.Refusal):
         at = ' code %d' % result.at if result.number == 5 else ''
@@ -87,6 +107,7 @@ PARTIAL = ((20, 1000000, 0, 0, 1000003000), (4, 1000000, 0, 0, 998693500), (7, 1
 WHOLE = ((765000000, 77), (764999999, 76), (-5000000, 0), (-5000001, -1))
 METHANE = (0, 980000, 0, 0, 0, 0, 0, 0, 0, 0, 0, 10000, 10000, 0, 0, 0)
 TABLE_A1 = (0, 970797, 16658, 2417, 346, 245, 11, 73, 125, 0, 84, 528, 8715, 0, 0, 0)
+TABLE_A1_MOLES = (0, 970640, 16758, 2453, 356, 253, 11, 76, 132, 0, 91, 530, 8700, 0, 0, 0)
 EXAMPLE_3 = (0, 859910, 50360, 12000, 1909, 1727, 0, 364, 455, 0, 545, 13270, 9460, 0, 0, 50000)
 MIX_9 = (0, 800000, 50000, 50000, 25000, 25000, 0, 0, 0, 0, 0, 0, 0, 0, 0, 50000)
 # Blends with the systems that 000 prints for them.
@@ -108,6 +129,49 @@ def hydrogen(amount):
 def hexanes(amount):
     """The gas of Table A.1 with so much hexanes+, what is more than its own for methane."""
     return changed(c1=970797 + 84 - amount, c10=amount)
+
+
+def changed_moles(**amounts):
+    """The moles of Table A.1 with these amounts for their own."""
+    return tuple(amounts.get('c%d' % code, amount) for code, amount in enumerate(TABLE_A1_MOLES))
+
+
+def fixed_moles():
+    """(line, what its answer begins with), without the reference: the order 18, 5, 15, 16, then 11 and 7; ends of
+    totals and of hexanes+; volumes that lie out of range. Volumes are worked out by hand."""
+    methane = (0, 980000, *METHANE[2:11], 20000, 0, 0, 0, 0)
+    for moles, want in (
+            (changed_moles(c15=1), '18 0'), (changed_moles(c2=99, c15=10), '18 0'),
+            (changed_moles(c0=1, c1=0, c15=100001), '18 0'), (changed_moles(c1=900000, c15=5000), '18 0'),
+            (changed_moles(c2=99), '5 2'), (changed_moles(c2=99, c6=501, c9=1), '5 2'), (changed_moles(c14=1), '5 14'),
+            (changed_moles(c1=900000, c12=49), '5 12'), (changed_moles(c10=6101), '5 10'),
+            (changed_moles(c1=970640 - 101), '15 0'), (changed_moles(c1=970640 + 101), '15 0'),
+            ((0, methane[1] - 101, *methane[2:]), '15 0')):
+        for line in ('convert 00 %s', 'search-moles 00 4000 %s', 'split-moles 00 0 %s -'):
+            yield line % d.amounts(moles).hex(), want
+    for moles, want in (
+            (changed_moles(c1=970640 - 100), '0 0'), (changed_moles(c1=970640 + 100), '0 0'),
+            (changed_moles(c1=970640 + 91 - 6100, c10=6100), '0 0'), (methane, '16 0'),
+            ((0, 999700, 0, 0, 0, 300, *[0] * 10), '0 0'), ((0, 999690, 300, *[0] * 7, 10, *[0] * 5), '0 0')):
+        yield 'search-moles 00 4000 %s' % d.amounts(moles).hex(), want
+        yield 'convert 00 %s' % d.amounts(moles).hex(), '0 0'
+    yield 'search-moles 00 0 %s' % d.amounts(TABLE_A1_MOLES).hex(), '11 0'
+    yield 'split-moles 00 9 %s -' % d.amounts(TABLE_A1_MOLES).hex(), '7 0'
+    yield 'split-moles 00 9 %s -' % d.amounts(methane).hex(), '16 0'
+    # volumes: a half goes up; one above its range, and one below; Table A.1
+    for moles, volumes in (
+            ((0, 900000, 100000, *[0] * 13), (0, 900550, 99450, *[0] * 13)),
+            ((0, 999700, 0, 0, 0, 300, *[0] * 10), (0, 999709, 0, 0, 0, 291, *[0] * 10)),
+            ((0, 999690, 300, *[0] * 7, 10, *[0] * 5), (0, 999693, 298, *[0] * 7, 9, *[0] * 5)),
+            ((0, 909661, 1139, 5177, *[0] * 7, 63178, 20810, 0, 0, 0),
+             (0, 909935, 1132, 5100, *[0] * 7, 62982, 20852, 0, 0, 0)),
+            (TABLE_A1_MOLES, tuple(volume + ONE_AWAY.get(code, 0) for code, volume in enumerate(TABLE_A1)))):
+        yield 'convert 00 %s' % d.amounts(moles).hex(), '0 0' + d.block(0, d.amounts(volumes), 4 * d.CODES)
+
+
+# 001 Table A.1 prints volumes beside the moles: where those made from the printed moles are one away in the last
+# figure.
+ONE_AWAY = {3: -1, 4: 1, 10: -1, 12: 1}
 
 
 def chosen(line):
@@ -154,6 +218,9 @@ def fixed(driver):
                           ({'c9': 1, 'c10': 9}, 9), ({'c12': 49, 'c13': 1}, 12), ({'c14': 1, 'c15': 9}, 14)):
         asked.append('search 00 4000 %s' % d.amounts(changed(**amounts)).hex())
         wanted.append('5 %d' % code)
+    for line, want in fixed_moles():
+        asked.append(line)
+        wanted.append(want)
     status, printed = d.run(driver, asked)
     if status != 0 or len(printed) != len(asked):
         sys.exit('published: the driver ended with status %d' % status)
@@ -179,11 +246,13 @@ def main():
             sys.exit('published: %s' % difference)
     count = fixed(driver)
     answers = dict(line.split(' ', 1) for line in lines('published-answers.txt'))
-    cases, table, differences, others = d.Cases(), [], [], 0
+    cases, table, differences, others, moles = d.Cases(), [], [], 0, mole_examples()
     for name, analysis, published in examples():
         result = example_cases(cases, analysis)
         if ref.display(result).strip() != answers[name]:
             sys.exit('published: published-answers.txt has another answer for ' + name)
+        if name in moles:
+            mole_example_cases(cases, moles.pop(name), analysis, result)
         table.append(show(name, published, result))
         if published == '-' or isinstance(result, ref.Refusal):
             continue
@@ -197,6 +266,9 @@ def main():
     if len(table) < GASES or len(differences) + others < COMPARED or others != len(OTHER_SYSTEMS):
         sys.exit('published: %d examples and %d published numbers, not %d and %d'
                  % (len(table), len(differences) + others, GASES, COMPARED))
+    if moles or len(mole_examples()) < MOLES:
+        sys.exit('published: %d examples in moles, %d of them no gas of published.txt'
+                 % (len(mole_examples()), len(moles)))
     tally = {}
     try:
         d.compare(driver, cases, tally)
@@ -206,9 +278,10 @@ def main():
         print('%-17s %9s %9s %10s %5s %8s %6s   %s' % (
             'gas', 'published', 'ours', 'difference', 'whole', 'spread', 'rounds', 'systems'))
         print('\n'.join(table))
-    print('published: %d gases and %d fixed figures, %d calls, driver and reference alike; at most %.2f from a '
-          'published number, and mix 1 %s by other systems'
-          % (len(table), count, sum(tally.values()) + count, max(differences), OTHER_SYSTEMS['A10-mix-1'][2]))
+    print('published: %d gases, %d of them in moles too, and %d fixed figures, %d calls, driver and reference alike; '
+          'at most %.2f from a published number, and mix 1 %s by other systems'
+          % (len(table), len(mole_examples()), count, sum(tally.values()) + count, max(differences),
+             OTHER_SYSTEMS['A10-mix-1'][2]))
 
 
 if __name__ == '__main__':

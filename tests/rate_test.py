@@ -1,10 +1,10 @@
 #!/usr/bin/env python3
 """Tests ./rate: the line of every file named, byte for byte, what standard error says of it, and the status.
 
-  python3 tests/rate_test.py PROGRAM
+  python3 tests/rate_test.py PROGRAM MOLES
 
-PROGRAM is the display program. ./rate and the tools are copied beside it, so that nothing is built here; where building
-is tested, a script stands for the toolchain.
+PROGRAM is the display program, MOLES that of mole analyses. ./rate and the tools are copied beside them, so that
+nothing is built here; where building is tested, a script stands for the toolchain.
 """
 import os
 import random
@@ -26,12 +26,14 @@ import sheet as tool  # noqa: E402
 TABLE_A1 = (0, 970797, 16658, 2417, 346, 245, 11, 73, 125, 0, 84, 528, 8715, 0, 0, 0)
 BIOMETHANE = (0, 970000, 300, 0, 0, 0, 0, 0, 0, 0, 0, 22000, 7700, 0, 0, 0)
 METHANE = (0, 980000, 0, 0, 0, 0, 0, 0, 0, 0, 0, 20000, 0, 0, 0, 0)
+MOLES = (0, 970640, 16758, 2453, 356, 253, 11, 76, 132, 0, 91, 530, 8700, 0, 0, 0)       # Table A.1
 FOUND = ref.search(TABLE_A1).split
 SIX = ref.search(BIOMETHANE).split
 TABLE = ref.layout(TABLE_A1, None)
 EXAMPLES = ('biomethane', 'hydrogen', 'table-a1')
 LEFT = "the split's %s, are not those expected: three for each system chosen for this gas"
 SIMPLIFIED = 'the split does not add up to the simplified mixture: it has '
+MADE = ' (volumes made from moles)'
 # What a command without Python may find.
 COMMANDS = ('bash', 'env', 'dirname', 'readlink', 'find', 'mktemp', 'head', 'rm', 'cat', 'touch')
 
@@ -144,9 +146,10 @@ def refused():
 class Place:
     """A copy of ./rate with its tools, and a program."""
 
-    def __init__(self, path, program):
+    def __init__(self, path, program, moles):
         self.path = path
         self.program = os.path.join(path, 'target', 'bin', 'rate')
+        self.moles = os.path.join(path, 'target', 'bin', 'rate_moles')
         os.makedirs(os.path.dirname(self.program))
         os.makedirs(os.path.join(path, 'crates'))
         open(os.path.join(path, 'crates.txt'), 'w').close()
@@ -160,6 +163,7 @@ class Place:
             os.symlink(shutil.which(command), os.path.join(self.bare, command))
         if program:
             shutil.copy(program, self.program)
+            shutil.copy(moles, self.moles)
 
     def write(self, name, data):
         with open(os.path.join(self.files, name), 'wb') as f:
@@ -307,6 +311,182 @@ def kinds(place):
         expect('a sheet of known codes', not gas.is_text(sheet) and gas.torn(sheet) is None, sheet.hex())
 
 
+def mole_lines(moles, split=None):
+    """The lines of a mole analysis, with what is said of its unit in turn."""
+    units = ('', ' mol', ' %', ' mol %', '%', 'mol%', ' % mol')
+    return ''.join('%s %s%s\n' % (c.name, gas.percent(moles[c.code]), units[c.code % len(units)])
+                   for c in gas.COMPONENTS if moles[c.code]) \
+        + ''.join('split %d %s %s\n' % (s, gas.SPLIT_NAMES[c], gas.percent(a)) for s, c, a in split or ())
+
+
+def other(**amounts):
+    a = list(MOLES)
+    for code, amount in amounts.items():
+        a[int(code[1:])] = amount
+    return tuple(a)
+
+
+def refused_moles():
+    """(moles, split, number, words): what is refused of the mole amounts, and of the volumes made."""
+    yield other(c2=99), None, 5, 'ethane 0.0099 mol % is outside 0.01 to 15 mol %'
+    yield other(c10=6101), None, 5, 'hexanes+ 0.6101 mol % is outside 0.001 to 0.61 mol %'
+    yield other(c1=999701, c6=501, c12=49), None, 5, \
+        'methane 99.9701 mol % is outside 40 to 99.97 mol %; neo-pentane 0.0501 mol % is outside 0.001 to 0.05 mol ' \
+        '%; nitrogen 0.0049 mol % is outside 0.005 to 15 mol %'
+    yield other(c1=0), None, 5, 'methane is absent'
+    yield (0,) * 16, None, 5, 'methane is absent'
+    yield other(c1=970539), None, 15, 'the total is 99.9899 mol %, outside 99.99 to 100.01 mol %'
+    yield other(c1=970741), None, 15, 'the total is 100.0101 mol %, outside 99.99 to 100.01 mol %'
+    yield other(c1=970539), ref.search_moles(MOLES).split, 15, \
+        'the total is 99.9899 mol %, outside 99.99 to 100.01 mol %'
+    for amount, percent in ((1, '0.0001'), (10, '0.001'), (50000, '5')):
+        for moles in (other(c15=amount), other(c2=99, c15=amount)):
+            yield moles, None, 18, 'hydrogen %s mol %%: a gas with hydrogen is rated from volumes alone' % percent
+    yield METHANE, None, 16, \
+        'too few: methane stands alone; ethane, propane, butanes, pentanes or hexanes+ must be there too' + MADE
+    yield METHANE, SIX, 16, \
+        'too few: methane stands alone; ethane, propane, butanes, pentanes or hexanes+ must be there too' + MADE
+    yield MOLES, SIX, 7, LEFT % '6 records, of systems 4, 8' + MADE
+    first, *rest = ref.search_moles(MOLES).split
+    sums = [sum(a for _, c, a in (first, *rest) if c == code) for code in (1, 2, 3, 14)]
+    sums[0] -= 1
+    yield MOLES, [(*first[:2], first[2] - 1), *rest], 8, SIMPLIFIED + ', '.join(
+        '%s %s %%' % pair for pair in zip(('methane', 'ethane', 'propane', 'butane'), map(gas.percent, sums))) \
+        + ', 99.9999 % in all' + MADE
+    m, e, p, b, _ = amounts = ref.simplify(ref.volumes_of(MOLES))
+    yield MOLES, [(s, ref.SPLIT_CODE[c], {(4, 0): m, (4, 1): e, (4, 2): p, (8, 3): b}.get((s, c), 0))
+                  for s, c in ref.expected((4, 7, 8))], 9, \
+        'the split leaves system 7 empty: all its amounts are 0' + MADE
+    held_at = ref.start(amounts, (4, 7, 8))
+    yield MOLES, [(s, ref.SPLIT_CODE[c], held_at[s][c]) for s, c in ref.expected((4, 7, 8))], 10, \
+        "wide: the spread of the split's partial numbers is above 0.05" + MADE
+
+
+def rated_moles():
+    """(what, moles, split) that are rated."""
+    yield 'Table A.1', MOLES, None
+    yield 'its split put back', MOLES, ref.search_moles(MOLES).split
+    yield 'the least total', other(c1=970540), None
+    yield 'the greatest total', other(c1=970740), None
+    yield 'a biomethane', BIOMETHANE, None
+    yield 'its split put back', BIOMETHANE, ref.search_moles(BIOMETHANE).split
+    # The volume made of it is 99 parts, and no range is tested of volumes made.
+    least = (0, 999000, 100, 0, 0, 0, 0, 0, 0, 0, 0, 900, 0, 0, 0, 0)
+    expect('a volume below its range', ref.check(ref.volumes_of(least)) == ref.Refusal(5, 2), ref.volumes_of(least))
+    yield 'volumes made that are out of range', least, None
+
+
+def with_moles(place):
+    """--moles: lines in mole percent by name and from standard input, rated and refused; sheets are turned away."""
+    cases = [*refused_moles()]
+    names = [place.write('moles %d' % i, mole_lines(moles, split)) for i, (moles, split, _, _) in enumerate(cases)]
+    for moles, split, number, _ in cases:
+        answer = ref.rate_split_moles(moles, split) if split else ref.search_moles(moles)
+        expect('the reference', ref.display(answer) == 'REFUSED %d\n' % number, (moles, answer))
+    numbers = [number for _, _, number, _ in cases]
+    expect('every refusal', sorted(set(numbers)) == [5, 7, 8, 9, 10, 15, 16, 18], numbers)
+    # A file without a line is turned away, so the analysis without an amount has a comment.
+    names[4] = place.write('moles 4', '# nothing\n')
+    got = place.run('--moles', *names)
+    wanted = (0, ''.join('REFUSED %d\n' % number for number in numbers).encode(),
+              ''.join('%s: %d: %s\n' % (name, *case[2:]) for name, case in zip(names, cases)))
+    for mine, theirs in zip(wanted[2].split('\n'), got[2].split('\n')):
+        expect(mine, mine == theirs, theirs)
+    expect('refusals of moles', got == wanted, got[:2])
+    for what, moles, split in rated_moles():
+        answer = ref.rate_split_moles(moles, split) if split else ref.search_moles(moles)
+        wanted = (0, ref.display(answer).encode(), 'methane number %.4f%s\n' % (answer.rating / ref.UNITS, MADE))
+        text = mole_lines(moles, split)
+        place.write('moles', text)
+        place.write('--moles', text)
+        for arguments, given in ((('--moles', 'moles'), ''), (('moles', '--moles'), ''), (('--moles',), text),
+                                 (('--moles', '-'), text), (('--moles', '--'), text),
+                                 (('--moles', '--', '--moles'), '')):
+            got = place.run(*arguments, given=given.encode())
+            expect((what, arguments), got == wanted, got)
+    with open(os.path.join(ROOT, 'examples', 'moles.txt'), 'rb') as f:
+        example = f.read()
+    place.write('moles.txt', example)
+    rated, said = b'RATED 910833230 91 436527 7\n', 'methane number 91.0833%s\n' % MADE
+    for text in (example, example + b'hydrogen 0\n', example.replace(b'\n', b' mol %\r\n').replace(b'.', b',')
+                 .replace(b'txt mol %', b'txt'), b'\xef\xbb\xbf' + example):
+        got = place.run('--moles', given=text)
+        expect('README.md', got == (0, rated, said), (text, got))
+    lean = mole_lines(BIOMETHANE)
+    wanted = ref.search_moles(BIOMETHANE)
+    for absent in ('propane 0\n', 'hexanes+ 0.0000 mol %\nhydrogen 0\n'):
+        got = place.run('--moles', given=(lean + absent).encode())
+        expect('listed at 0', got[:2] == (0, ref.display(wanted).encode()), got)
+    away = '--moles takes lines in mole percent, and '
+    place.write('sheet', TABLE)
+    place.write('torn', TABLE[:-1])
+    place.write('empty', b'')
+    sheet_said = 'rate: sheet: %sthis is a sheet, which has volumes: rate it without --moles\n' % away
+    got = place.run('--moles', 'moles.txt', 'sheet', 'torn', 'empty', '-', 'moles.txt', given=example)
+    expect('sheets', got == (1, rated * 3, 'moles.txt: %s%srate: torn: %sline 1 has byte 0B, which is no text\n'
+                             'rate: empty: %sthere are none\n-: %smoles.txt: %s' % (
+                                 said, sheet_said, away, away, said, said)), got)
+    for arguments, given, what in ((('--moles', 'sheet'), b'', sheet_said),
+                                   (('--moles',), TABLE, sheet_said.replace('rate: sheet', 'rate: standard input')),
+                                   (('--moles',), b'', 'rate: standard input: %sthere are none\n' % away)):
+        got = place.run(*arguments, given=given)
+        expect((arguments, given), got == (1, b'', what), got)
+    for text, message in (
+            (b'methane 97\nbutane 3\n',
+             "line 2: 'butane' could be i-butane or n-butane: name each, as iC4 and nC4"),
+            (b'methane 97 vol%\n',
+             'line 1: amounts are mole percent here; lines in percent by volume are rated without --moles'),
+            (b'split 4 methane 31 mol %\n',
+             "line 1: a split's amounts are percent of the simplified mixture, by volume")):
+        got = place.run('--moles', given=text)
+        expect(message, got == (1, b'', 'rate: standard input: %s\n' % message), got)
+    got = place.run('moles 0')
+    expect('mol without --moles', got[:2] == (1, b'') and got[2].endswith(
+        ': amounts are percent by volume; ./rate --moles rates lines in mole percent\n'), got)
+    got = place.run('--moles', path=place.bare)
+    expect('no Python', got == (2, b'', 'rate: python3 was not found; ./rate < SHEET works without it\n'), got)
+    for arguments in (('--mole',), ('--moles', '-x'), ('--moles=1',)):
+        got = place.run(*arguments)
+        expect(arguments, got[0] == 2 and got[1] == b'' and got[2].startswith("rate: there is no option '-"), got)
+    expect('help', place.run('--moles', '--help')[:2] == place.run('--help')[:2], '')
+    return len(cases)
+
+
+def words_of_moles(place):
+    """Words of lines that no mole analysis here has, and whatever the number and the amounts."""
+    for line, said in (('RATED -501 0 0 0', 'methane number -0.0001' + MADE),
+                       ('REFUSED 11', '11: unbalanced: the search found no split whose partial numbers have a spread '
+                        'of 0.05 or less' + MADE),
+                       ('REFUSED 1', '1: torn: a count is not allowed, bytes are missing or bytes are left over'),
+                       ('REFUSED 15', '15: mole total: the mole amounts add up to less than 99.99 mol % or more than '
+                        '100.01 mol %'),
+                       ('REFUSED 18', '18: hydrogen in moles: a mole analysis has hydrogen'),
+                       ('REFUSED 99', "99: refused: README.md's table of refusals tells more"),
+                       ('RATED 910833230 91 436527 7 EDGE', 'methane number 91.0833' + MADE)):
+        place.script(place.moles, 'echo %s\n' % line)
+        got = place.run('--moles', 'moles.txt')
+        expect(line, got == (0, line.encode() + b'\n', said + '\n'), got)
+    place.script(place.moles, 'exit 3\n')
+    got = place.run('--moles', 'moles.txt')
+    expect('a program that fails', got == (2, b'', 'rate: the display program ended with status 3\n'), got)
+    draw, several = random.Random(5), 0
+    for _ in range(1000):
+        moles = [0] * 16
+        for code, (least, greatest) in ref.RANGE.items():
+            moles[code] = draw.choice((0, 1, least - 1, least, greatest, greatest + 1, draw.randint(least, greatest)))
+        _, sheet = tool.of_mole_lines(b'#\n' + mole_lines(moles).encode())
+        for number in (*range(20), 99):
+            said = explain.explain_moles('REFUSED %d\n' % number, sheet)
+            expect('words', said.startswith('%d: ' % number) and '\n' not in said and said.isascii(), (number, moles))
+        answer = ref.check_moles(moles)
+        if answer and answer.number == 5:
+            said = explain.explain_moles('REFUSED 5\n', sheet)
+            codes = [named(part) for part in said[len('5: '):].split('; ')]
+            expect('the codes', codes == at_fault(sheet) and codes[:1] == [answer.at], (answer, said))
+            several += len(codes) > 1
+    expect('several codes of moles', several >= 100, several)
+
+
 def statuses(place):
     """What cannot be read or understood, options, and standard output that is shut."""
     place.write('good', tool.lines(TABLE))
@@ -421,9 +601,10 @@ def words(place):
     expect('several codes', several >= 200, several)
 
 
-def building(path, program):
-    """Where the program is not there, or older than a source: the toolchain's script builds it, fails or is missing."""
-    place = Place(path, None)
+def building(path, program, moles):
+    """Where the program is not there, or older than a source: the toolchain's script builds it, fails or is missing.
+    Each of the two programs is built where it is needed."""
+    place = Place(path, None, None)
     place.write('good', tool.lines(TABLE))
     building_said = 'rate: proving and building the program; this takes some minutes\n'
     got = place.run('good', path=place.bare + ':' + os.path.dirname(sys.executable))
@@ -446,25 +627,39 @@ def building(path, program):
     os.utime(place.program, (1, 1))
     got = place.run(given=TABLE, path=tools)
     expect('a source that is newer', got == (0, rated, building_said + 'methane number 91.0787\n'), got)
+    place.script(os.path.join(place.bare, 'rt'), '[ "$*" = "check rate_moles" ] && cat "%s" - >target/bin/rate_moles '
+                 '&& /bin/chmod +x target/bin/rate_moles\n' % os.path.abspath(moles))
+    lines = mole_lines(MOLES).encode()
+    rated_moles, said = b'RATED 910833230 91 436527 7\n', 'methane number 91.0833%s\n' % MADE
+    for what, before in (('a build for moles', building_said), ('moles a second time', '')):
+        got = place.run('--moles', given=lines, path=tools)
+        expect(what, got == (0, rated_moles, before + said), got)
+    got = place.run(given=TABLE, path=tools)
+    expect('the other program stays', got == (0, rated, 'methane number 91.0787\n'), got)
+    os.utime(place.moles, (1, 1))
+    got = place.run('--moles', given=lines, path=tools)
+    expect('a source that is newer, moles', got == (0, rated_moles, building_said + said), got)
 
 
 def main():
-    if len(sys.argv) != 2:
+    if len(sys.argv) != 3:
         sys.exit(__doc__)
     with tempfile.TemporaryDirectory() as path:
-        place = Place(os.path.join(path, 'a place'), sys.argv[1])
+        place = Place(os.path.join(path, 'a place'), *sys.argv[1:])
         count = refusals(place)
         ratings(place)
         kinds(place)
+        count += with_moles(place)
         statuses(place)
         without_python(place)
         words(place)
-        building(os.path.join(path, 'building'), sys.argv[1])
+        words_of_moles(place)
+        building(os.path.join(path, 'building'), *sys.argv[1:])
         left = sorted(os.listdir(os.path.join(place.path, 'tools')))
         expect('nothing is left in tools', left == sorted(os.listdir(os.path.join(ROOT, 'tools'))), left)
     if failures:
         sys.exit('rate: %d failed' % failures)
-    print('rate: %d refusals in words, lines and sheets by name, statuses and building stand' % count)
+    print('rate: %d refusals in words, lines, sheets and moles by name, statuses and building stand' % count)
 
 
 if __name__ == '__main__':

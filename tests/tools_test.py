@@ -1,6 +1,7 @@
 #!/usr/bin/env python3
 """Tests tools/sheet.py: the bytes it makes, the names and amounts that it takes, the way back to lines, and what it
-says of each kind of input that it cannot read; and that README.md's tables are those of the tools.
+says of each kind of input that it cannot read; lines in mole percent, as ./rate --moles takes them; and that
+README.md's tables are those of the tools.
 
   python3 tests/tools_test.py
 """
@@ -46,6 +47,8 @@ LEAN_LINES = lines(os.path.join(ROOT, 'examples', 'biomethane.txt'))
 BLEND_LINES = lines(os.path.join(ROOT, 'examples', 'hydrogen.txt'))
 COUNT = 'a split has three records for each of two to seven systems, and %d are given'
 
+BY_VOLUME = 'amounts are percent by volume; ./rate --moles rates lines in mole percent'
+
 # Every component, from the last to the first, with 21 records: 188 bytes.
 FULL = ('hydrogen', 'nitrogen', 'carbon-dioxide', 'hexanes+', 'n-pentane', 'i-pentane', 'neo-pentane', 'n-butane',
         'i-butane', 'propane', 'ethane', 'methane')
@@ -67,8 +70,9 @@ WRONG = (
     ('carbon monoxide, its amount and another', 'CO 2 0.1\n', 'line 1: a line is a component and its amount'),
     ('a thousand in two words', 'methane 1 000\n', 'line 1: a line is a component and its amount'),
     ('two percent signs', 'methane 97 % %\n', 'line 1: a line is a component and its amount'),
-    ('moles', 'methane 97.0797 mol%\n', 'line 1: amounts are percent by volume; analyses in moles'),
-    ('moles, the sign first', 'methane 97.0797 % mol\n', 'line 1: amounts are percent by volume; analyses in moles'),
+    *(('moles', 'methane 97.0797%s\n' % unit, 'line 1: %s\n' % BY_VOLUME)
+      for unit in (' mol%', ' % mol', ' mol', ' mol %', ' %mol', ' Mol-%', ' moles')),
+    ('moles in a split', 'split 4 methane 31 mol\n', 'line 1: %s\n' % BY_VOLUME),
     ('parts in a million', 'methane 970797 ppm\n', 'line 1: a line is a component and its amount'),
     ('a retired code', '9 1\n', "line 1: '9' is none of methane, ethane,"),
     ('a code', '1 97\n', "line 1: '1' is none of methane, ethane,"),
@@ -191,6 +195,24 @@ AMOUNTS = (('97', 970000), ('97.0', 970000), ('97.0797', 970797), ('97,0797', 97
            ('97,0797 %', 970797), ('97,079', 970790), ('1,2345', 12345), ('1,234', 12340), ('0,0001', 1), ('0', 0),
            ('000097.5', 975000), ('429496,7295 %', 4294967295))
 
+# What may stand after an amount in mole percent, and lines in mole percent that are turned away.
+MOLE_UNITS = ('', '%', ' %', ' mol', 'mol', ' mol%', ' mol %', 'mol%', 'mol %', ' %mol', ' % mol', '%mol', '% mol',
+              ' mole', ' mole%', ' mole %', ' % mole', ' MOL%', ' Mol %')
+WRONG_MOLES = (
+    *(('two units', 'C1 97%s\n' % units, 'a line is a component and its amount, as: methane 97.0797')
+      for units in (' mol mol', ' % %', ' mol % %', ' % mol %', ' mol % mol', ' moles', ' ppm', ' mol/mol')),
+    ('no amount', 'C1 mol %\n', 'a line is a component and its amount, as: methane 97.0797'),
+    *(('volumes', 'C1 97%s\n' % unit,
+       'amounts are mole percent here; lines in percent by volume are rated without --moles')
+      for unit in (' vol', ' vol%', ' % vol', ' %vol', ' Vol-%')),
+    *(('moles in a split', 'split 4 methane 31%s\n' % unit,
+       "a split's amounts are percent of the simplified mixture, by volume") for unit in (' mol', ' mol%', ' % mol')),
+    ('a name of two', 'C4 1 mol\n', "'C4' could be i-butane or n-butane: name each, as iC4 and nC4"),
+    ('twice', 'C1 97 mol # methane 97\n', None),
+    ('a fraction', 'C1 0.970640\n', "'0.970640' has more than four decimals; a part is 0.0001 %"),
+)
+MOLES = (0, 970640, 16758, 2453, 356, 253, 11, 76, 132, 0, 91, 530, 8700, 0, 0, 0)
+
 # (what it is, sheet, a part of the message)
 NO_LINES = (
     ('no bytes', b'', 'the sheet is torn: it has no bytes\n'),
@@ -270,6 +292,54 @@ def names():
     return count
 
 
+def mole_bytes(moles, split=()):
+    """What the program of mole analyses reads."""
+    return b''.join(a.to_bytes(4, 'big') for a in moles) + bytes([len(split)]) \
+        + b''.join(bytes([s, c]) + a.to_bytes(4, 'big') for s, c, a in split)
+
+
+def moles_of(text):
+    """What is read of lines in mole percent, or what is wrong with them."""
+    try:
+        return tool.of_mole_lines(text if isinstance(text, bytes) else text.encode())
+    except ValueError as wrong:
+        return str(wrong)
+
+
+def in_moles():
+    """Lines in mole percent: the bytes made, the units taken and turned away; no sheet is made of them."""
+    text = lines(os.path.join(ROOT, 'examples', 'moles.txt'))
+    for what, given, moles, split in (
+            ('the gas of 001 Table A.1', text, MOLES, ()), ('with a split', text + SPLIT, MOLES, FOUND),
+            ('lines in another order', '\n'.join(reversed(text.split('\n'))), MOLES, ()),
+            ('amounts of 0', text + 'hydrogen 0 mol %\n', MOLES, ()),
+            ('hydrogen', 'hydrogen 5\nC1 429496,7295 mol\n', (0, 4294967295, *[0] * 13, 50000), ()),
+            ('six records', '# none\n' + split_lines(BIOMETHANE_FOUND), (0,) * 16, BIOMETHANE_FOUND),
+            ('the longest', '#' + text + 'split 8 hydrogen 1\n' * 21, MOLES, [(8, 15, 10000)] * 21)):
+        wanted = (mole_bytes(moles, split), ref.layout(moles, split))
+        expect('moles: ' + what, moles_of(given) == wanted, moles_of(given))
+    expect('191 bytes', len(moles_of('C1 1\n' + 'split 8 hydrogen 1\n' * 21)[0]) == 191, '')
+    for unit in MOLE_UNITS:
+        for form in ('C1 97.064', 'Methane 97,0640', '"methane" 97.0640'):
+            got = moles_of(form + unit + '\n')
+            expect(form + unit, got == (mole_bytes((0, 970640, *[0] * 14)), one(1, 970640)), got)
+    for what, given, message in WRONG_MOLES:
+        got = moles_of('# 1\n' + given + given)
+        expect('moles: %s' % what, got == ('line 2: ' + message if message else 'line 3: methane is listed twice'), got)
+    away = '--moles takes lines in mole percent, and '
+    for what, given, message in (
+            ('no bytes', b'', 'there are none'),
+            ('a byte 0', b'methane 97\n\0', 'line 2 has byte 00, which is no text'),
+            ('a sheet', ref.layout(TABLE_A1, FOUND), 'this is a sheet, which has volumes: rate it without --moles'),
+            ('its own bytes', mole_bytes(MOLES), 'line 1 has byte 00, which is no text')):
+        expect('moles: ' + what, moles_of(given) == away + message, moles_of(given))
+    for arguments in (('--moles',), ('--moles', EXAMPLE), (EXAMPLE, '--moles'), ('--lines', '--moles')):
+        got = run(text, *arguments)
+        said = 'a sheet is a volume sheet and is not made from moles; ./rate --moles rates lines in mole percent'
+        expect(arguments, got[:2] == (2, b'') and got[2].startswith('sheet: %s;' % said), got)
+    return len(MOLE_UNITS)
+
+
 def there_and_back():
     """Lines of sheets make these sheets again, and lines of lines the same lines."""
     draw = random.Random(1)
@@ -296,13 +366,13 @@ def amount(draw):
 def no_traceback():
     """Whatever bytes are given, each way ends with its output or with a message."""
     draw = random.Random(2)
-    words = [b'methane', b'C1', b'hexanes+', b'split', b'4', b'97,0797', b'%', b'#', b'"', b"'", b'.', b',', b' ',
-             b'\0', b'\x01', b'\t', b'\n', b'\r', b'\xff', b'\xef\xbb\xbf', b'\xff\xfe', b'\xe2\x82\x82']
+    words = [b'methane', b'C1', b'hexanes+', b'split', b'4', b'97,0797', b'%', b'mol', b'#', b'"', b"'", b'.', b',',
+             b' ', b'\0', b'\x01', b'\t', b'\n', b'\r', b'\xff', b'\xef\xbb\xbf', b'\xff\xfe', b'\xe2\x82\x82']
     count = 0
     for _ in range(5000):
         data = b' '.join(draw.choices(words, k=draw.randint(0, 12))) if draw.random() < 0.7 \
             else bytes(draw.choices(range(draw.choice((16, 256))), k=draw.randint(0, 40)))
-        for act in (tool.of_lines, tool.lines):
+        for act in (tool.of_lines, tool.lines, lambda data: b''.join(tool.of_mole_lines(data))):
             count += 1
             try:
                 expect('an answer', isinstance(act(data), bytes), data)
@@ -390,7 +460,7 @@ def main():
     for what, data, message in NO_LINES:
         got = run(data, '--lines')
         expect(what, turned_away(*got) and got[2].startswith('sheet: ' + message) and got[2].count('\n') == 1, got)
-    named, turned, tried = names(), there_and_back(), no_traceback()
+    named, units, turned, tried = names(), in_moles(), there_and_back(), no_traceback()
     tables()
     with tempfile.TemporaryDirectory() as place:
         commands(place)
@@ -402,9 +472,10 @@ def main():
         expect('bytes that are no text', turned_away(status, out, said), (status, out, said))
     if failures:
         sys.exit('tools: %d failed' % failures)
-    print('tools: sheet.py makes %d sheets right, takes %d forms of names, turns %d sheets into lines and back, turns '
-          '%d inputs away with a clear message and ends well on %d more'
-          % (len(RIGHT) + len(TEXTS) + 1, named, turned, len(WRONG) + len(NO_LINES) + 2, tried))
+    print('tools: sheet.py makes %d sheets right, takes %d forms of names and %d units of moles, turns %d sheets into '
+          'lines and back, turns %d inputs away with a clear message and ends well on %d more'
+          % (len(RIGHT) + len(TEXTS) + 1, named, units, turned,
+             len(WRONG) + len(WRONG_MOLES) + len(NO_LINES) + 2, tried))
 
 
 if __name__ == '__main__':

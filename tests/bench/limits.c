@@ -25,7 +25,8 @@ enum { STACK = 1 << 18, PAINT = 0xA5, LINE = 4096, PASSES = 9, REPEATS = 4 };
 /* What the calls are given and what they write. */
 static uint8_t sheet[SAUGRINTE_SHEET], buffer[SAUGRINTE_SHEET];
 static size_t length, count, proposed, written;
-static uint32_t amounts[SAUGRINTE_CODES], parts[SAUGRINTE_RECORDS], read_parts[SAUGRINTE_RECORDS];
+static uint32_t amounts[SAUGRINTE_CODES], volumes[SAUGRINTE_CODES];
+static uint32_t parts[SAUGRINTE_RECORDS], read_parts[SAUGRINTE_RECORDS];
 static uint8_t systems[SAUGRINTE_RECORDS], codes[SAUGRINTE_RECORDS];
 static uint8_t read_systems[SAUGRINTE_RECORDS], read_codes[SAUGRINTE_RECORDS];
 static saugrinte_figures figures;
@@ -44,6 +45,16 @@ static void call_rate_split(void)
 {
     saugrinte_rate_split(amounts, proposed, read_systems, read_codes, read_parts, &figures);
 }
+/* The amounts as moles, where they have no hydrogen; the split proposed is the one found last. */
+static void call_search_moles(void)
+{
+    saugrinte_search_moles(amounts, SAUGRINTE_ROUNDS, &figures, &count, systems, codes, parts);
+}
+static void call_rate_split_moles(void)
+{
+    saugrinte_rate_split_moles(amounts, count, systems, codes, parts, &figures);
+}
+static void call_convert(void) { saugrinte_convert(amounts, volumes); }
 static void call_partial_number(void) { saugrinte_partial_number(20, amounts[1], amounts[11], amounts[12], &number); }
 static void call_read(void)
 {
@@ -67,6 +78,9 @@ static struct {
     { "saugrinte_rate", call_rate, 0, 0 },
     { "saugrinte_search", call_search, 0, 0 },
     { "saugrinte_rate_split", call_rate_split, 0, 0 },
+    { "saugrinte_search_moles", call_search_moles, 0, 0 },
+    { "saugrinte_rate_split_moles", call_rate_split_moles, 0, 0 },
+    { "saugrinte_convert", call_convert, 0, 0 },
     { "saugrinte_partial_number", call_partial_number, 0, 0 },
     { "saugrinte_read", call_read, 0, 0 },
     { "saugrinte_write", call_write, 0, 0 },
@@ -175,7 +189,7 @@ int main(int words, char **word)
         fail("usage: limits FILE.., files with sheets");
     printf("%zu sheets\n", sheets);
     for (int i = 1; i < CALLS; i++)
-        printf("%-26s %6zu bytes of stack  %10" PRId64 " ns\n", calls[i].name,
+        printf("%-27s %6zu bytes of stack  %10" PRId64 " ns\n", calls[i].name,
                calls[i].deepest > calls[0].deepest ? calls[i].deepest - calls[0].deepest : 0, calls[i].longest);
     return 0;
 }

@@ -5,7 +5,7 @@
 #include "saugrinte.h"
 
 enum { TORN = 1, UNKNOWN, RETIRED, OUT_OF_ORDER, OUT_OF_RANGE, TOTAL, MISFIT, UNSUMMED, EMPTY_SYSTEM, WIDE,
-       UNBALANCED, NO_MIXTURE, NO_SYSTEM, SHORT_BLANK, TOO_FEW = 16, SHARE };
+       UNBALANCED, NO_MIXTURE, NO_SYSTEM, SHORT_BLANK, MOLE_TOTAL, TOO_FEW, SHARE, HYDROGEN_IN_MOLES };
 
 enum { CODES = SAUGRINTE_CODES, ROOM = SAUGRINTE_RECORDS, ROUNDS = SAUGRINTE_ROUNDS };
 
@@ -53,9 +53,9 @@ static int in_range(int code, uint32_t amount)
     return ranges[code].least <= amount && amount <= ranges[code].greatest;
 }
 
-/* Refusal 5 with the lowest code at fault, then 6. An amount of 0 is at fault where the code is required, or is listed
-   all the same: zeros has a bit for each code that a sheet lists at 0. */
-static saugrinte_answer check(const uint32_t amounts[CODES], uint32_t zeros)
+/* Refusal 5 with the lowest code at fault, then the one for a total outside its range. An amount of 0 is at fault where
+   the code is required, or is listed all the same: zeros has a bit for each code that a sheet lists at 0. */
+static saugrinte_answer check_with(const uint32_t amounts[CODES], uint32_t zeros, uint32_t out_of_total)
 {
     uint64_t total = 0;
     for (int code = 0; code < CODES; code++) {
@@ -65,7 +65,40 @@ static saugrinte_answer check(const uint32_t amounts[CODES], uint32_t zeros)
         total += amounts[code];
     }
     if (total < 999900 || total > 1000100)
-        return refused(TOTAL, 0);
+        return refused(out_of_total, 0);
+    return done;
+}
+
+static saugrinte_answer check(const uint32_t amounts[CODES], uint32_t zeros)
+{
+    return check_with(amounts, zeros, TOTAL);
+}
+
+/* ---- moles (001 Table 2 and formula 1) ---- */
+
+/* In ten-thousandths, by code. */
+static const uint64_t factors[CODES] = {
+    0, 9981, 9920, 9829, 9720, 9681, 9608, 9521, 9473, 0, 9155, 9947, 9998, 0, 0, 0,
+};
+
+static saugrinte_answer check_moles(const uint32_t moles[CODES])
+{
+    if (moles[SAUGRINTE_HYDROGEN] != 0)
+        return refused(HYDROGEN_IN_MOLES, 0);
+    return check_with(moles, 0, MOLE_TOTAL);
+}
+
+/* The volume amounts made, where 18, 5 and 15 don't turn the moles away; they are not tested again. */
+static saugrinte_answer make_volumes(const uint32_t moles[CODES], uint32_t volumes[CODES])
+{
+    saugrinte_answer answer = check_moles(moles);
+    if (answer.number)
+        return answer;
+    uint64_t sum = 0;
+    for (int code = 0; code < CODES; code++)
+        sum += moles[code] * factors[code];
+    for (int code = 0; code < CODES; code++)
+        volumes[code] = (2 * WHOLE * (moles[code] * factors[code]) + sum) / (2 * sum);
     return done;
 }
 
@@ -750,6 +783,37 @@ saugrinte_answer saugrinte_rate_split(const uint32_t amounts[CODES], size_t coun
     if (answer.number)
         return answer;
     return rate_records(amounts, count, systems, codes, parts, figures);
+}
+
+saugrinte_answer saugrinte_search_moles(const uint32_t moles[CODES], uint32_t allowance, saugrinte_figures *figures,
+                                        size_t *count, uint8_t systems[ROOM], uint8_t codes[ROOM],
+                                        uint32_t parts[ROOM])
+{
+    uint32_t volumes[CODES];
+    split found;
+    saugrinte_answer answer = make_volumes(moles, volumes);
+    if (answer.number)
+        return answer;
+    answer = find(volumes, allowance < ROUNDS ? allowance : ROUNDS, figures, &found);
+    if (answer.number == 0)
+        put_records(&found, count, systems, codes, parts);
+    return answer;
+}
+
+saugrinte_answer saugrinte_rate_split_moles(const uint32_t moles[CODES], size_t count, const uint8_t systems[ROOM],
+                                            const uint8_t codes[ROOM], const uint32_t parts[ROOM],
+                                            saugrinte_figures *figures)
+{
+    uint32_t volumes[CODES];
+    saugrinte_answer answer = make_volumes(moles, volumes);
+    if (answer.number)
+        return answer;
+    return rate_records(volumes, count, systems, codes, parts, figures);
+}
+
+saugrinte_answer saugrinte_convert(const uint32_t moles[CODES], uint32_t amounts[CODES])
+{
+    return make_volumes(moles, amounts);
 }
 
 saugrinte_answer saugrinte_partial_number(uint32_t system, uint32_t n1, uint32_t n2, uint32_t n3, int64_t *number)

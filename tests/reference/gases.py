@@ -19,6 +19,7 @@ import sys
 import time
 from functools import lru_cache
 from itertools import combinations
+from math import gcd
 from typing import NamedTuple
 
 import saugrinte as ref
@@ -88,6 +89,11 @@ def amount_rich(draw, code):
     if code in (2, 3):
         return draw.between(least, greatest)
     return draw.between(greatest - greatest // 8, greatest)
+
+
+def amount_high(draw, code):
+    greatest = ref.RANGE[code][1]
+    return draw.between(greatest // 2, greatest)
 
 
 def amount_most(draw, code):
@@ -336,6 +342,103 @@ def any_gas(draw):
     return draw.pick(GASES)(draw)
 
 
+# ------------------------------------------------------- mole analyses
+
+# The same codes and ranges, and the same totals; no hydrogen.
+MOLE_CODES = sorted(ref.FACTOR)
+MOLE_GASES = tuple(make for make in GASES if make not in BLENDS)
+
+
+def mole_gas(draw):
+    while True:
+        a = draw.pick(MOLE_GASES)(draw)
+        if not a[ref.HYDROGEN]:
+            return a
+
+
+def moles_with(draw, code, amount):
+    """A mole analysis with so much of a code, in range but for that.  Methane
+    makes up the total, or where it is named, the others as far as they can."""
+    while True:
+        a = list(mole_gas(draw))
+        a[code] = amount
+        total = draw.between(999900, 1000100)
+        if code != 1:
+            a[1] = 0
+            a[1] = total - sum(a)
+            if in_own_range(a, 1):
+                return tuple(a)
+            continue
+        a[2:] = [0] * (ref.CODES - 2)
+        for other in draw.pick(((12, 2, 11), (3, 4, 12), (2, 10, 5), CODES[1:])):
+            if other in MOLE_CODES and total - sum(a) >= ref.RANGE[other][0]:
+                a[other] = min(total - sum(a), ref.RANGE[other][1])
+        return tuple(a)
+
+
+def in_own_range(analysis, code):
+    least, greatest = ref.RANGE[code]
+    return least <= analysis[code] <= greatest
+
+
+def half_moles(draw):
+    """Some volume amounts made fall on a half: the products add up to D
+    millions for an even D, so that an amount's volume is its product over D,
+    and methane's product is D/2 more than a multiple of D."""
+    while True:
+        a = list(draw.pick((small_gas, even_gas, lean_gas))(draw))
+        a[11] = draw.between(*ref.RANGE[11])
+        whole = sum(x * f for x, f in zip(a, FACTORS))
+        d = 2 * (whole // (2 * sum(a)))
+        step = d // gcd(FACTORS[1], d)
+        a[1] = a[11] = a[12] = 0
+        first = next((m for m in range(step)
+                      if m * FACTORS[1] % d == d // 2), None)
+        if a[ref.HYDROGEN] or first is None:
+            continue
+        others = sum(x * f for x, f in zip(a, FACTORS))
+        inverse = pow(FACTORS[11], -1, FACTORS[12])
+        found = []
+        for methane in range(first, ref.RANGE[1][1] + 1, step):
+            rest = 1000000 * d - others - methane * FACTORS[1]
+            for carbon in range(rest * inverse % FACTORS[12],
+                                ref.RANGE[11][1] + 1, FACTORS[12]):
+                b = list(a)
+                b[1], b[11] = methane, carbon
+                b[12] = (rest - carbon * FACTORS[11]) // FACTORS[12]
+                if min(b) >= 0 and not ref.check_moles(b):
+                    found.append(tuple(b))
+        if found:
+            return draw.pick(found)
+
+
+FACTORS = [ref.FACTOR.get(code, 0) for code in range(ref.CODES)]
+
+# Where the volume made of an amount in range can lie outside that range: of
+# the least amount below it, of the greatest above.
+BELOW, ABOVE = (2, 3, 8, 10), (1, 2, 11, 12)
+
+
+def beyond_moles(draw, code, above):
+    """A mole analysis whose volume of a code is out of range, above it or
+    below, and that is not methane alone."""
+    end = ref.RANGE[code][above]
+    while True:
+        if above and code in (2, 11):       # among much that is heavy
+            a = list(gas(draw, amount_high))
+            a[12] = draw.pick((0, a[12]))
+            a[code] = end
+            a[1] = 0
+            a[1] = draw.between(999900, 1000100) - sum(a)
+        else:
+            a = list(moles_with(draw, code, end))
+        if ref.check_moles(a) or not any(a[2:11]):
+            continue
+        volume = ref.volumes_of(a)[code]
+        if volume > end if above else volume < end:
+            return tuple(a)
+
+
 # -------------------------------------------------------------- splits
 
 def held_of(records):
@@ -508,6 +611,11 @@ def searched(analysis):
     return ref.search(analysis)
 
 
+@lru_cache(maxsize=512)
+def searched_moles(moles):
+    return ref.search_moles(moles)
+
+
 class Pool:
     """Gases with found splits; a new one now and then."""
 
@@ -525,6 +633,37 @@ class Pool:
             self.found.append((analysis, got.split))
             del self.found[:-self.size]
         return self.draw.pick(self.found)
+
+
+def changed(draw, kind, found):
+    """A split of one of these kinds, made from a found one or from another
+    that re-sums."""
+    if kind == "put-back":
+        return found
+    if kind == "near":
+        return moved(draw, found, draw.pick((3, 30, 300, 3000)))
+    if kind == "border":
+        return border(draw, found)
+    if kind == "miss-by-one":
+        return off_by(draw, found, draw.pick((1, -1)))
+    if kind == "miss":
+        return off_by(draw, found, draw.below(U32))
+    if kind == "wrap":
+        return wrapped(draw, found)
+    if kind == "empty":
+        return emptied(draw, found)
+    if kind == "all-zero":
+        return tuple((s, c, 0) for s, c, _ in found)
+    if kind == "misfit":
+        return misfit(draw, found)
+    if kind == "miscount":
+        return miscounted(draw, found)
+    raise ValueError(kind)
+
+
+FOUND_KINDS = ("put-back", "near", "border")
+WRONG_KINDS = ("miss-by-one", "miss", "wrap", "empty", "all-zero", "misfit",
+               "miscount")
 
 
 def any_split(draw, pool, kind):
@@ -551,29 +690,13 @@ def any_split(draw, pool, kind):
         return analysis, (miscounted(draw, records) if draw.one_in(2)
                           else misfit(draw, records))
     analysis, found = pool.pick()
-    if kind == "put-back":
-        return analysis, found
-    if kind == "near":
-        return analysis, moved(draw, found, draw.pick((3, 30, 300, 3000)))
-    if kind == "border":
-        return analysis, border(draw, found)
+    if kind in FOUND_KINDS:
+        return analysis, changed(draw, kind, found)
     if draw.one_in(2):      # the rest also from splits not found
         analysis = any_gas(draw)
         found = random_split(draw, analysis)
-    if kind == "miss-by-one":
-        return analysis, off_by(draw, found, draw.pick((1, -1)))
-    if kind == "miss":
-        return analysis, off_by(draw, found, draw.below(U32))
-    if kind == "wrap":
-        return analysis, wrapped(draw, found)
-    if kind == "empty":
-        return analysis, emptied(draw, found)
-    if kind == "all-zero":
-        return analysis, tuple((s, c, 0) for s, c, _ in found)
-    if kind == "misfit":
-        return analysis, misfit(draw, found)
-    if kind == "miscount":
-        return analysis, miscounted(draw, found)
+    if kind in WRONG_KINDS:
+        return analysis, changed(draw, kind, found)
     if kind == "other-gas":     # often one of the same systems
         systems = tuple(sorted({s for s, _, _ in found}))
         for _ in range(draw.pick((1, 20))):

@@ -1,15 +1,18 @@
 """The published examples through the reference.
 
 published.py          prints the tables; compares tests/data/published.txt,
-                      published-answers.txt and the table in README.md with
-                      what is made here
+                      published-moles.txt, published-answers.txt and the table
+                      in README.md with what is made here
 published.py --brief  the same, and prints the last line only
-published.py --write  writes the two data files, and prints README's table
+published.py --write  writes the three data files, and prints README's table
 
 A small difference from a published number is shown, and is no failure: 000
 and 001 solve for equal partial numbers, document 01 stops at 0.05.
 Differences of 1 or more, a changed refusal or a wrong choice fail, as does a
-figure on the way that is farther away than stands beside it.  Mix 1 of 000
+figure on the way that is farther away than stands beside it.  001's gases in
+moles are rated as moles, and as the volumes that formula 1 makes of them, with
+the same answer; where 001 prints volumes beside the moles, those made are at
+most one away in the last figure printed.  Mix 1 of 000
 Table A.10 is 2.64 away, for document 02's choice takes systems 4 and 8 where
 000 took 1 and 4; with these it comes to 89.99, and is shown so.
 """
@@ -26,6 +29,7 @@ import saugrinte as ref
 DATA = os.path.join(os.path.dirname(os.path.abspath(__file__)), "..", "data")
 README = os.path.join(DATA, "..", "..", "README.md")
 GASES_FILE = os.path.join(DATA, "published.txt")
+MOLES_FILE = os.path.join(DATA, "published-moles.txt")
 ANSWERS_FILE = os.path.join(DATA, "published-answers.txt")
 
 # 001 Table 2, by code.
@@ -131,17 +135,22 @@ def blend(line):
             "000 Table A.10; butane to codes 4 and 5")
 
 
+def mole_gases():
+    """{name: (mole shares in percent, published number, source)}."""
+    out = {"A1-moles": (A1_MOLES, "91.0576", "001 Table A.1")}
+    rows = [line.split() for line in A6.split("\n") if line]
+    for n in range(5):
+        out["A6-%d" % (n + 1)] = ({int(r[0]): r[n + 1] for r in rows},
+                                  A6_NUMBERS[n], "001 Table A.6")
+    return out
+
+
 def gases():
     """(name, analysis, published number or '-', source)."""
     out = [("A1-volume", analysis_of(A1_VOLUMES), "91.0576",
-            "001 Table A.1, volumes as printed"),
-           ("A1-moles", volumes_of(A1_MOLES), "91.0576",
-            "001 Table A.1, moles by formula 1")]
-    rows = [line.split() for line in A6.split("\n") if line]
-    for n in range(5):
-        out.append(("A6-%d" % (n + 1),
-                    volumes_of({int(r[0]): r[n + 1] for r in rows}),
-                    A6_NUMBERS[n], "001 Table A.6, moles by formula 1"))
+            "001 Table A.1, volumes as printed")]
+    out += [(name, volumes_of(moles), number, source + ", moles by formula 1")
+            for name, (moles, number, source) in mole_gases().items()]
     out.append(("example-1", analysis_of(EXAMPLE_1), "76.3217",
                 "000 Table A.1; number of Table A.5"))
     out.append(("example-2", analysis_of(EXAMPLE_2), "69.0336",
@@ -209,6 +218,42 @@ TIED = {"tie-me": "M", "tie-ep": "E", "tie-eb": "E", "tie-pb": "P",
         "tie-blend-two": "EP", "tie-blend-h": "H"}
 
 
+def rated(name, analysis):
+    """The answer to a gas: by moles where it has them, else as a sheet.  What
+    formula 1 makes of moles is what is rated of them, and the answer is that
+    to a sheet with these volumes, refused 5 for the same code."""
+    if name not in mole_gases():
+        return ref.rate(ref.layout(analysis, None))
+    moles = analysis_of(mole_gases()[name][0])
+    got = ref.search_moles(moles)
+    assert ref.volumes_of(moles) == analysis, name
+    assert got == ref.rate(ref.layout(analysis, None)), name
+    if isinstance(got, ref.Rating):
+        assert ref.convert(moles) == analysis, name
+        assert ref.rate_split_moles(moles, got.split) == got._replace(rounds=0)
+    return got
+
+
+# 001 prints volumes beside the moles of Table A.1.  Of those made from the
+# printed moles four are one away in the last figure.
+ONE_AWAY = {3: -1, 4: 1, 10: -1, 12: 1}
+
+
+def printed_volumes():
+    """The volumes made from the moles of 001 Table A.1 beside those printed;
+    how many."""
+    made = ref.convert(analysis_of(A1_MOLES))
+    printed = analysis_of(A1_VOLUMES)
+    print("\n%-44s %10s %10s" % ("volume from moles", "published", "ours"))
+    for code in sorted(A1_MOLES):
+        assert made[code] - printed[code] == ONE_AWAY.get(code, 0), code
+        print("%-44s %10.4f %10.4f" % ("001 Table A.1, code %d" % code,
+                                       printed[code] / 10000,
+                                       made[code] / 10000))
+    assert set(A1_MOLES) == set(A1_VOLUMES) == set(FACTOR)
+    return len(A1_MOLES)
+
+
 def show_gases():
     """The largest difference from a published number where the systems are
     those of 000, and how many numbers."""
@@ -217,7 +262,7 @@ def show_gases():
           % ("gas", "published", "ours", "diff", "whole", "spread", "rounds",
              "systems"))
     for name, analysis, number, _ in gases():
-        got = ref.rate(ref.layout(analysis, None))
+        got = rated(name, analysis)
         systems = ref.choose(ref.simplify(analysis))
         assert systems == CHOICE.get(name, (4, 7, 8)), name
         if name == "fitness-tie":
@@ -369,6 +414,14 @@ def gases_text():
     return "\n".join(lines) + "\n"
 
 
+def moles_text():
+    lines = ["# name, mole amounts in parts for codes 1 to 15; the volumes made "
+             "from them stand in published.txt"]
+    for name, (moles, _, _) in mole_gases().items():
+        lines.append(" ".join([name, *map(str, analysis_of(moles)[1:])]))
+    return "\n".join(lines) + "\n"
+
+
 def answers_text():
     lines = ["# name, display line of the sheet without a split"]
     for name, analysis, _, _ in gases():
@@ -392,7 +445,7 @@ def readme_table():
     """README's rows: every gas with a published number that is rated."""
     lines = []
     for name, analysis, number, _ in gases():
-        got = ref.search(analysis) if number != "-" else None
+        got = rated(name, analysis) if number != "-" else None
         if isinstance(got, ref.Rating):
             ours = Decimal(got.rating) / ref.UNITS
             systems = sorted({s for s, _, _ in got.split})
@@ -403,7 +456,8 @@ def readme_table():
 
 
 def main(arguments):
-    files = ((GASES_FILE, gases_text()), (ANSWERS_FILE, answers_text()))
+    files = ((GASES_FILE, gases_text()), (MOLES_FILE, moles_text()),
+             (ANSWERS_FILE, answers_text()))
     if arguments == ["--write"]:
         for path, text in files:
             with open(path, "w") as f:
@@ -413,6 +467,7 @@ def main(arguments):
     tables = io.StringIO()
     with contextlib.redirect_stdout(tables):
         largest, numbers = show_gases()
+        volumes = printed_volumes()
         steps = show_steps()
     if arguments != ["--brief"]:
         print(tables.getvalue(), end="")
@@ -423,8 +478,9 @@ def main(arguments):
         assert "|---|\n" + readme_table() + "\n" in f.read(), \
             "README.md has another table of published numbers"
     print("reference: %d published numbers, at most %.2f away but mix 1, %s by "
-          "other systems; %d figures on the way; %d gases as in tests/data"
-          % (numbers, largest, OTHER_SYSTEMS["A10-mix-1"][1], steps,
+          "other systems; %d volumes from moles and %d figures on the way; %d "
+          "gases as in tests/data"
+          % (numbers, largest, OTHER_SYSTEMS["A10-mix-1"][1], volumes, steps,
              len(gases())))
 
 

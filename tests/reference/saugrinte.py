@@ -1,13 +1,16 @@
 """Reference program for the methane number rating, written from document 01,
-for the ceiling of hexanes+ from request One of document 02, for the code with
-refusal 5 from its request Four, for lean gases from its request Five, for
-single systems from its request Six and for hydrogen blends from its request
-Seven, alone.  Whole numbers and exact fractions only.
+for the ceiling of hexanes+ from request One of document 02, for analyses in
+moles from its request Two, for the code with refusal 5 from its request Four,
+for lean gases from its request Five, for single systems from its request Six
+and for hydrogen blends from its request Seven, alone.  Whole numbers and exact
+fractions only.
 
 An analysis is a tuple of 16 amounts in parts, indexed by code; 0 is absent,
-and no amount is legal at 0, 9, 13 and 14.  A split is three records (system,
-code, amount) for each system chosen.  A refusal is Refusal(number, at): `at`
-is the record's place for 2 to 4, the lowest code at fault for 5, else None.
+and no amount is legal at 0, 9, 13 and 14.  Its amounts are volumes, and those
+of a mole analysis moles: a call takes the one or the other.  A split is three
+records (system, code, amount) for each system chosen.  A refusal is
+Refusal(number, at): `at` is the record's place for 2 to 4, the lowest code at
+fault for 5, else None.
 
 Command line: reads a sheet on standard input, prints the display line.
 """
@@ -41,6 +44,11 @@ SPLITS_ONLY = 14
 REQUIRED = (1,)
 SPLIT_COUNTS = (0, 6, 9, 12, 15, 18, 21)
 FEWEST = 2                 # components present in a mixture that is rated
+
+# 001 Table 2, in ten-thousandths: what a mole analysis may have.
+FACTOR = {1: 9981, 2: 9920, 3: 9829, 4: 9720, 5: 9681, 6: 9608, 7: 9521,
+          8: 9473, 10: 9155, 11: 9947, 12: 9998}
+HYDROGEN = 15              # no mole analysis has it
 
 # Components of the simplified mixture, and their codes in a split.
 COMPONENTS = M, E, P, B, H = 0, 1, 2, 3, 4
@@ -289,22 +297,30 @@ def in_range(code, amount):
     return least <= amount <= greatest
 
 
-def check_listed(listed):
+def check_listed(listed, total=6):
     """5 or 6 for {code: amount} as listed, else None.  At fault are the codes
     that must be there and aren't, and those listed with an amount outside
-    their range, 0 too; 5 carries the lowest of them all."""
+    their range, 0 too; 5 carries the lowest of them all.  A total out of range
+    has another number in a mole analysis."""
     fault = {c for c in REQUIRED if c not in listed}
     fault |= {c for c, amount in listed.items() if not in_range(c, amount)}
     if fault:
         return Refusal(5, min(fault))
     if not LEAST_TOTAL <= sum(listed.values()) <= GREATEST_TOTAL:
-        return Refusal(6)
+        return Refusal(total)
     return None
 
 
 def check(analysis):
     """5 or 6 for an analysis, else None."""
     return check_listed({c: a for c, a in enumerate(analysis) if a})
+
+
+def check_moles(moles):
+    """18, 5 or 15 for a mole analysis, else None."""
+    if moles[HYDROGEN]:
+        return Refusal(18)
+    return check_listed({c: a for c, a in enumerate(moles) if a}, 15)
 
 
 def layout(analysis, split):
@@ -332,6 +348,20 @@ def write(analysis, split, buffer):
         return Refusal(14)
     buffer[:len(sheet)] = sheet
     return len(sheet)
+
+
+# -------------------------------------------------------- moles to volumes
+
+def volumes_of(moles):
+    """The volume amounts made from mole amounts, halves up, with no test."""
+    products = [amount * FACTOR.get(c, 0) for c, amount in enumerate(moles)]
+    whole = sum(products)
+    return tuple((2 * PARTS * x + whole) // (2 * whole) for x in products)
+
+
+def convert(moles):
+    """Refusal 18, 5 or 15, or the volume amounts made."""
+    return check_moles(moles) or volumes_of(moles)
 
 
 # ------------------------------------------------------------ the mixture
@@ -394,11 +424,9 @@ def choose(amounts):
 
 
 def turned_away(analysis):
-    """5, 6, 16 or 13, else None.  13 is for a chosen system that the rule of
-    Table A.2 leaves out; it leaves out no candidate."""
-    refusal = check(analysis)
-    if refusal:
-        return refusal
+    """16 or 13 for an analysis that has been tested, or made from moles, else
+    None.  13 is for a chosen system that the rule of Table A.2 leaves out; it
+    leaves out no candidate."""
     amounts = simplify(analysis)
     if len(present(amounts)) < FEWEST:
         return Refusal(16)
@@ -508,6 +536,17 @@ def mean_and_inert(analysis, parts, numbers):
 
 def rate_split(analysis, records):
     """Refusal 5, 6, 16, 13 or 7 to 10, or the rating of a proposed split."""
+    return check(analysis) or split_rating(analysis, records)
+
+
+def rate_split_moles(moles, records):
+    """Refusal 18, 5, 15, 16, 13 or 7 to 10, or the rating of a proposed split
+    of the volumes made."""
+    return check_moles(moles) or split_rating(volumes_of(moles), records)
+
+
+def split_rating(analysis, records):
+    """Refusal 16, 13 or 7 to 10, or the rating, of volumes without a test."""
     refusal = turned_away(analysis)
     if refusal:
         return refusal
@@ -601,6 +640,17 @@ def first_move(held, numbers, order, stride):
 
 def search(analysis, allowance=MOST_ROUNDS):
     """Refusal 5, 6, 16, 13 or 11, or the rating with its found split."""
+    return check(analysis) or found_rating(analysis, allowance)
+
+
+def search_moles(moles, allowance=MOST_ROUNDS):
+    """Refusal 18, 5, 15, 16, 13 or 11, or the rating with the split found for
+    the volumes made."""
+    return check_moles(moles) or found_rating(volumes_of(moles), allowance)
+
+
+def found_rating(analysis, allowance):
+    """Refusal 16, 13 or 11, or the rating, of volumes without a test."""
     refusal = turned_away(analysis)
     if refusal:
         return refusal

@@ -1,8 +1,9 @@
 """Checks the reference against document 01: the figures given there, the
 limits of 19 and 40 units, found splits put back, and sums; and against the
-requests One and Four to Seven of document 02: the ceiling of hexanes+; the
-lowest code at fault; lean gases, the choice for each set of components present;
-the systems, their rule and their ranges; hydrogen blends.
+requests One, Two and Four to Seven of document 02: the ceiling of hexanes+;
+analyses in moles; the lowest code at fault; lean gases, the choice for each set
+of components present; the systems, their rule and their ranges; hydrogen
+blends.
 
 selfcheck.py [SEED [GASES]]     default 1 and 300
 """
@@ -24,6 +25,8 @@ EXAMPLE_2 = (0, 866475, 1169, 94500, 0, 1461, 0, 0, 292, 0, 0, 36103, 0, 0, 0,
              0)
 EXAMPLE_3 = (0, 859910, 50360, 12000, 1909, 1727, 0, 364, 455, 0, 545, 13270,
              9460, 0, 0, 50000)
+A1_MOLES = (0, 970640, 16758, 2453, 356, 253, 11, 76, 132, 0, 91, 530, 8700, 0,
+            0, 0)
 MIX_9 = (0, 800000, 50000, 50000, 25000, 25000, 0, 0, 0, 0, 0, 0, 0, 0, 0,
          50000)
 
@@ -181,6 +184,187 @@ def ceiling():
     heavy = (0, 953500, 0, 0, 0, 0, 500, 20000, 20000, 0, 6100, 0, 0, 0, 0, 0)
     assert sum(heavy) == 1000100 and not ref.check(heavy)
     assert sum(ref.tenths(heavy)) == 10789800
+
+
+def of(**amounts):
+    """An analysis of these amounts, by code."""
+    return tuple(amounts.get("c%d" % c, 0) for c in range(ref.CODES))
+
+
+def moles_examples():
+    """Request Two: the conversion, worked out by hand."""
+    # 900000 * 9981 = 8982900000 and 100000 * 9920 = 992000000, in all
+    # 9974900000: 900550.38... and 99449.61...
+    assert ref.convert(of(c1=900000, c2=100000)) == of(c1=900550, c2=99450)
+    # 950000 * 9981 = 9481950000 and 50000 * 9998 = 499900000, in all
+    # 9981850000: 949919.10... and 50080.89...
+    assert ref.convert(of(c1=950000, c12=50000)) == of(c1=949919, c12=50081)
+    # The greatest methane, with 300 parts of n-butane: products 9978005700
+    # and 2904300, in all 9980910000: 999709.01... and 290.98...
+    greatest = of(c1=999700, c5=300)
+    assert ref.convert(greatest) == of(c1=999709, c5=291)
+    # The least hexanes+: 10 * 9155 of 9980973440 is 9.17...
+    assert ref.convert(of(c1=999690, c2=300, c10=10)) == \
+        of(c1=999693, c2=298, c10=9)
+    # 001 Table A.1; its own volumes are one part away at most.
+    assert sum(A1_MOLES) == 1000000
+    assert ref.convert(A1_MOLES) == (0, 970797, 16658, 2416, 347, 245, 11, 73,
+                                     125, 0, 83, 528, 8716, 0, 0, 0)
+    # On a half, up: the products add up to 9978 millions, and methane's volume
+    # is 909661 * 9981 / 9978 = 909934.5.
+    half = of(c1=909661, c2=1139, c3=5177, c11=63178, c12=20810)
+    assert sum(x * ref.FACTOR.get(c, 0) for c, x in enumerate(half)) == \
+        9978000000
+    assert 2 * 909661 * 9981 == 9978 * (2 * 909934 + 1)
+    assert ref.convert(half) == of(c1=909935, c2=1132, c3=5100, c11=62982,
+                                   c12=20852)
+    assert sum(ref.convert(half)) == 1000001
+    # The total is taken out: in proportion, the same volumes.
+    assert ref.convert(of(c1=899910, c2=99990)) == \
+        ref.convert(of(c1=900090, c2=100010)) == of(c1=900550, c2=99450)
+
+
+def moles_refused():
+    """The order 18, 5, 15, 16 and then 7 to 11; the volumes made are not
+    tested, those of a volume analysis are."""
+    def same(moles, wanted):
+        for records in ((), ((4, 1, 0),) * 9):
+            assert ref.rate_split_moles(moles, records) == wanted
+        for allowance in (0, 4000, 2 ** 32 - 1):
+            assert ref.search_moles(moles, allowance) == wanted
+        assert wanted.number == 16 or ref.convert(moles) == wanted
+
+    def changed(**amounts):
+        return tuple(amounts.get("c%d" % c, A1_MOLES[c])
+                     for c in range(ref.CODES))
+    # 18 for any amount of hydrogen, before 5 and 15.
+    for amount in (1, 9, 10, 100000, 100001, 2 ** 32 - 1):
+        same(changed(c15=amount), Refusal(18))
+        same(changed(c1=970640 - amount % 1000, c15=amount), Refusal(18))
+        same(changed(c2=99, c15=amount), Refusal(18))
+        same(changed(c0=1, c1=0, c15=amount), Refusal(18))
+        same(changed(c9=1, c13=1, c14=1, c15=amount), Refusal(18))
+        same(changed(c1=900000, c15=amount), Refusal(18))
+        same(of(c15=amount), Refusal(18))
+    # 5 with the lowest code, before 15; the ranges are those of volumes.
+    for code in sorted(ref.FACTOR):
+        least, greatest = ref.RANGE[code]
+        for amount in (least - 1, greatest + 1, 2 ** 32 - 1):
+            same(changed(**{"c%d" % code: amount}), Refusal(5, code))
+            same(changed(**{"c%d" % code: amount, "c13": 1}), Refusal(5, code))
+        if code != 1:
+            for amount in (least, greatest):
+                a = list(changed(**{"c%d" % code: amount}))
+                a[1] += 1000000 - sum(a)
+                assert ref.check_moles(a) is None
+    assert ref.RANGE[10] == (10, 6100)
+    same(changed(c1=0), Refusal(5, 1))
+    same(of(), Refusal(5, 1))
+    for code in NO_CODE:
+        same(changed(**{"c%d" % code: 1}), Refusal(5, code))
+        same(of(**{"c%d" % code: 1}), Refusal(5, min(code, 1)))
+    same(changed(c2=99, c3=99, c12=49), Refusal(5, 2))
+    same(changed(c1=900000, c12=49), Refusal(5, 12))
+    # 15, before 16.
+    for total, wanted in ((999899, 15), (999900, 0), (1000100, 0),
+                          (1000101, 15)):
+        moles = changed(c1=970640 + total - 1000000)
+        alone = of(c1=980000, c11=total - 980000)
+        if wanted:
+            same(moles, Refusal(15))
+            same(alone, Refusal(15))
+        else:
+            assert isinstance(ref.search_moles(moles), Rating)
+            assert ref.search_moles(moles, 0) == Refusal(11)
+            same(alone, Refusal(16))
+    # A mole analysis never gives 6, a volume analysis never 15 or 18.
+    assert ref.check(changed(c1=970640 - 101)) == Refusal(6)
+    assert ref.check(changed(c1=900000, c15=70640)) is None
+
+    # Volumes made out of their range are rated all the same.
+    for moles, code in ((of(c1=999700, c5=300), 1),
+                        (of(c1=989890, c2=100, c12=10010), 2),
+                        (of(c1=999690, c2=300, c10=10), 10),
+                        (of(c1=845000, c2=5000, c12=150000), 12)):
+        volumes = ref.convert(moles)
+        assert ref.check_moles(moles) is None
+        assert ref.check(volumes) == Refusal(5, code)
+        assert ref.search(volumes) == ref.rate_split(volumes, ()) == \
+            Refusal(5, code)
+        got = ref.search_moles(moles)
+        assert isinstance(got, Rating)
+        assert ref.rate_split_moles(moles, got.split) == got._replace(rounds=0)
+
+    # The proposed split: 7 to 10 on the volumes made.
+    found = ref.search_moles(A1_MOLES)
+    amounts = ref.simplify(ref.convert(A1_MOLES))
+    assert ref.rate_split_moles(A1_MOLES, found.split) == \
+        found._replace(rounds=0)
+    assert ref.rate_split_moles(A1_MOLES, found.split[:6]) == Refusal(7)
+    records = list(found.split)
+    records[0] = (4, 1, records[0][2] + 1)
+    assert ref.rate_split_moles(A1_MOLES, records) == Refusal(8)
+    assert ref.rate_split_moles(
+        A1_MOLES, ref.search(A1_MOLES).split) == Refusal(8)
+    m, e, p, b, _ = amounts
+    records = [(4, 1, m), (4, 2, e), (4, 3, p), (7, 1, 0), (7, 3, 0),
+               (7, 14, 0), (8, 1, 0), (8, 2, 0), (8, 14, b)]
+    assert ref.rate_split_moles(A1_MOLES, records) == Refusal(9)
+    assert ref.rate_split_moles(A1_MOLES, gases.start_split(
+        ref.convert(A1_MOLES))) == Refusal(10)
+
+
+def plain_volume(moles, code):
+    """The volume of a code by 001's formula 1, as an exact fraction."""
+    factors = (0, "0.9981", "0.9920", "0.9829", "0.9720", "0.9681", "0.9608",
+               "0.9521", "0.9473", 0, "0.9155", "0.9947", "0.9998", 0, 0, 0)
+    share = [Fraction(x, 10000) * Fraction(f) for x, f in zip(moles, factors)]
+    return 10000 * 100 * share[code] / sum(share)
+
+
+def moles(seed, count):
+    """Volumes are the nearest whole parts, halves up; they add up to a million
+    within 5 parts; none in range becomes 0, none absent is there.  What is
+    rated is as the same volumes are where these are in range; found splits are
+    put back, under 40 units from the exact fraction of the volumes."""
+    draw = gases.Draw(seed)
+    off, halves, beyond, rated, worst = set(), 0, 0, 0, Fraction(0)
+    for n in range(count):
+        a = gases.half_moles(draw) if n % 8 == 0 else gases.beyond_moles(
+            draw, *draw.pick([*((c, False) for c in gases.BELOW),
+                              *((c, True) for c in gases.ABOVE)])) \
+            if n % 8 == 1 else gases.mole_gas(draw)
+        volumes = ref.convert(a)
+        assert volumes == ref.volumes_of(a) and len(volumes) == ref.CODES
+        for code in range(ref.CODES):
+            exact = plain_volume(a, code)
+            assert (volumes[code] > 0) == (a[code] > 0)
+            assert -Fraction(1, 2) < volumes[code] - exact <= Fraction(1, 2)
+            halves += volumes[code] - exact == Fraction(1, 2)
+        assert abs(sum(volumes) - 1000000) <= 5
+        off.add(sum(volumes) - 1000000)
+        if n % 4 > 1:
+            continue
+        got = ref.search_moles(a)
+        if ref.check(volumes) is None:
+            assert got == ref.search(volumes)
+        else:
+            beyond += 1
+            assert ref.search(volumes).number == 5
+        if isinstance(got, Refusal):
+            assert got.number in (11, 16)
+            continue
+        rated += 1
+        assert ref.rate_split_moles(a, got.split) == got._replace(rounds=0)
+        assert resums(volumes, got.split) and got.spread <= ref.SPREAD_LIMIT
+        assert ref.search_moles(a, got.rounds) == got
+        if got.rounds:
+            assert ref.search_moles(a, got.rounds - 1) == Refusal(11)
+        worst = max(worst, abs(got.rating - ref.exact_rating(volumes,
+                                                             got.split)))
+    assert worst < 40 and {-1, 0, 1} <= off
+    assert min(halves, beyond) >= count // 16
+    return rated, worst
 
 
 # How a code can stand in an analysis or a sheet.
@@ -872,6 +1056,8 @@ def main(arguments):
     compared_figures()
     refusals()
     ceiling()
+    moles_examples()
+    moles_refused()
     faults = lowest_code(seed, 20 * count)
     lean()
     blends()
@@ -879,10 +1065,13 @@ def main(arguments):
     table_a2()
     ranges()
     spread_limit()
-    print("figures and refusals of document 01, the ceiling of hexanes+, the lowest "
-          "code of %d analyses and sheets, lean gases, hydrogen blends, the choice "
-          "for %d sets of components, Table A.2's rule and ranges: as written"
-          % (faults, sets))
+    print("figures and refusals of document 01, the ceiling of hexanes+, analyses in "
+          "moles, the lowest code of %d analyses and sheets, lean gases, hydrogen "
+          "blends, the choice for %d sets of components, Table A.2's rule and "
+          "ranges: as written" % (faults, sets))
+    rated, worst = moles(seed, 2 * count)
+    print("moles: %d analyses to the nearest parts; %d rated and put back, farthest "
+          "from exact %.3f units" % (2 * count, rated, worst))
     cases, worst = partial_limits(seed, 10 * count)
     print("partial numbers: %d of %d systems, farthest from exact %.3f units"
           % (cases, len(ref.SHARES), worst))
