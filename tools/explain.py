@@ -3,6 +3,7 @@
   python3 tools/explain.py LINE SHEET        prints it; LINE as in 'REFUSED 5', SHEET is a file
 
 The line stands whatever is said here. Where the bytes do not show the detail, the refusal's word and sentence are said.
+The answer to a mole analysis is said likewise, from a sheet that has its amounts: these are then mole percent.
 """
 import sys
 
@@ -16,7 +17,7 @@ def methane_number(units):
     return '%s%d.%04d' % ('-' if rounded < 0 else '', *divmod(abs(rounded), 10000))
 
 
-def out_of_range(sheet):
+def out_of_range(sheet, unit):
     """All that is at fault, in the order of the codes: the first is the code that the C interface gives."""
     wrong = []
     components = dict(gas.listed(sheet))
@@ -25,18 +26,24 @@ def out_of_range(sheet):
     for code, amount in sorted(components.items()):
         known = gas.BY_CODE[code]
         if not known.least <= amount <= known.greatest:
-            wrong.append('%s %s %% is outside %s to %s %%%s' % (
-                known.name, gas.percent(amount), gas.percent(known.least), gas.percent(known.greatest),
+            wrong.append('%s %s %s is outside %s to %s %s%s' % (
+                known.name, gas.percent(amount), unit, gas.percent(known.least), gas.percent(known.greatest), unit,
                 '' if amount or code == gas.REQUIRED else ' (leave it out where it is absent)'))
     return '; '.join(wrong)
 
 
-def total(sheet):
+def total(sheet, unit):
     amounts = sum(amount for _, amount in gas.listed(sheet))
     if gas.LEAST_TOTAL <= amounts <= gas.GREATEST_TOTAL:
         return None
-    return 'the total is %s %%, outside %s to %s %%' % tuple(
-        map(gas.percent, (amounts, gas.LEAST_TOTAL, gas.GREATEST_TOTAL)))
+    return 'the total is %s %s, outside %s to %s %s' % (
+        gas.percent(amounts), unit, gas.percent(gas.LEAST_TOTAL), gas.percent(gas.GREATEST_TOTAL), unit)
+
+
+def hydrogen(sheet, unit):
+    amount = dict(gas.listed(sheet)).get(gas.HYDROGEN)
+    return amount and '%s %s %s: a gas with hydrogen is rated from volumes alone' % (
+        gas.BY_CODE[gas.HYDROGEN].name, gas.percent(amount), unit)
 
 
 def systems(records):
@@ -44,7 +51,7 @@ def systems(records):
     return list(dict.fromkeys(system for system, _, _ in records))
 
 
-def misfit(sheet):
+def misfit(sheet, _):
     records = gas.proposed(sheet)
     if not records:
         return None
@@ -52,7 +59,7 @@ def misfit(sheet):
             % (len(records), '' if len(systems(records)) == 1 else 's', ', '.join(map(str, systems(records)))))
 
 
-def unsummed(sheet):
+def unsummed(sheet, _):
     sums = dict.fromkeys(gas.SPLIT_NAMES, 0)
     records = gas.proposed(sheet)
     if not records:
@@ -65,7 +72,7 @@ def unsummed(sheet):
                   if code in given), gas.percent(sum(sums.values())))
 
 
-def empty_system(sheet):
+def empty_system(sheet, _):
     records = gas.proposed(sheet)
     empty = [system for system in systems(records) if not any(a for s, _, a in records if s == system)]
     return empty and 'the split leaves system%s %s empty: all its amounts are 0' % (
@@ -79,11 +86,12 @@ def as_lines(sheet):
     return ' (nor is it lines: %s)' % gas.no_text(sheet) if sheet[:1] >= b' ' else ''
 
 
-DETAILS = {5: out_of_range, 6: total, 7: misfit, 8: unsummed, 9: empty_system}
+DETAILS = {5: out_of_range, 6: total, 7: misfit, 8: unsummed, 9: empty_system, 15: total, 18: hydrogen}
 
 
-def detail(number, sheet):
-    """What is at fault, or nothing where the bytes do not show it."""
+def detail(number, sheet, unit=gas.PERCENT):
+    """What is at fault, or nothing where the bytes do not show it. The unit is the amounts'; those of a split are
+    always percent of the simplified mixture."""
     tear = gas.torn(sheet)
     if number == 1:
         return tear and 'the sheet is torn: ' + tear + as_lines(sheet)
@@ -94,12 +102,14 @@ def detail(number, sheet):
         return miscoded[1] if miscoded and miscoded[0] == number else None
     if miscoded or any(code not in gas.SPLIT_NAMES for _, code, _ in gas.proposed(sheet) if number == 8):
         return None
-    return DETAILS[number](sheet) if number in DETAILS else None
+    return DETAILS[number](sheet, unit) if number in DETAILS else None
 
 
-def refusal(number, sheet):
+def refusal(number, sheet, unit=gas.PERCENT):
     word, sentence = gas.REFUSALS.get(number, ('refused', "README.md's table of refusals tells more"))
-    return '%d: %s' % (number, detail(number, sheet) or '%s: %s' % (word, sentence))
+    if unit == gas.MOLE_PERCENT:
+        sentence = gas.OF_MOLES.get(number, sentence)
+    return '%d: %s' % (number, detail(number, sheet, unit) or '%s: %s' % (word, sentence))
 
 
 def explain(line, sheet):
@@ -110,6 +120,17 @@ def explain(line, sheet):
     if words[:1] == ['REFUSED'] and len(words) > 1:
         return refusal(int(words[1]), sheet)
     return None
+
+
+def explain_moles(line, sheet):
+    """The answer to a mole analysis in words, from a sheet with its amounts and its split. It says where it is that of
+    the volumes made; the other refusals are those of the mole amounts."""
+    words = line.split()
+    if words[:1] == ['REFUSED'] and len(words) > 1:
+        number = int(words[1])
+        return refusal(number, sheet, gas.MOLE_PERCENT) + (gas.MADE if number in gas.OF_MADE else '')
+    rated = explain(line, sheet)
+    return rated and rated + gas.MADE
 
 
 def main():

@@ -1,7 +1,7 @@
 """What the tools for people share: the components with their names and ranges, the refusals' words, how a sheet's bytes
 lie. Nothing here decides an answer: the proved program does.
 
-A part is 0.0001 % by volume.
+A part is 0.0001 % by volume, or in a mole analysis 0.0001 mole percent.
 """
 import re
 from collections import namedtuple
@@ -27,13 +27,21 @@ BY_CODE = {c.code: c for c in COMPONENTS}
 RETIRED = (9, 13)
 SPLITS_ONLY = 14
 REQUIRED = 1
+HYDROGEN = 15
 LEAST_TOTAL, GREATEST_TOTAL = 999900, 1000100
+
+# What stands after an amount in words: by volume, in moles.
+PERCENT, MOLE_PERCENT = '%', 'mol %'
+# A unit of moles at the end of a line, and a word that begins one; the same of volumes.
+MOLES = re.compile('(?i) ?(?:mole? ?%|% ?mole?|mole?)$')
+A_MOLE, A_VOLUME = re.compile('(?i)%?mol'), re.compile('(?i)%?vol')
 
 # The components of a split.
 SPLIT_NAMES = {1: 'methane', 2: 'ethane', 3: 'propane', SPLITS_ONLY: 'butane', 15: 'hydrogen'}
 
 MOST_COMPONENTS = 12
 SPLIT_COUNTS = (0, 6, 9, 12, 15, 18, 21)
+PLACES = 16             # amounts of a mole analysis, by code from 0
 LONGEST = 188
 GREATEST_AMOUNT = 4294967295
 
@@ -64,9 +72,17 @@ REFUSALS = {
     12: ('no mixture', 'the amounts add up to 0 or to more than 100 %'),
     13: ('no system', 'a system is not in the table'),
     14: ('short blank', "the writer's buffer is too short"),
+    15: ('mole total', 'the mole amounts add up to less than 99.99 mol % or more than 100.01 mol %'),
     16: ('too few', 'methane stands alone; ethane, propane, butanes, pentanes, hexanes+ or hydrogen must be there too'),
     17: ('share', "a share is outside the system's range"),
+    18: ('hydrogen in moles', 'a mole analysis has hydrogen'),
 }
+
+# What is said of an answer to volumes that were made from moles, and the refusals that are such answers.
+MADE = ' (volumes made from moles)'
+OF_MADE = (7, 8, 9, 10, 11, 13, 16)
+# Sentences that are others for a mole analysis.
+OF_MOLES = {16: 'methane stands alone; ethane, propane, butanes, pentanes or hexanes+ must be there too'}
 
 
 def key(name):

@@ -1,6 +1,7 @@
 """The files that ./rate names: each one's line on standard output, and what it means on standard error.
 
-  python3 tools/rate.py PROGRAM FILE...        PROGRAM is the display program; ./rate --help tells the rest
+  python3 tools/rate.py PROGRAM FILE...             PROGRAM is the display program; ./rate --help tells the rest
+  python3 tools/rate.py --moles PROGRAM FILE...     PROGRAM is that of mole analyses
 """
 import subprocess
 import sys
@@ -8,7 +9,7 @@ import sys
 sys.dont_write_bytecode = True
 import gas  # noqa: E402
 import sheet  # noqa: E402
-from explain import explain  # noqa: E402
+from explain import explain, explain_moles  # noqa: E402
 from sheet import content, put, say  # noqa: E402
 
 
@@ -18,21 +19,31 @@ def answer(program, data):
     return run.returncode, run.stdout
 
 
-def rate(program, data, start):
-    """Rates a sheet; 0, or 2 where the program failed."""
+def given(data, moles):
+    """What the program reads of a file's bytes, and the sheet that the words are taken from."""
+    if moles:
+        return sheet.of_mole_lines(data)
+    if gas.is_text(data):
+        data = sheet.of_lines(data)
+    return data, data
+
+
+def rate(program, data, shown, moles, start):
+    """Rates what the program reads, and says it of the sheet that is shown; 0, or 2 where the program failed."""
     status, line = answer(program, data)
     put(line)
     if status:
         say('rate: %sthe display program ended with status %d' % (start, status))
         return 2
-    words = explain(line.decode('ascii', 'replace'), data)
+    words = (explain_moles if moles else explain)(line.decode('ascii', 'replace'), shown)
     if words:
         say(start + words)
     return 0
 
 
 def main():
-    program, *names = sys.argv[1:]
+    moles = sys.argv[1:2] == ['--moles']
+    program, *names = sys.argv[2 if moles else 1:]
     worst, standard_input = 0, None
     for name in names:
         try:
@@ -40,13 +51,12 @@ def main():
                 data = content(name)
             else:
                 data = standard_input = content(name) if standard_input is None else standard_input
-            if gas.is_text(data):
-                data = sheet.of_lines(data)
+            data, shown = given(data, moles)
         except (OSError, ValueError) as wrong:
             say('rate: %s: %s' % ('standard input' if name == '-' else name, getattr(wrong, 'strerror', None) or wrong))
             worst = max(worst, 1)
             continue
-        worst = max(worst, rate(program, data, name + ': ' if len(names) > 1 else ''))
+        worst = max(worst, rate(program, data, shown, moles, name + ': ' if len(names) > 1 else ''))
     return worst
 
 

@@ -23,6 +23,7 @@ with methane, ethane, propane, butane or hydrogen. Text after '#' is left out. T
 rating, which refuses by number (an amount of 0 is out of range: leave the line out).
 
 --lines takes every sheet that is not torn and has known codes in order, and its lines make the same sheet again.
+A sheet is a volume sheet, so there is none of an analysis in moles: ./rate --moles FILE rates its lines.
 Ends with 0, with 1 where the input cannot be read or understood, with 2 where the command is wrong.
 """
 import os
@@ -107,11 +108,15 @@ def known(name, codes, names):
     raise ValueError("'%s' is none of %s" % (shown(name), ', '.join(names)))
 
 
-def record(words, form):
+def record(words, form, moles=False):
     """Name and amount of a line's words, or ValueError. A word of the name that begins with a figure would be another
     amount: `CO 2 0.1` is not CO2."""
-    if any(re.match('%?mol', word.lower()) for word in words[1:]):
-        raise ValueError('amounts are percent by volume; analyses in moles cannot be rated yet')
+    if moles:
+        if any(gas.A_VOLUME.match(word) for word in words[1:]):
+            raise ValueError('amounts are mole percent here; lines in percent by volume are rated without --moles')
+        words = gas.MOLES.sub(' %', ' '.join(words)).split()
+    elif any(gas.A_MOLE.match(word) for word in words[1:]):
+        raise ValueError('amounts are percent by volume; ./rate --moles rates lines in mole percent')
     if words[-1:] == ['%']:
         words = words[:-1]
     elif words and words[-1].endswith('%') and words[-1][:1] in set('0123456789'):
@@ -121,8 +126,9 @@ def record(words, form):
     return ' '.join(words[:-1]), words[-1]
 
 
-def read(text):
-    """The components {code: parts} and the split's records [(system, code, parts)]."""
+def read(text, moles=False):
+    """The components {code: parts} and the split's records [(system, code, parts)]. The components may be in mole
+    percent; a split is of volumes always."""
     components, split = {}, []
     for number, line in enumerate(re.split('\r\n|\n|\r', text), 1):
         words = line.split('#')[0].split()
@@ -135,11 +141,13 @@ def read(text):
                     raise ValueError(form)
                 if not re.fullmatch('0*[0-9]{1,3}', words[1]) or int(words[1][-3:]) > 255:
                     raise ValueError("'%s' is not a system's number" % shown(words[1]))
+                if moles and any(gas.A_MOLE.match(word) for word in words[3:]):
+                    raise ValueError("a split's amounts are percent of the simplified mixture, by volume")
                 name, amount = record(words[2:], form)
                 code = known(name, gas.SPLIT_CODES, gas.SPLIT_NAMES.values())
                 split.append((int(words[1][-3:]), code, parts(amount)))
                 continue
-            name, amount = record(words, 'a line is a component and its amount, as: methane 97.0797')
+            name, amount = record(words, 'a line is a component and its amount, as: methane 97.0797', moles)
             code = known(name, gas.CODES, [c.name for c in gas.COMPONENTS])
             if code in components:
                 raise ValueError('%s is listed twice' % gas.BY_CODE[code].name)
@@ -151,14 +159,16 @@ def read(text):
     return components, split
 
 
+def split_section(split):
+    return bytes([len(split)]) + b''.join(bytes([system, code]) + amount.to_bytes(4, 'big')
+                                          for system, code, amount in split)
+
+
 def sheet(components, split):
     out = bytearray([len(components)])
     for code in sorted(components):
         out += bytes([code]) + components[code].to_bytes(4, 'big')
-    out.append(len(split))
-    for system, code, amount in split:
-        out += bytes([system, code]) + amount.to_bytes(4, 'big')
-    return bytes(out)
+    return bytes(out) + split_section(split)
 
 
 def of_lines(data):
@@ -167,6 +177,19 @@ def of_lines(data):
         raise ValueError(gas.no_text(data) if gas.torn(data)
                          else 'this is a sheet already; --lines turns it into lines')
     return sheet(*read(text_of(data)))
+
+
+def of_mole_lines(data):
+    """What the program of mole analyses reads of lines in mole percent, an amount for each code and the split, and a
+    sheet that has the same; or ValueError. An amount of 0 is an absent one."""
+    if not gas.is_text(data):
+        raise ValueError('--moles takes lines in mole percent, and ' + (
+            'there are none' if not data else gas.no_text(data) if gas.torn(data)
+            else 'this is a sheet, which has volumes: rate it without --moles'))
+    components, split = read(text_of(data), moles=True)
+    present = {code: amount for code, amount in components.items() if amount}
+    amounts = b''.join(present.get(code, 0).to_bytes(4, 'big') for code in range(gas.PLACES))
+    return amounts + split_section(split), sheet(present, split)
 
 
 # ------------------------------------------------------------ a sheet to lines
@@ -204,6 +227,9 @@ def command(arguments):
         if argument == '--':
             files += arguments
             break
+        if argument == '--moles':
+            raise ValueError('a sheet is a volume sheet and is not made from moles; ./rate --moles rates lines in mole '
+                             'percent')
         if argument == '--lines':
             act = lines
         elif argument.startswith('-') and argument != '-':
