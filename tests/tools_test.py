@@ -333,10 +333,17 @@ def in_moles():
             ('a sheet', ref.layout(TABLE_A1, FOUND), 'this is a sheet, which has volumes: rate it without --moles'),
             ('its own bytes', mole_bytes(MOLES), 'line 1 has byte 00, which is no text')):
         expect('moles: ' + what, moles_of(given) == away + message, moles_of(given))
-    for arguments in (('--moles',), ('--moles', EXAMPLE), (EXAMPLE, '--moles'), ('--lines', '--moles')):
+    said = 'sheet: mole amounts for the program rate_moles, which makes volumes from them; this is no sheet\n'
+    for arguments in (('--moles',), ('--moles', '-'), ('--moles', '--', '-')):
         got = run(text, *arguments)
-        said = 'a sheet is a volume sheet and is not made from moles; ./rate --moles rates lines in mole percent'
-        expect(arguments, got[:2] == (2, b'') and got[2].startswith('sheet: %s;' % said), got)
+        expect(arguments, got == (0, mole_bytes(MOLES), said), got)
+    got = run('hydrogen 1 mol %\nmethane 99 vol\n', '--moles')
+    expect('a wrong line in moles', got[:2] == (1, b'') and got[2].startswith('sheet: line 2: amounts are mole percent'),
+           got)
+    for arguments in (('--lines', '--moles'), ('--moles', '--lines'), ('--moles', '--moles')):
+        got = run(text, *arguments)
+        expect(arguments, got[:2] == (2, b'') and got[2].startswith('sheet: %s and another way at once;' % arguments[1]),
+               got)
     return len(MOLE_UNITS)
 
 

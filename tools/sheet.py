@@ -3,6 +3,7 @@
 
   python3 tools/sheet.py [FILE] > SHEET              (standard input where no FILE is named, or -)
   python3 tools/sheet.py --lines [SHEET] > FILE
+  python3 tools/sheet.py --moles [FILE] | target/bin/rate_moles
 
 A line is a component and its amount in percent by volume, with at most four decimals; a decimal comma and a percent
 sign are taken too:
@@ -23,7 +24,9 @@ with methane, ethane, propane, butane or hydrogen. Text after '#' is left out. T
 rating, which refuses by number (an amount of 0 is out of range: leave the line out).
 
 --lines takes every sheet that is not torn and has known codes in order, and its lines make the same sheet again.
-A sheet is a volume sheet, so there is none of an analysis in moles: ./rate --moles FILE rates its lines.
+--moles takes lines in mole percent and gives the bytes that the program of mole analyses reads, which makes volumes
+from them. They are no sheet, for a sheet is a volume sheet: rated as one they are refused 1. ./rate --moles FILE does
+both at once and says what the line means.
 Ends with 0, with 1 where the input cannot be read or understood, with 2 where the command is wrong.
 """
 import os
@@ -227,11 +230,10 @@ def command(arguments):
         if argument == '--':
             files += arguments
             break
-        if argument == '--moles':
-            raise ValueError('a sheet is a volume sheet and is not made from moles; ./rate --moles rates lines in mole '
-                             'percent')
-        if argument == '--lines':
-            act = lines
+        if argument in WAYS:
+            if act is not of_lines:
+                raise ValueError('%s and another way at once' % argument)
+            act = WAYS[argument]
         elif argument.startswith('-') and argument != '-':
             raise ValueError("there is no option '%s'" % shown(argument))
         else:
@@ -239,6 +241,16 @@ def command(arguments):
     if len(files) > 1:
         raise ValueError('one file at a time, and %d are named' % len(files))
     return act, files[0] if files else '-'
+
+
+def moles(data):
+    """What the program of mole analyses reads of lines in mole percent; said, for it is no sheet."""
+    amounts, _ = of_mole_lines(data)
+    say('sheet: mole amounts for the program rate_moles, which makes volumes from them; this is no sheet')
+    return amounts
+
+
+WAYS = {'--lines': lines, '--moles': moles}
 
 
 def main():
