@@ -9,12 +9,11 @@ ranges.
 A system whose counts' magnitudes add up to more than 2000000000000 is left out: the others are those that the code lets
 through, and that the header, README.md and docs/PROMISES.md have in their tables.
 Exit status 1 and a message where a figure differs, is missing, or stands there in excess."""
-import os
 import re
-import sys
 from decimal import Decimal, localcontext
 
-ROOT = os.path.dirname(os.path.dirname(os.path.abspath(__file__)))
+from texts import fail, text_of
+
 DATA = 'tests/data/table-a2.txt'
 OWN = 'tests/data/coefficients.txt'
 SPEC, SPEC_RANGES = 'crates/formula/specs/Coefficients.antt', 'crates/formula/specs/Ranges.antt'
@@ -33,18 +32,6 @@ ENDS = ['%s(%s), %% vol/vol' % (component, end) for component in 'xyz' for end i
 ROWS = {*COMPONENTS, *ENDS, *('a(%d,%d)' % place for place in PLACES)}
 # the magnitudes of a system's coefficients add up to no more
 RULE, MOST = 'crates/formula/specs/WorkingRule.antt', 2000000000000
-
-
-def fail(message):
-    sys.exit('coefficients: ' + message)
-
-
-def text_of(path):
-    try:
-        with open(os.path.join(ROOT, path), encoding='utf-8') as file:
-            return file.read()
-    except FileNotFoundError:
-        fail(f'{path} is not there')
 
 
 # ------------------------------------------------------------ as printed

@@ -5,29 +5,16 @@ tests/data/factors.txt holds the table as printed. Each figure is read exactly a
 ten-thousandths: the entry of its code in `factors` of specs/Conversion.antt and in `FACTORS` of src/lib.rt of the crate
 conversion, in the independent program and in the plain C program. A code without a figure has 0 there.
 Exit status 1 and a message where a figure differs, is missing, or stands there in excess."""
-import os
 import re
-import sys
 
-ROOT = os.path.dirname(os.path.dirname(os.path.abspath(__file__)))
+from texts import fail, text_of
+
 DATA = 'tests/data/factors.txt'
 SPEC, CODE = 'crates/conversion/specs/Conversion.antt', 'crates/conversion/src/lib.rt'
 PLAIN, REFERENCE = 'tests/plain/saugrinte.c', 'tests/reference/saugrinte.py'
 PUBLISHED = 'tests/reference/published.py'
 CODES = 16
 PRINTED_CODES = [1, 2, 3, 4, 5, 6, 7, 8, 10, 11, 12]
-
-
-def fail(message):
-    sys.exit('factors: ' + message)
-
-
-def text_of(path):
-    try:
-        with open(os.path.join(ROOT, path), encoding='utf-8') as file:
-            return file.read()
-    except FileNotFoundError:
-        fail(f'{path} is not there')
 
 
 def ten_thousandths(path, printed):

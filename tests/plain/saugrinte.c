@@ -763,17 +763,24 @@ saugrinte_answer saugrinte_rate(const uint8_t *sheet, size_t length, saugrinte_f
     return answer;
 }
 
-saugrinte_answer saugrinte_search(const uint32_t amounts[CODES], uint32_t allowance, saugrinte_figures *figures,
-                                  size_t *count, uint8_t systems[ROOM], uint8_t codes[ROOM], uint32_t parts[ROOM])
+/* The search of volumes that passed their check, its records put out where it rates. */
+static saugrinte_answer find_records(const uint32_t volumes[CODES], uint32_t allowance, saugrinte_figures *figures,
+                                     size_t *count, uint8_t systems[ROOM], uint8_t codes[ROOM], uint32_t parts[ROOM])
 {
     split found;
-    saugrinte_answer answer = check(amounts, 0);
-    if (answer.number)
-        return answer;
-    answer = find(amounts, allowance < ROUNDS ? allowance : ROUNDS, figures, &found);
+    saugrinte_answer answer = find(volumes, allowance < ROUNDS ? allowance : ROUNDS, figures, &found);
     if (answer.number == 0)
         put_records(&found, count, systems, codes, parts);
     return answer;
+}
+
+saugrinte_answer saugrinte_search(const uint32_t amounts[CODES], uint32_t allowance, saugrinte_figures *figures,
+                                  size_t *count, uint8_t systems[ROOM], uint8_t codes[ROOM], uint32_t parts[ROOM])
+{
+    saugrinte_answer answer = check(amounts, 0);
+    if (answer.number)
+        return answer;
+    return find_records(amounts, allowance, figures, count, systems, codes, parts);
 }
 
 saugrinte_answer saugrinte_rate_split(const uint32_t amounts[CODES], size_t count, const uint8_t systems[ROOM],
@@ -790,14 +797,10 @@ saugrinte_answer saugrinte_search_moles(const uint32_t moles[CODES], uint32_t al
                                         uint32_t parts[ROOM])
 {
     uint32_t volumes[CODES];
-    split found;
     saugrinte_answer answer = make_volumes(moles, volumes);
     if (answer.number)
         return answer;
-    answer = find(volumes, allowance < ROUNDS ? allowance : ROUNDS, figures, &found);
-    if (answer.number == 0)
-        put_records(&found, count, systems, codes, parts);
-    return answer;
+    return find_records(volumes, allowance, figures, count, systems, codes, parts);
 }
 
 saugrinte_answer saugrinte_rate_split_moles(const uint32_t moles[CODES], size_t count, const uint8_t systems[ROOM],
