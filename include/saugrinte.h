@@ -31,8 +31,8 @@
    and have a split of 12, 15, 18 or 21 records, which was refused 1. Since version 1.4 the code with 5 is the lowest at
    fault; before, it was any one at fault. Since version 1.5 more than 6100 parts of hexanes+ are refused 5; before,
    more than 15000 were. Since version 1.6 there are the calls that take moles, with refusals 15 and 18, which no other
-   call gives; nothing else has changed. A gas that was rated before and is in range still has the rating, the split and
-   the rounds that it had.
+   call gives; since version 1.7 saugrinte_code_range and saugrinte_total_range tell the ranges; nothing else has
+   changed. A gas that was rated before and is in range still has the rating, the split and the rounds that it had.
 
    The functions keep nothing between calls, so several threads may call them at once. They use no heap, no floating
    point but in saugrinte_controller, and of a C library memcpy alone. No pointer may be null, not even with a length,
@@ -55,7 +55,7 @@
 extern "C" {
 #endif
 
-#define SAUGRINTE_VERSION 10600     /* of this header, 1.6.0: 10000, 100 and 1 times its three figures */
+#define SAUGRINTE_VERSION 10700     /* of this header, 1.7.0: 10000, 100 and 1 times its three figures */
 
 #define SAUGRINTE_CODES 16          /* entries of an analysis, one for each code from 0 to 15 */
 #define SAUGRINTE_RECORDS 21        /* room for a split's records */
@@ -129,6 +129,12 @@ typedef struct {
     double rating;
     double spread;
 } saugrinte_record;
+
+/* A range of amounts in parts, both ends included. */
+typedef struct {
+    uint32_t least;
+    uint32_t greatest;
+} saugrinte_range;
 
 /* The library's version. This header's sizes, numbers and names are its own where both have the same first figure:
    saugrinte_version() / 10000 == SAUGRINTE_VERSION / 10000. */
@@ -237,6 +243,13 @@ saugrinte_record saugrinte_controller(int64_t rating, uint64_t spread);
 
 /* The whole methane number of a rating in units: (rating + 5000000) / 10000000 rounded down, also below zero. */
 int64_t saugrinte_whole_number(int64_t rating);
+
+/* The range of a code's amount where it is present, by volume and by moles alike (but no mole analysis has hydrogen).
+   1..0, between which no amount lies, for 0, 9, 13, 14 and every code above 15. */
+saugrinte_range saugrinte_code_range(uint32_t code);
+
+/* The range of the amounts' sum, by volume and by moles alike. */
+saugrinte_range saugrinte_total_range(void);
 
 #ifdef __cplusplus
 }

@@ -25,7 +25,7 @@ import time
 HERE = os.path.dirname(os.path.abspath(__file__))
 sys.path.insert(0, os.path.join(HERE, 'reference'))
 import gases  # noqa: E402
-import saugrinte as ref  # noqa: E402
+import independent as ref  # noqa: E402
 
 DEFAULT_SHEETS, DEFAULT_SEED = 100000, 1
 PART = 5000                 # sheets of one part: a seed and a run of the driver of its own
@@ -213,6 +213,12 @@ class Cases:
 
     def whole(self, rating):
         self.add('whole number', 'whole %d' % rating, Expected(0, '0 %d' % ref.whole_number(rating)))
+
+    def code_range(self, code):
+        self.add('range of a code', 'code-range %d' % code, Expected(0, '0 %d %d' % ref.code_range(code)))
+
+    def total_range(self):
+        self.add('range of the total', 'total-range', Expected(0, '0 %d %d' % (ref.LEAST_TOTAL, ref.GREATEST_TOTAL)))
 
 
 def packed(records):
@@ -889,6 +895,13 @@ def long_mole_cases(cases):
             cases.search_moles('moles, more than 4000 rounds', moles, allowance)
 
 
+def range_cases(cases):
+    """The ranges of every code, of codes that there are not, and of the total."""
+    for code in (*range(CODES + 5), *(1 << n for n in range(5, 32)), *(U32 - CODES + code for code in range(CODES))):
+        cases.code_range(code)
+    cases.total_range()
+
+
 def kept_cases(cases, exact):
     """The sheets kept in tests/data: spreads at the limit and one unit on either side, and searches that end at the
     limit, that need stride 1, 4001 rounds or more, or where a move would empty a system."""
@@ -951,6 +964,7 @@ def part_cases(seed, sheets, first):
     exact, cases = Exact(seed), Cases()
     if first:
         kept_cases(cases, exact)
+        range_cases(cases)
         long_mole_cases(cases)
         for case in gases.share_cases(seed):
             cases.partial('ends of shares, ' + system_word(case[0]), *case)
@@ -1191,6 +1205,8 @@ LEAST = {
     'write, every room': {0: 300, 5: 900, 6: 400, 14: 7000},
     'controller': {0: 5000},
     'whole number': {0: 2500},
+    'range of a code': {0: 64},
+    'range of the total': {0: 1},
     # kept in tests/data
     'spread at the limit': {0: 15, 10: 9},
     'kept: blend-ends-at-500000': {0: 14, 11: 2},

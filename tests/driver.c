@@ -12,6 +12,8 @@
      partial    FILL SYSTEM N1 N2 N3
      controller RATING SPREAD
      whole      RATING
+     code-range CODE
+     total-range
      version                                             (the header's, then the library's)
      touch      LENGTH AT                                (calls nothing: reads byte AT of LENGTH bytes that are lent)
    AMOUNTS is 16 times four bytes, high byte first; RECORDS up to 21 times system, code and four bytes, and the places
@@ -40,6 +42,7 @@ _Static_assert(offsetof(saugrinte_figures, spread) == sizeof(int64_t), "then the
 _Static_assert(offsetof(saugrinte_figures, rounds) == 2 * sizeof(int64_t), "then the rounds");
 _Static_assert(sizeof(saugrinte_answer) == 8 && offsetof(saugrinte_answer, place) == 4, "number and place");
 _Static_assert(sizeof(saugrinte_record) == 16 && offsetof(saugrinte_record, spread) == 8, "two doubles");
+_Static_assert(sizeof(saugrinte_range) == 8 && offsetof(saugrinte_range, greatest) == 4, "least and greatest");
 
 static size_t guard = GUARD;            /* 0 with --exact */
 
@@ -396,6 +399,21 @@ static void whole(void)
     printf("0 %lld", (long long)saugrinte_whole_number(strtoll(word(), NULL, 10)));
 }
 
+static void put_range(saugrinte_range range)
+{
+    printf("0 %lu %lu", (unsigned long)range.least, (unsigned long)range.greatest);
+}
+
+static void code_range(void)
+{
+    put_range(saugrinte_code_range((uint32_t)number()));
+}
+
+static void total_range(void)
+{
+    put_range(saugrinte_total_range());
+}
+
 static void version(void)
 {
     printf("%lu %lu", (unsigned long)SAUGRINTE_VERSION, (unsigned long)saugrinte_version());
@@ -417,7 +435,7 @@ int main(int count, char **words)
         { "rate", rate }, { "read", read_sheet }, { "search", search }, { "split", split },
         { "search-moles", search_moles }, { "split-moles", split_moles }, { "convert", convert },
         { "write", write_sheet }, { "partial", partial }, { "controller", controller }, { "whole", whole },
-        { "version", version }, { "touch", touch },
+        { "code-range", code_range }, { "total-range", total_range }, { "version", version }, { "touch", touch },
     };
     for (int i = 1; i < count; i++)
         if (!strcmp(words[i], "--flush"))

@@ -11,7 +11,7 @@ from texts import fail, text_of
 
 DATA = 'tests/data/factors.txt'
 SPEC, CODE = 'crates/conversion/specs/Conversion.antt', 'crates/conversion/src/lib.rt'
-PLAIN, REFERENCE = 'tests/plain/saugrinte.c', 'tests/reference/saugrinte.py'
+PLAIN, REFERENCE = 'tests/plain/saugrinte.c', 'tests/reference/independent.py'
 PUBLISHED = 'tests/reference/published.py'
 CODES = 16
 PRINTED_CODES = [1, 2, 3, 4, 5, 6, 7, 8, 10, 11, 12]

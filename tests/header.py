@@ -1,15 +1,17 @@
 #!/usr/bin/env python3
 """The header's constants against the library's sources, its definitions and the papers' words.
 
-  python3 tests/header.py
+  python3 tests/header.py [DRIVER]      DRIVER: tests/driver.c with the library, which gives its ranges
 
 Compared: the version, the sizes, the greatest allowance, each refusal with its word (README.md has document 01's
 table), each component code with its name and its range in the register, that the library has the functions that the
 header declares, and that each has the promise of the function that it calls, word for word: the must-fail edits of the
-C interface wrong the functions that are called.
+C interface wrong the functions that are called. With a driver also the ranges, of the codes and of the total, that
+stand in the header's remarks with those that the library gives.
 """
 import os
 import re
+import subprocess
 import sys
 
 ROOT = os.path.join(os.path.dirname(os.path.abspath(__file__)), '..')
@@ -74,7 +76,7 @@ def meanings(crate):
 def same_promise(name, promise, body):
     """An exported function hands its parameters on, and promises what the function that it calls promises."""
     call = re.fullmatch(r'(\w+)::(\w+)\(([\w, ]*)\)', body)
-    if not call or call[3].split(', ') != re.findall(r'(\w+): ', promise.partition(')')[0]):
+    if not call or re.findall(r'\w+', call[3]) != re.findall(r'(\w+): ', promise.partition(')')[0]):
         fail('%s does more than to hand its parameters on' % name)
     if functions(call[1])[call[2]][0] != promise:
         fail('%s and %s::%s have other parameters or promises' % (name, call[1], call[2]))
@@ -97,6 +99,19 @@ def range_of(register, code):
         return 'in splits only'
     live, least, greatest, required = status
     return live == LIVE and least + '..' + greatest + ' parts' + ', and must be present' * (required == 'true')
+
+
+def same_ranges(driver, refusals, codes):
+    """The ranges in the header's remarks are those that the library gives: 1..0 where a code has none."""
+    remarked = {code: remark.split()[0] for code, remark in codes.values() if ' parts' in remark}
+    asked = [*range(max(remarked) + 2), 2 ** 32 - 1]
+    said = subprocess.run([driver], input=''.join('code-range %d\n' % code for code in asked) + 'total-range\n',
+                          stdout=subprocess.PIPE, text=True, check=True).stdout
+    *given, total = ['..'.join(line.split()[1:]) for line in said.splitlines()]
+    for code, found in zip(asked, given, strict=True):
+        same('the range that the library gives code %d' % code, found, remarked.get(code, '1..0'))
+    same('the range that the library gives the total', total,
+         *(refusals[name][1].split()[-1] for name in ('TOTAL', 'MOLE_TOTAL')))
 
 
 def sheet_bytes():
@@ -153,6 +168,8 @@ def main():
         same('the range of %s (code %s)' % (name, code), remark, range_of(register, code))
     if len(remarks(enums[1])) != len(codes):
         fail('a code without its range')
+    for driver in sys.argv[1:]:
+        same_ranges(driver, remarks(enums[0]), remarks(enums[1]))
 
     # functions
     declared = set(re.findall(r'^\w+ (saugrinte_\w+)\(', header, re.M))

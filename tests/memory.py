@@ -17,7 +17,8 @@ SEED, SHEETS = 17, 5000
 STATUS = 99                 # valgrind's, where it reports anything
 # How often each call of the driver is made at least.
 LEAST = {'rate': 5000, 'read': 5000, 'write': 2000, 'search': 300, 'split': 500, 'search-moles': 150,
-         'split-moles': 200, 'convert': 100, 'partial': 2000, 'controller': 400, 'whole': 200}
+         'split-moles': 200, 'convert': 100, 'partial': 2000, 'controller': 400, 'whole': 200,
+         'code-range': 64, 'total-range': 1}
 
 
 def valgrind(log):

@@ -18,10 +18,10 @@ HERE = os.path.dirname(os.path.abspath(__file__))
 ROOT = os.path.dirname(HERE)
 sys.path.insert(0, os.path.join(HERE, 'reference'))
 sys.path.insert(0, os.path.join(ROOT, 'tools'))
+import independent as ref  # noqa: E402
 import explain  # noqa: E402
-import gas  # noqa: E402
-import saugrinte as ref  # noqa: E402
-import sheet as tool  # noqa: E402
+from ranges import RANGES  # noqa: E402
+from saugrinte import gas, lines as tool, words as said_of  # noqa: E402
 
 TABLE_A1 = (0, 970797, 16658, 2417, 346, 245, 11, 73, 125, 0, 84, 528, 8715, 0, 0, 0)
 BIOMETHANE = (0, 970000, 300, 0, 0, 0, 0, 0, 0, 0, 0, 22000, 7700, 0, 0, 0)
@@ -30,6 +30,7 @@ MOLES = (0, 970640, 16758, 2453, 356, 253, 11, 76, 132, 0, 91, 530, 8700, 0, 0, 
 FOUND = ref.search(TABLE_A1).split
 SIX = ref.search(BIOMETHANE).split
 TABLE = ref.layout(TABLE_A1, None)
+FOLDERS = ('tools', 'python/saugrinte')
 EXAMPLES = ('biomethane', 'hydrogen', 'table-a1')
 LEFT = "the split's %s, are not those expected: three for each system chosen for this gas"
 SIMPLIFIED = 'the split does not add up to the simplified mixture: it has '
@@ -154,7 +155,8 @@ class Place:
         os.makedirs(os.path.join(path, 'crates'))
         open(os.path.join(path, 'crates.txt'), 'w').close()
         shutil.copy(os.path.join(ROOT, 'rate'), path)
-        shutil.copytree(os.path.join(ROOT, 'tools'), os.path.join(path, 'tools'))
+        for folder in FOLDERS:
+            shutil.copytree(os.path.join(ROOT, folder), os.path.join(path, folder))
         os.makedirs(os.path.join(path, 'files'))
         self.files = os.path.join(path, 'files')
         self.bare = os.path.join(path, 'bare')
@@ -476,11 +478,11 @@ def words_of_moles(place):
             moles[code] = draw.choice((0, 1, least - 1, least, greatest, greatest + 1, draw.randint(least, greatest)))
         _, sheet = tool.of_mole_lines(b'#\n' + mole_lines(moles).encode())
         for number in (*range(20), 99):
-            said = explain.explain_moles('REFUSED %d\n' % number, sheet)
+            said = explain.explain('REFUSED %d\n' % number, sheet, moles=True)
             expect('words', said.startswith('%d: ' % number) and '\n' not in said and said.isascii(), (number, moles))
         answer = ref.check_moles(moles)
         if answer and answer.number == 5:
-            said = explain.explain_moles('REFUSED 5\n', sheet)
+            said = explain.explain('REFUSED 5\n', sheet, moles=True)
             codes = [named(part) for part in said[len('5: '):].split('; ')]
             expect('the codes', codes == at_fault(sheet) and codes[:1] == [answer.at], (answer, said))
             several += len(codes) > 1
@@ -589,7 +591,7 @@ def words(place):
                    (number, sheet.hex()))
         answer = ref.read(sheet)
         if isinstance(answer, ref.Refusal) and answer.number < 7:
-            detail = explain.detail(answer.number, sheet)
+            detail = said_of.detail(answer.number, sheet, RANGES)
             expect('a detail', detail, (answer, sheet.hex()))
             if answer.number in (2, 3, 4):
                 expect('the place', detail.startswith('record %d ' % (answer.at + 1)), (answer, detail))
@@ -655,8 +657,9 @@ def main():
         words(place)
         words_of_moles(place)
         building(os.path.join(path, 'building'), *sys.argv[1:])
-        left = sorted(os.listdir(os.path.join(place.path, 'tools')))
-        expect('nothing is left in tools', left == sorted(os.listdir(os.path.join(ROOT, 'tools'))), left)
+        for folder in FOLDERS:
+            left = sorted(os.listdir(os.path.join(place.path, folder)))
+            expect('nothing is left in ' + folder, left == sorted(os.listdir(os.path.join(ROOT, folder))), left)
     if failures:
         sys.exit('rate: %d failed' % failures)
     print('rate: %d refusals in words, lines, sheets and moles by name, statuses and building stand' % count)

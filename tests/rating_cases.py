@@ -11,7 +11,7 @@ import sys
 sys.dont_write_bytecode = True
 HERE = os.path.dirname(os.path.abspath(__file__))
 sys.path.insert(0, os.path.join(HERE, 'reference'))
-import saugrinte as reference
+import independent as reference
 
 CRATE = os.path.join(HERE, '..', 'crates', 'rating_cases')
 

@@ -17,9 +17,10 @@ HERE = os.path.dirname(os.path.abspath(__file__))
 ROOT = os.path.dirname(HERE)
 sys.path.insert(0, os.path.join(HERE, 'reference'))
 sys.path.insert(0, os.path.join(ROOT, 'tools'))
-import gas  # noqa: E402
-import saugrinte as ref  # noqa: E402
-import sheet as tool  # noqa: E402
+sys.path.insert(0, os.path.join(ROOT, 'python'))
+import independent as ref  # noqa: E402
+from ranges import RANGES  # noqa: E402
+from saugrinte import gas, lines as tool  # noqa: E402
 
 TOOL = os.path.join(ROOT, 'tools', 'sheet.py')
 TABLE_A1 = (0, 970797, 16658, 2417, 346, 245, 11, 73, 125, 0, 84, 528, 8715, 0, 0, 0)
@@ -393,16 +394,16 @@ def tables():
     readme = lines(os.path.join(ROOT, 'README.md'))
     for c in gas.COMPONENTS:
         row = '| `%s` | `%s` | %d | %s | %s |' % (
-            c.name, c.short, c.code, gas.percent(c.least), gas.percent(c.greatest))
+            c.name, c.short, c.code, *map(gas.percent, RANGES.amounts[c.code]))
         expect('README.md has ' + row, readme.count(row + '\n') == 1, '')
     expect('rows', len(re.findall(r'(?m)^\| `[^`]+` \| `[^`]+` \| [0-9]+ \|', readme)) == len(gas.COMPONENTS), '')
-    expect('ranges', {c.code: (c.least, c.greatest) for c in gas.COMPONENTS} == ref.RANGE, gas.COMPONENTS)
+    expect('ranges', RANGES.amounts == ref.RANGE and set(RANGES.amounts) == set(gas.BY_CODE), RANGES)
     words = dict(re.findall(r'(?m)^\| ([0-9]+) \| ([a-z ]+) \| .* \|$', readme))
     expect('words', words == {str(n): word for n, (word, _) in gas.REFUSALS.items()}, words)
     expect('the rest', (gas.RETIRED, gas.SPLITS_ONLY, (gas.REQUIRED,), gas.MOST_COMPONENTS, gas.SPLIT_COUNTS,
-                        gas.LONGEST, gas.LEAST_TOTAL, gas.GREATEST_TOTAL, tuple(gas.SPLIT_NAMES))
+                        gas.LONGEST, RANGES.total, tuple(gas.SPLIT_NAMES))
            == (ref.RETIRED, ref.SPLITS_ONLY, ref.REQUIRED, ref.MOST_COMPONENTS, ref.SPLIT_COUNTS, ref.LONGEST,
-               ref.LEAST_TOTAL, ref.GREATEST_TOTAL, ref.SPLIT_CODE), '')
+               (ref.LEAST_TOTAL, ref.GREATEST_TOTAL), ref.SPLIT_CODE), '')
 
 
 def shell(command, place):

@@ -7,10 +7,9 @@ import subprocess
 import sys
 
 sys.dont_write_bytecode = True
-import gas  # noqa: E402
-import sheet  # noqa: E402
-from explain import explain, explain_moles  # noqa: E402
+from explain import explain  # noqa: E402
 from sheet import content, put, say  # noqa: E402
+from saugrinte import gas, lines  # noqa: E402
 
 
 def answer(program, data):
@@ -22,9 +21,9 @@ def answer(program, data):
 def given(data, moles):
     """What the program reads of a file's bytes, and the sheet that the words are taken from."""
     if moles:
-        return sheet.of_mole_lines(data)
+        return lines.of_mole_lines(data)
     if gas.is_text(data):
-        data = sheet.of_lines(data)
+        data = lines.of_lines(data)
     return data, data
 
 
@@ -35,7 +34,7 @@ def rate(program, data, shown, moles, start):
     if status:
         say('rate: %sthe display program ended with status %d' % (start, status))
         return 2
-    words = (explain_moles if moles else explain)(line.decode('ascii', 'replace'), shown)
+    words = explain(line.decode('ascii', 'replace'), shown, moles)
     if words:
         say(start + words)
     return 0

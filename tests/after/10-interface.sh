@@ -1,9 +1,9 @@
 #!/usr/bin/env bash
 # The C interface: builds the library's archive, compiles the driver and the example against it with the header, and
-# compares the header's constants with the sources, its version with the library's, and what the example prints.
-# SAUGRINTE_LIB names another archive or a C file to take in the archive's place. The driver gets its name once it is
-# whole: the other tests wait for it, or for a file `failed`. So do the drivers of
-# the plain C program, `plain` and, with the library's ideas in its search, `kept`.
+# compares the header's constants with the sources, its version and ranges with the library's, and what the example
+# prints. SAUGRINTE_LIB names another archive or a C file to take in the archive's place. The driver gets its name once
+# it is whole: the other tests wait for it, or for a file `failed`. So do the drivers of the plain C program, `plain`
+# and, with the library's ideas in its search, `kept`.
 set -euo pipefail
 cd "$(dirname "$0")/../.."
 
@@ -30,7 +30,7 @@ if [ -z "${SAUGRINTE_LIB:-}" ]; then
   needs=$(nm -u "$lib" | sed -n 's/^ *U //p' | sort -u | tr '\n' ' ')
   [ "$needs" = 'memcpy ' ] || { echo "interface: the archive needs $needs, the header says memcpy"; exit 1; }
 fi
-python3 tests/header.py
+python3 tests/header.py "$out/driver" "$out/plain"
 said=$(echo version | "$out/driver")
 [ "$said" = "${said#* } ${said#* }" ] || { echo "interface: versions of the header and of the library: $said"; exit 1; }
 "$out/rate-example" >"$out/rate.out"

@@ -32,6 +32,7 @@ static uint8_t read_systems[SAUGRINTE_RECORDS], read_codes[SAUGRINTE_RECORDS];
 static saugrinte_figures figures;
 static int64_t number, whole;
 static saugrinte_record record;
+static saugrinte_range range;
 static uint32_t version;
 
 static void call_nothing(void) { __asm__ volatile(""); }
@@ -66,6 +67,8 @@ static void call_write(void)
 }
 static void call_controller(void) { record = saugrinte_controller(figures.rating, (uint64_t)figures.spread); }
 static void call_whole_number(void) { whole = saugrinte_whole_number(figures.rating); }
+static void call_code_range(void) { range = saugrinte_code_range(SAUGRINTE_HYDROGEN); }
+static void call_total_range(void) { range = saugrinte_total_range(); }
 
 static struct {
     const char *name;
@@ -86,6 +89,8 @@ static struct {
     { "saugrinte_write", call_write, 0, 0 },
     { "saugrinte_controller", call_controller, 0, 0 },
     { "saugrinte_whole_number", call_whole_number, 0, 0 },
+    { "saugrinte_code_range", call_code_range, 0, 0 },
+    { "saugrinte_total_range", call_total_range, 0, 0 },
 };
 enum { CALLS = sizeof calls / sizeof *calls };
 

@@ -17,6 +17,8 @@ enum { METHANE, ETHANE, PROPANE, BUTANE, HYDROGEN, COMPONENTS };
 enum { CANDIDATES = 7, INERT = 7, SYSTEMS = 16, CHOSEN = CANDIDATES, MEMBERS = 3 };
 
 #define WHOLE 1000000
+#define LEAST_TOTAL 999900
+#define GREATEST_TOTAL 1000100
 #define LIMIT 500000
 
 static const saugrinte_answer done = { 0, 0 };
@@ -64,7 +66,7 @@ static saugrinte_answer check_with(const uint32_t amounts[CODES], uint32_t zeros
             return refused(OUT_OF_RANGE, code);
         total += amounts[code];
     }
-    if (total < 999900 || total > 1000100)
+    if (total < LEAST_TOTAL || total > GREATEST_TOTAL)
         return refused(out_of_total, 0);
     return done;
 }
@@ -893,4 +895,19 @@ int64_t saugrinte_whole_number(int64_t rating)
         rest += 10000000;
     }
     return whole + (rest >= 5000000);
+}
+
+saugrinte_range saugrinte_code_range(uint32_t code)
+{
+    saugrinte_range none = { 1, 0 };
+    if (code >= CODES || ranges[code].greatest == 0)
+        return none;
+    saugrinte_range range = { ranges[code].least, ranges[code].greatest };
+    return range;
+}
+
+saugrinte_range saugrinte_total_range(void)
+{
+    saugrinte_range range = { LEAST_TOTAL, GREATEST_TOTAL };
+    return range;
 }

@@ -22,7 +22,7 @@ from itertools import combinations
 from math import gcd
 from typing import NamedTuple
 
-import saugrinte as ref
+import independent as ref
 
 U32 = 1 << 32
 CODES = sorted(ref.RANGE)

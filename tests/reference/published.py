@@ -24,7 +24,7 @@ import sys
 from decimal import Decimal
 from fractions import Fraction
 
-import saugrinte as ref
+import independent as ref
 
 DATA = os.path.join(os.path.dirname(os.path.abspath(__file__)), "..", "data")
 README = os.path.join(DATA, "..", "..", "README.md")

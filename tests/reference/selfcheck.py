@@ -14,8 +14,8 @@ import sys
 from fractions import Fraction
 
 import gases
-import saugrinte as ref
-from saugrinte import Rating, Refusal
+import independent as ref
+from independent import Rating, Refusal
 
 A1 = (0, 970797, 16658, 2417, 346, 245, 11, 73, 125, 0, 84, 528, 8715, 0, 0,
       0)

@@ -1,5 +1,5 @@
 -- The table that the register gives, which the code's must be (`check` compares them), its ranges at each code by one
--- computation, and the range test by it. Assumes nothing.
+-- computation, those of every code as a caller asks for them, and the range test by it. Assumes nothing.
 use mathlib.Core.Path.{_≡_, refl, sym, _∙_}
 use mathlib.Core.Bool.{Bool, true, false, not, _&&_, _||_, Bool·beq, cond, or-false}
 use mathlib.Core.List.{List, [], _∷_}
@@ -10,8 +10,11 @@ use lib.ListN.{getD, replicate}
 use borrow.Author.Tests.{eqb-true, leb-true}
 use Rattle.refusal.specs.Laws.Alike.{beq-is}
 use Rattle.analysis.specs.Register.{CODES, statusOf}
+use Rattle.analysis.specs.Laws.Lowest.{unknown-above}
 use Rattle.analysis.specs.Laws.Table.{at}
-use Rattle.analysis.specs.Check.{leastOf, greatestOf, requiredOf, inRange}
+use Rattle.analysis.specs.Check.{leastBy, greatestBy, leastOf, greatestOf, requiredOf, inRange}
+use Rattle.analysis.specs.Range.{rangeOf}
+use Rattle.analysis.specs.declared.Range.{Range}
 
 -- the table that the register gives: the least and the greatest amount of so many codes from `code` on
 abbrev rangesFrom : ℕ → ℕ → List (List ℕ)
@@ -32,6 +35,20 @@ range-at k h = (
   eqb→eq _ _ (at (λ i _. eqb (getD (getD ranges i []) 0 0) (leastOf i)) codes tt k h),
   eqb→eq _ _ (at (λ i _. eqb (getD (getD ranges i []) 1 0) (greatestOf i)) codes tt k h),
 )
+
+-- the range of a code as the table has it, and of one beyond the table
+abbrev range : ℕ → ℕ → Range
+range least greatest = record { least = least; greatest = greatest }
+
+pub range-inside : (k : ℕ) → k < CODES → range (getD (getD ranges k []) 0 0) (getD (getD ranges k []) 1 0) ≡ rangeOf k
+unfolding rangeOf
+range-inside k h = let r = range-at k h in λ i. range (r .0 i) (r .1 i)
+
+pub range-beyond : (k : ℕ) → CODES ≤ k → range 1 0 ≡ rangeOf k
+unfolding rangeOf
+range-beyond k h =
+    let e = sym (unknown-above k h) in
+    λ i. range (leastBy (e i)) (greatestBy (e i))
 
 module _ (k x least greatest : ℕ) (h : k < CODES) (e : (least ≡ leastOf k) × (greatest ≡ greatestOf k)) where
   least-some : 1 ≤ leastOf k

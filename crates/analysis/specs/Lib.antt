@@ -2,6 +2,7 @@ pub mod Register
 pub mod Amounts
 pub mod CheckedCases
 pub mod Check
+pub mod Range
 pub mod Required
 pub mod Examples
 pub mod Faults

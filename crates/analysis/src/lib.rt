@@ -1,5 +1,5 @@
-// Amounts by volume and by mole, the analyses made of them, and their checks: refusals 5 (out of range) and 6 (total),
-// and of a mole analysis 18 (hydrogen in moles), 5 and 15 (mole total).
+// Amounts by volume and by mole, the analyses made of them, their ranges, and their checks: refusals 5 (out of range)
+// and 6 (total), and of a mole analysis 18 (hydrogen in moles), 5 and 15 (mole total).
 // No public function has a `requires`.
 ghost use mathlib.Core.Bool.{cond};
 ghost use mathlib.Core.Path.{_≡_};
@@ -13,6 +13,7 @@ ghost use Rattle.refusal.specs.Register.{carried};
 ghost use Rattle.analysis.specs.Check.{analysisRefusal, lowestFault, answerBy, checkedOf};
 ghost use Rattle.analysis.specs.Check.{moleAmountsRefusal, moleRefusal, molesCheckedOf};
 ghost use Rattle.analysis.specs.CheckedCases.{numberOf, faultOf};
+ghost use Rattle.analysis.specs.Range.{rangeOf, totalRange};
 use refusal::MOLE_BLEND;
 use refusal::MOLE_SUM;
 use refusal::OUT_OF_RANGE;
@@ -45,6 +46,13 @@ pub struct MoleAnalysis {
 pub enum Checked {
     InRange,
     Refused { number: u32, code: u32 },
+}
+
+// The least and the greatest amount, of a code or of the total, as C has them.
+#[repr(C)]
+pub struct Range {
+    pub least: u32,
+    pub greatest: u32,
 }
 
 // The least and the greatest total.
@@ -88,6 +96,34 @@ const RANGES: [[u32; 2]; CODES] = [
     // 15, hydrogen
     [10, 100000],
 ];
+
+// The range of a code's amount; 1 and 0, which no amount lies between, where it may have none.
+pub fn range_of(code: u32) -> Range
+    ensures { λ r. ⌜ r ≡ rangeOf code ⌝ }
+{
+    let at = code as usize;
+    if at < CODES {
+        let ranges = RANGES;
+        let range = ranges[at];
+        let least = range[0];
+        let greatest = range[1];
+        return Range { least, greatest };
+    }
+    Range {
+        least: 1,
+        greatest: 0,
+    }
+}
+
+// The range of the total, the same of volumes and of moles.
+pub fn total_range() -> Range
+    ensures { λ r. ⌜ r ≡ totalRange ⌝ }
+{
+    Range {
+        least: LEAST_SUM as u32,
+        greatest: GREATEST_SUM as u32,
+    }
+}
 
 // The code where its amount is out of its range, else the code at fault so far. 0 is in range where the code may be
 // absent: all but 1.

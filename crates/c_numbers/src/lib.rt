@@ -1,12 +1,15 @@
-// The calls of the C interface that answer one number or record: a partial number, the controller's record, the whole
-// methane number. What the first leaves in its buffer is in c_reply/specs/Interface.antt.
+// The calls of the C interface that answer one number, record or range: a partial number, the controller's record, the
+// whole methane number, the ranges of amounts and total. What the first leaves in its buffer is in
+// c_reply/specs/Interface.antt.
 //
 // No public function has a `requires`.
 ghost use mathlib.Core.Path.{_≡_};
 ghost use Rattle.ternary.specs.Answer.{partialOf};
 ghost use Rattle.whole_number.specs.Whole.{wholeNumber};
+ghost use Rattle.analysis.specs.Range.{rangeOf, totalRange};
 ghost use Rattle.controller.specs.Record.{recordOf};
 ghost use Rattle.c_reply.specs.Interface.{partialReply, partialIn};
+use analysis::Range;
 use c_reply::Reply;
 use c_reply::refused;
 use controller::ControllerRecord;
@@ -42,4 +45,18 @@ pub fn whole_number(rating: i64) -> i64
     ensures { λ r. ⌜ r ≡ wholeNumber rating ⌝ }
 {
     whole_number::whole_number(rating)
+}
+
+// The range of a code's amount.
+pub fn code_range(code: u32) -> Range
+    ensures { λ r. ⌜ r ≡ rangeOf code ⌝ }
+{
+    analysis::range_of(code)
+}
+
+// The range of the total.
+pub fn total_range() -> Range
+    ensures { λ r. ⌜ r ≡ totalRange ⌝ }
+{
+    analysis::total_range()
 }

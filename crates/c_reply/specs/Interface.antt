@@ -20,9 +20,9 @@ use Rattle.split.specs.AnswerCases as answer
 use Rattle.split.specs.declared.Answer.{Answer}
 use Rattle.c_reply.specs.declared.Reply.{Reply}
 
--- the version, 1.6.0: 10000, 100 and 1 times its three figures
+-- the version, 1.7.0: 10000, 100 and 1 times its three figures
 abbrev pub VERSION : ℕ
-VERSION = 10600
+VERSION = 10700
 
 abbrev pub reply : ℕ → ℕ → Reply
 reply number place = record { number = number; place = place }

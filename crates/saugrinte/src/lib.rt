@@ -13,18 +13,20 @@ ghost use Rattle.controller.specs.Record.{recordOf};
 ghost use Rattle.split.specs.AnswerCases.{figuresOf, bufferOf};
 ghost use Rattle.outcome.specs.Rate.{splitAnswer, searchOutcome, sheetOutcome, moleSplitAnswer, moleSearchOutcome};
 ghost use Rattle.analysis.specs.Check.{molesCheckedOf};
+ghost use Rattle.analysis.specs.Range.{rangeOf, totalRange};
 ghost use Rattle.conversion.specs.Conversion.{volumesOf};
 ghost use Rattle.c_reply.specs.Interface.{VERSION, replyOf, splitFrom, bytesIn};
 ghost use Rattle.c_reply.specs.Interface.{partialReply, partialIn, convertedReply, convertedOr, readReply, readOr};
 ghost use Rattle.c_reply.specs.Interface.{writtenReply, writtenLength};
 use analysis::CODES;
+use analysis::Range;
 use c_ratings::FIGURES;
 use c_reply::Reply;
 use controller::ControllerRecord;
 use sheet::RECORDS;
 
-// The version, 1.6.0: 10000, 100 and 1 times its three figures.
-const VERSION: u32 = 10600;
+// The version, 1.7.0: 10000, 100 and 1 times its three figures.
+const VERSION: u32 = 10700;
 
 // The library's version.
 #[no_mangle]
@@ -211,4 +213,20 @@ pub extern "C" fn saugrinte_whole_number(rating: i64) -> i64
     ensures { λ r. ⌜ r ≡ wholeNumber rating ⌝ }
 {
     c_numbers::whole_number(rating)
+}
+
+// The range of a code's amount.
+#[no_mangle]
+pub extern "C" fn saugrinte_code_range(code: u32) -> Range
+    ensures { λ r. ⌜ r ≡ rangeOf code ⌝ }
+{
+    c_numbers::code_range(code)
+}
+
+// The range of the total.
+#[no_mangle]
+pub extern "C" fn saugrinte_total_range() -> Range
+    ensures { λ r. ⌜ r ≡ totalRange ⌝ }
+{
+    c_numbers::total_range()
 }

@@ -1,34 +1,33 @@
-"""What the tools for people share: the components with their names and ranges, the refusals' words, how a sheet's bytes
-lie. Nothing here decides an answer: the proved program does.
+"""Names and units: the components as people write them, the refusals' words, how a sheet's bytes lie. Nothing here
+decides an answer: the proved library does, and it has the ranges.
 
 A part is 0.0001 % by volume, or in a mole analysis 0.0001 mole percent.
 """
 import re
 from collections import namedtuple
 
-# The name and the short name are those of README.md's table; `others` are taken too. Amounts in parts.
-Component = namedtuple('Component', 'code name short least greatest others')
+# The name and the short name are those of README.md's table; `others` are taken too.
+Component = namedtuple('Component', 'code name short others')
 COMPONENTS = tuple(Component(*row) for row in (
-    (1, 'methane', 'C1', 400000, 999700, ('CH4',)),
-    (2, 'ethane', 'C2', 100, 150000, ('C2H6',)),
-    (3, 'propane', 'C3', 100, 60000, ('C3H8',)),
-    (4, 'i-butane', 'iC4', 10, 40000, ('isobutane', 'isoC4', 'iC4H10', '2-methylpropane')),
-    (5, 'n-butane', 'nC4', 10, 40000, ('nC4H10',)),
-    (6, 'neo-pentane', 'neoC5', 10, 500, ('neoC5H12', '2,2-dimethylpropane')),
-    (7, 'i-pentane', 'iC5', 10, 20000, ('isopentane', 'isoC5', 'iC5H12', '2-methylbutane')),
-    (8, 'n-pentane', 'nC5', 10, 20000, ('nC5H12',)),
-    (10, 'hexanes+', 'C6+', 10, 6100, ('hexane+', 'n-hexane+', 'nC6+', 'hexanes plus', 'C6 plus', 'hexane and higher',
-                                       'n-hexane and higher', 'hexanes and higher', 'C6 and higher')),
-    (11, 'carbon-dioxide', 'CO2', 50, 100000, ()),
-    (12, 'nitrogen', 'N2', 50, 150000, ()),
-    (15, 'hydrogen', 'H2', 10, 100000, ()),
+    (1, 'methane', 'C1', ('CH4',)),
+    (2, 'ethane', 'C2', ('C2H6',)),
+    (3, 'propane', 'C3', ('C3H8',)),
+    (4, 'i-butane', 'iC4', ('isobutane', 'isoC4', 'iC4H10', '2-methylpropane')),
+    (5, 'n-butane', 'nC4', ('nC4H10',)),
+    (6, 'neo-pentane', 'neoC5', ('neoC5H12', '2,2-dimethylpropane')),
+    (7, 'i-pentane', 'iC5', ('isopentane', 'isoC5', 'iC5H12', '2-methylbutane')),
+    (8, 'n-pentane', 'nC5', ('nC5H12',)),
+    (10, 'hexanes+', 'C6+', ('hexane+', 'n-hexane+', 'nC6+', 'hexanes plus', 'C6 plus', 'hexane and higher',
+                             'n-hexane and higher', 'hexanes and higher', 'C6 and higher')),
+    (11, 'carbon-dioxide', 'CO2', ()),
+    (12, 'nitrogen', 'N2', ()),
+    (15, 'hydrogen', 'H2', ()),
 ))
 BY_CODE = {c.code: c for c in COMPONENTS}
 RETIRED = (9, 13)
 SPLITS_ONLY = 14
 REQUIRED = 1
 HYDROGEN = 15
-LEAST_TOTAL, GREATEST_TOTAL = 999900, 1000100
 
 # What stands after an amount in words: by volume, in moles.
 PERCENT, MOLE_PERCENT = '%', 'mol %'

@@ -291,9 +291,14 @@ def read(sheet):
     return tuple(listed.get(c, 0) for c in range(CODES)), split
 
 
+def code_range(code):
+    """1 and 0 for a code that no analysis has."""
+    return RANGE.get(code, (1, 0))
+
+
 def in_range(code, amount):
     """Never for a code that no analysis has."""
-    least, greatest = RANGE.get(code, (1, 0))
+    least, greatest = code_range(code)
     return least <= amount <= greatest
 
 

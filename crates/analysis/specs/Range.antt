@@ -1,0 +1,13 @@
+-- The ranges as a caller asks for them (document 01, "The register and the sheet"): of a code's amount, and of the
+-- total. Assumes nothing.
+use Prim.Native.Nat.{ℕ}
+use Rattle.analysis.specs.declared.Range.{Range}
+use Rattle.analysis.specs.Check.{leastOf, greatestOf, LEAST_SUM, GREATEST_SUM}
+
+-- the least and the greatest amount of a code; 1 and 0, between which no amount lies, where it is not live
+unfoldable pub rangeOf : ℕ → Range
+rangeOf code = record { least = leastOf code; greatest = greatestOf code }
+
+-- the least and the greatest total
+abbrev pub totalRange : Range
+totalRange = record { least = LEAST_SUM; greatest = GREATEST_SUM }

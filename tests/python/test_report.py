@@ -1,0 +1,316 @@
+"""Reports: pages are well formed and stand alone, the same input gives the same bytes, every figure is the library's,
+what others wrote is escaped, and a long archive makes a short page."""
+import io
+import os
+import subprocess
+import sys
+import threading
+import time
+from decimal import Decimal
+
+import matplotlib
+import pytest
+from gases import ENVIRONMENT, EXAMPLE, ROOT, TABLE_A1, command, gases
+from hypothesis import given, settings, strategies as st
+from pages import Page
+
+import saugrinte
+from saugrinte import amounts, archive, batch, gas, library, pictures, report
+from saugrinte.ratings import Rating, Refused, rate_parts
+
+TABLE = amounts.by_name(TABLE_A1)
+EVIL = '<script>alert("1")</script> \'&amp; $x^2$ \u4e2d --> ]]>'
+TITLES = ';'.join(('time', *batch.ADDED))
+
+
+def example(name):
+    with open(os.path.join(ROOT, 'examples', name), 'rb') as file:
+        return file.read()
+
+
+def page_of(data, moles=False, plate=None, title='gas'):
+    given_amounts, answer = report.answer_to(data, moles)
+    return Page(report.gas_page(given_amounts, answer, moles=moles, title=title, plate=plate))
+
+
+# ------------------------------------------------------------ a gas
+
+def test_figures_are_the_librarys():
+    rating = saugrinte.rate(TABLE)
+    page = Page(report.gas_page(TABLE, rating, plate=80))
+    assert '91.0787' in page.text and '91.0787384' in page.text and 'ample by 11.0787' in page.text
+    assert [row[1:] for row in page.table('Partial numbers')[1:]] == [
+        [str(s.percent), str(s.partial_number), format(s.partial_number - min(
+            other.partial_number for other in rating.systems), 'f')] for s in rating.systems]
+    assert page.table('Split by system and component, in percent of the simplified mixture')[1] == [
+        'system 4', '31.0026', '0.8402', '0.1219', '\u2013', '31.9647']
+    assert [row[2] for row in page.table('Amounts in percent by volume')[1:]] == [
+        *(str(amount) for amount in TABLE.values()), '99.9999']
+    assert len(page.pictures) == 4 and all(picture.attrib['role'] == 'img' for picture in page.pictures)
+    assert 'system 7 91.0527' in page.alts[2] and 'The rating 91.0787 lies 0.0261 above the band' in page.alts[2]
+
+
+def test_effects_are_ratings_of_changed_gases():
+    number = rate_parts(TABLE_A1).units
+    found = {effect.component: effect for effect in pictures.effects(TABLE_A1)}
+    assert set(found) == {c.name for c in gas.COMPONENTS} - {'methane'}
+    for name, effect in found.items():
+        changed = {**TABLE, name: TABLE.get(name, 0) + amounts.in_unit(effect.parts)}
+        changed['methane'] -= amounts.in_unit(effect.parts)
+        assert effect.units == saugrinte.rate(changed).units - number
+        assert effect.present == (name in TABLE)
+    greatest = library.ranges().amounts[6][1]
+    assert found['neo-pentane'].parts == greatest - TABLE_A1[6] and found['ethane'].parts == pictures.STEP
+    changes = [effect.units for effect in pictures.effects(TABLE_A1)]
+    assert changes == sorted(changes, reverse=True)
+
+
+def test_effects_where_the_library_refuses():
+    refused = [effect for effect in pictures.effects(TABLE_A1, moles=True) if effect.refused]
+    assert [(effect.component, effect.refused.number) for effect in refused] == [('hydrogen', 18)]
+    full = list(TABLE_A1)
+    full[6] = library.ranges().amounts[6][1]
+    full[1] -= full[6] - TABLE_A1[6]
+    effect = next(effect for effect in pictures.effects(full) if effect.component == 'neo-pentane')
+    assert effect.units is None and effect.refused.number == 5 and effect.refused.component == 'neo-pentane'
+    assert 'neo-pentane refused 5' in Page(report.gas_page(amounts.by_name(full), rate_parts(full))).alts[3]
+    with pytest.raises(Refused):
+        pictures.effects([0] * 16)
+
+
+@pytest.mark.parametrize('units, plate, said', [
+    (910787384, 80, 'ample by 11.0787'), (910787384, 92, 'short by 0.9213'), (800000000, 80, 'the plate\u2019s number exactly'),
+    (796000000, 80, 'short by 0.4000 (the whole number 80 meets the plate)'), (800000001, 80, 'ample by 0.0000001'),
+    (-10000000, 0, 'short by 1.0000'), (794999999, 80, 'short by 0.5000')])
+def test_verdicts(units, plate, said):
+    rating = Rating(units, 0, 0, ())
+    assert pictures.verdict(rating, plate) == said
+    assert said in Page(pictures.number_picture(rating, plate)).alts[0]
+
+
+def test_moles():
+    page = page_of(example('moles.txt'), moles=True, plate=92)
+    assert '91.0833' in page.text and 'volumes made from moles' in page.text and 'short by 0.9167' in page.text
+    made = saugrinte.convert(amounts.by_name(amounts.by_code(report.answer_to(example('moles.txt'), True)[0])))
+    assert [row[3] for row in page.table('Amounts in mole percent')[1:-1]] == [str(amount) for amount in made.values()]
+    assert 'hydrogen (absent) refused 18' in page.alts[3] and 'Refused, hydrogen: 18' in page.text
+
+
+@pytest.mark.parametrize('name, number', [('hydrogen.txt', '75.6142'), ('biomethane.txt', '100.5097')])
+def test_other_examples(name, number):
+    assert number in page_of(example(name)).text
+
+
+def test_a_proposed_split():
+    rating = saugrinte.rate(TABLE)
+    lines = example('table-a1.txt').decode() + ''.join(
+        'split %d %s %s\n' % (r.system, r.component, r.percent) for r in rating.split)
+    page = page_of(lines.encode())
+    assert '91.0787' in page.text and 'rounds of the search 0' in page.text
+    moved = lines.replace('split 4 methane 31.0026', 'split 4 methane 31.0036').replace(
+        'split 8 methane 46.7721', 'split 8 methane 46.7711')
+    assert 'Changes are from the number that the search finds, 91.0787.' in page_of(moved.encode()).text
+
+
+@pytest.mark.parametrize('data, moles, said', [
+    (b'methane 97\nethane 0.0099\n', False, ['Refused 5: out of range', 'ethane 0.0099 % is outside 0.01 to 15 %',
+                                            'range 0.0100 to 15.0000 %']),
+    (b'methane 97\nethane 1\n', False, ['Refused 6: total', 'total 98.0000 %', 'range 99.9900 to 100.0100 %']),
+    (b'methane 99\nnitrogen 1\n', False, ['Refused 16: too few']),
+    (b'methane 95\nhydrogen 5\n', True, ['Refused 18: hydrogen in moles', 'amount 5.0000 mol %']),
+    (b'ethane 15\n', False, ['Refused 5', 'methane is absent', 'component methane', 'amount 0.0000 %']),
+    (b'\1', False, ['Refused 1: torn', 'at least 6 bytes are missing']),
+    (b'\1\x09\0\0\0\1\0', False, ['Refused 3: retired', 'record number 1'])])
+def test_refusals(data, moles, said):
+    page = page_of(data, moles, plate=80)
+    for text in said:
+        assert text in page.text
+    assert not page.pictures and 'no methane number' in page.text
+
+
+def test_what_others_wrote_is_escaped():
+    page = page_of(example('table-a1.txt'), title=EVIL)
+    assert EVIL.split(' $')[0] in page.text and '<script' not in page.html
+
+
+@settings(max_examples=8)
+@given(gases(hydrogen=True), st.one_of(st.none(), st.integers(0, 120)))
+def test_any_gas_has_a_page(analysis, plate):
+    try:
+        answer = rate_parts(analysis)
+    except Refused as refused:
+        answer = refused
+    page = Page(report.gas_page(amounts.by_name(analysis), answer, plate=plate))
+    assert ('Refused' in page.text) == isinstance(answer, Refused)
+    assert isinstance(answer, Refused) or str(answer.number) in page.text
+    assert len(page.html) < 400000
+
+
+def test_the_same_input_gives_the_same_bytes():
+    rating, settings_before = saugrinte.rate(TABLE), dict(matplotlib.rcParams)
+    pages, given_again = [], report.gas_page(TABLE, rating, plate=80, title='t')
+    threads = [threading.Thread(target=lambda: pages.append(report.gas_page(TABLE, rating, plate=80, title='t')))
+               for _ in range(4)]
+    for thread in threads:
+        thread.start()
+    for thread in threads:
+        thread.join()
+    assert pages == [given_again] * 4 and dict(matplotlib.rcParams) == settings_before
+    elsewhere = command('report', EXAMPLE, '-o', '-', '--plate', '80', '--title', 't')
+    assert elsewhere == (0, given_again, '')
+
+
+def test_settings_of_others_change_nothing():
+    plain = pictures.split_picture(saugrinte.rate(TABLE))
+    with matplotlib.rc_context({'font.size': 30, 'svg.fonttype': 'none', 'axes.facecolor': 'black'}):
+        assert pictures.split_picture(saugrinte.rate(TABLE)) == plain
+
+
+# ------------------------------------------------------------ archives
+
+def archive_page(text, **how):
+    return Page(report.archive_page(io.BytesIO(text.encode('utf-8', 'surrogateescape')), **how))
+
+
+def rated_rows(count, start='2024-01-01T00:00:00'):
+    """Rows of a rated archive: every tenth refused, every twentieth unreadable."""
+    minute = time.mktime(time.strptime(start, '%Y-%m-%dT%H:%M:%S'))
+    for n in range(count):
+        when = time.strftime('%Y-%m-%dT%H:%M:%S', time.localtime(minute + 60 * n))
+        if n % 10 == 9:
+            yield when + ';;;;;5;out of range;ethane' if n % 20 == 9 else when + ';;;;;;unreadable;what'
+        else:
+            yield '%s;%d,%07d;%d;0,0300000;5;;;' % (when, 70 + n % 21, n % 10000000, 70 + n % 21)
+
+
+def test_an_archive_that_batch_rated(tmp_path):
+    raw, out = tmp_path / 'a.csv', tmp_path / 'rated.csv'
+    rows = ['when\tnote\tCH4 [vol%]\tC2H6 [vol%]\tH2S [vol%]', '2024-01-01 00:00\t"a\nb"\t95\t5\t',
+            '2024-01-01 01:00\t%s\t90\t10\t' % EVIL, '2024-01-01 02:00\tx\t80\t20\t', '2024-01-01 03:00\tx\t80\tn/a\t',
+            '2024-01-01 04:00\tx\t95\t4\t1', '2024-01-01 05:00\tx\t94\t5\t']
+    raw.write_text('\n'.join(rows) + '\n', encoding='utf-8')
+    assert command('batch', raw, '-o', out)[0] == 0
+    page = Page(report.archive_page(str(out), time_column='when', plate=80))
+    numbers = [saugrinte.rate({'methane': m, 'ethane': e}).number for m, e in ((95, 5), (90, 10))]
+    assert page.table('Rows') == [['', 'rows', '% of all'], ['rows', '6', '100.00'], ['rated', '2', '33.33'],
+                                  ['refused', '2', '33.33'], ['unreadable', '2', '33.33'],
+                                  ['below plate 80', str(sum(n < 80 for n in numbers)), '%.2f' % (
+                                      sum(n < 80 for n in numbers) / 6 * 100)]]
+    assert page.table('Refused rows')[1:] == [[str(n), *gas.REFUSALS[n][:1], '1', gas.REFUSALS[n][1]] for n in (5, 6)]
+    assert page.table('Unreadable rows')[1:] == [['outside', '1'], ['unreadable', '1']]
+    assert page.table('Methane numbers')[1] == [str(min(numbers)), str((sum(numbers) / 2).quantize(Decimal('0.0000001'))),
+                                               str(max(numbers))]
+    assert 'over time: 2 rows rated' in page.alts[0] and '2 refused, 2 unreadable' in page.alts[0]
+    assert Page(report.archive_page(out)).alts[0].startswith('Methane number by row')
+
+
+def test_few_rows_and_many():
+    few = archive_page(TITLES + '\n' + '\n'.join(rated_rows(100)) + '\n', time_column='time', plate=80)
+    below = sum(70 + n % 21 < 80 for n in range(100) if n % 10 != 9)
+    assert few.table('Rows')[1:] == [['rows', '100', '100.00'], ['rated', '90', '90.00'], ['refused', '5', '5.00'],
+                                     ['unreadable', '5', '5.00'], ['below plate 80', str(below), '%.2f' % below]]
+    began = time.monotonic()
+    many = archive_page(TITLES + '\n' + '\n'.join(rated_rows(200000)) + '\n', time_column='time', plate=80)
+    assert time.monotonic() - began < 20
+    assert many.table('Rows')[2:5] == [['rated', '180000', '90.00'], ['refused', '10000', '5.00'],
+                                       ['unreadable', '10000', '5.00']]
+    assert len(many.html) < 400000 and 'the band from the least to the greatest' in many.text
+    assert 'each rated row' in few.text
+
+
+@pytest.mark.parametrize('rows', [[], ['x;;;;;;unreadable;'], ['x;80.0;80;0;1;;;'], ['x;;;;;5;out of range;x'] * 3])
+def test_archives_with_next_to_nothing(rows):
+    page = archive_page('\n'.join([TITLES, *rows]), plate=70)
+    assert page.table('Rows')[1][1] == str(len(rows)) and len(page.pictures) == 1
+
+
+def test_separators_quotes_and_strange_cells():
+    for separator in archive.SEPARATORS.values():
+        text = separator.join(('note', *batch.ADDED)) + '\r\n' + separator.join(
+            ('"a%s ""b""\n c"' % separator, '80.5', '81', '0.01', '3', '', '', '')) + '\r\n\r\n' + separator.join(
+            ('x', '', '', '', '', '5', EVIL.replace(';', '').replace(',', ''), '')) + '\r\n' + 'short\r\n' + separator.join(
+            ('\udcff', 'NaN', '', '', '', '', '', '')) + '\r\n"open%s80\r\n' % separator
+        page = archive_page('\ufeff' + text, title=EVIL)
+        assert [row[1] for row in page.table('Rows')[1:]] == ['5', '1', '1', '3']
+        assert '<script' not in page.html and '<script' in page.table('Refused rows')[1][1]
+
+
+@pytest.mark.parametrize('text, seconds', [
+    ('1970-01-02', 86400), ('1970-01-01T00:01:00Z', 60), ('1970-01-01 01:00:00+01:00', 0), ('1970-01-01 00:00:01.5', 1.5),
+    ('02.01.1970', 86400), ('01.01.1970 00:02', 120), ('1970/01/02 00:00:01', 86401), ('1/2/1970', None), ('', None),
+    ('yesterday', None), (' 1970-01-01 00:01 ', 60)])
+def test_times(text, seconds):
+    clock = report.Clock()
+    assert clock.seconds(text) == clock.seconds(text) == seconds
+
+
+def test_times_that_cannot_be_read():
+    rows = TITLES + '\n2024-01-01;80;80;0;1;;;\nlater;81;81;0;1;;;\n2023-01-01;82;82;0;1;;;\n'
+    assert '1 row has no time' in archive_page(rows, time_column='time').text
+    with pytest.raises(ValueError, match="there is no column 'Zeit'; there are 'time'"):
+        archive_page(rows, time_column='Zeit')
+    with pytest.raises(ValueError, match="no time in column 'word' can be read"):
+        archive_page(rows, time_column='word')
+
+
+@settings(max_examples=40)
+@given(st.lists(st.tuples(st.floats(-1e9, 1e10), st.sampled_from(['rated', 'refused', 'unreadable']),
+                          st.floats(-50, 150)), max_size=300), st.integers(0, 3))
+def test_bins_lose_nothing(rows, times):
+    history, rows = pictures.History(), rows * 3 ** times
+    for place, kind, number in rows:
+        if kind == 'rated':
+            history.rated(place, number, number < 50)
+        else:
+            getattr(history, kind)(place)
+    numbers = [number for _, kind, number in rows if kind == 'rated']
+    assert len(history.bins) <= pictures.MOST_BINS
+    assert [history.count(kind) for kind in ('rows', 'rated', 'refused', 'unreadable', 'below')] == [
+        len(rows), len(numbers), *(sum(kind == other for _, other, _ in rows) for kind in ('refused', 'unreadable')),
+        sum(number < 50 for number in numbers)]
+    rated = [one for one in history.ordered() if one.rated]
+    assert not numbers or (min(one.least for one in rated), max(one.greatest for one in rated)) == (min(numbers), max(numbers))
+    assert (history.points is None) == (len(numbers) > pictures.MOST_POINTS)
+
+
+# ------------------------------------------------------------ the command
+
+def test_the_command(tmp_path):
+    out = tmp_path / 'report.html'
+    out.write_text('old')
+    assert command('report', EXAMPLE, '-o', out, '--plate', '80') == (0, '', '')
+    assert Page(out.read_text(encoding='utf-8')).html.count('table-a1.txt') == 2
+    (tmp_path / 'sheet').write_bytes(saugrinte.write_sheet(TABLE))
+    assert command('report', tmp_path / 'sheet', '-o', out)[0] == 0 and '91.0787' in out.read_text(encoding='utf-8')
+    assert sorted(os.listdir(tmp_path)) == ['report.html', 'sheet']
+    (tmp_path / 'rated.csv').write_text(TITLES + '\n' + '\n'.join(rated_rows(30)))
+    assert command('report', tmp_path / 'rated.csv', '-o', out, '--time', 'time', '--title', 'Week 1')[0] == 0
+    assert '<h1>Week 1</h1>' in out.read_text(encoding='utf-8')
+    with open(EXAMPLE, 'rb') as file:
+        run = subprocess.run([sys.executable, '-m', 'saugrinte', 'report', '-', '-o', '-'], stdin=file, env=ENVIRONMENT,
+                             stdout=subprocess.PIPE, check=True)
+    assert '<h1>standard input</h1>' in Page(run.stdout.decode()).html
+
+
+@pytest.mark.parametrize('text, options, said', [
+    ('time;CH4 [vol%];C2H6 [vol%]\n1;95;5\n', [], 'run `saugrinte batch` on it first'),
+    ('a,b,c,d,e\n1,2,3,4,5\n', [], 'run `saugrinte batch` on it first'),
+    ('methane 97\nethan 3\n', [], "line 2: 'ethan' is none of methane"),
+    ('methane 97\nethane 3\n', ['--time', 'x'], 'a gas has no column of times'),
+    (TITLES + '\n', ['--moles'], 'this is a rated archive'),
+    (TITLES + '\nx;80;80;0;1;;;\n', ['--time', 'Zeit'], "there is no column 'Zeit'"),
+    ('methane 97 vol %\nethane 3\n', ['--moles'], 'amounts are mole percent here'),
+    ('methane 97\nethane 3\n', ['--plate', '80.5'], 'is not a valid integer')])
+def test_what_the_command_turns_away(tmp_path, text, options, said):
+    given_file, out = tmp_path / 'file', tmp_path / 'report.html'
+    given_file.write_text(text)
+    out.write_text('old')
+    status, shown, wrong = command('report', given_file, '-o', out, *options)
+    assert status and shown == '' and said in wrong and 'Traceback' not in wrong
+    assert out.read_text() == 'old' and len(os.listdir(tmp_path)) == 2
+
+
+def test_files_that_cannot_be_written(tmp_path):
+    status, _, wrong = command('report', EXAMPLE, '-o', tmp_path / 'none' / 'report.html')
+    assert status == 1 and 'No such file or directory' in wrong and 'Traceback' not in wrong
+    assert command('report', EXAMPLE, '-o', os.devnull)[0] == 0 and not os.path.isfile(os.devnull)
