@@ -19,7 +19,7 @@ def explain(line, sheet, moles=False):
         return 'methane number ' + words.methane_number(int(said[1])) + (gas.MADE if moles else '')
     if said[:1] == ['REFUSED'] and len(said) > 1:
         number = int(said[1])
-        return '%d: %s' % (number, (words.mole_reason if moles else words.reason)(number, sheet, RANGES))
+        return '%d: %s' % (number, words.reason(number, sheet, RANGES, moles))
     return None
 
 

@@ -64,7 +64,7 @@ class Options:
 
 
 class Column(NamedTuple):
-    index: int
+    at: int                                 # its place among the titles
     code: int
     unit: str
 
@@ -80,7 +80,7 @@ class Layout:
     strange: tuple[Column, ...]             # columns of codes that are retired or unknown
     outside: tuple[tuple[int, str], ...]    # columns of gases that the method leaves out
     carried: tuple[int, ...]                # the other columns
-    absent: frozenset
+    absent: tuple[str, ...]                 # texts that stand for an absent component
     normalise: bool
     rounded: bool
     newline: str
@@ -100,7 +100,7 @@ class Archive:
 
 class Chunk(NamedTuple):
     """Whole rows of an archive."""
-    index: int
+    number: int                             # from 0
     line: int                               # of the first row, from 1
     data: bytes
 
@@ -166,7 +166,7 @@ def title_of(text: str) -> Title:
             break
         rest = parts[1]
         found = named(rest)
-        within = not declared and named(parts[2])
+        within = None if declared else named(parts[2])
         if within and found and within != found:
             raise ArchiveError("column '%s' names two components" % shown(text))
         found = found or within
@@ -253,7 +253,7 @@ def layout_of(cells: Sequence[str], separator: str, options: Options, newline: s
     return Layout(tuple(cells), separator, comma, basis == 'mole', of_kind['live'], of_kind['strange'],
                   tuple((i, t.name) for i, t in enumerate(titles) if t.kind == 'outside'),
                   tuple(i for i, t in enumerate(titles) if t.kind == 'carried'),
-                  frozenset(options.absent), options.normalise, options.rounded, newline)
+                  options.absent, options.normalise, options.rounded, newline)
 
 
 def notes_of(layout: Layout) -> tuple[str, ...]:
@@ -262,11 +262,11 @@ def notes_of(layout: Layout) -> tuple[str, ...]:
         return ', '.join("'%s'" % shown(layout.titles[i]) for i in indices)
 
     notes = ['by %s, in %s: %s' % ('mole' if layout.moles else 'volume', unit, ', '.join(
-        "%s '%s'" % (gas.BY_CODE[c.code].name, shown(layout.titles[c.index]))
+        "%s '%s'" % (gas.BY_CODE[c.code].name, shown(layout.titles[c.at]))
         for c in layout.columns if c.unit == unit)) for unit in dict.fromkeys(c.unit for c in layout.columns)]
     if layout.strange:
         notes.append('retired or unknown codes, a row that has one is refused: '
-                     + listed(c.index for c in layout.strange))
+                     + listed(c.at for c in layout.strange))
     if layout.outside:
         notes.append('gases outside the method, a row that has one is not rated: '
                      + listed(i for i, _ in layout.outside))
@@ -375,7 +375,7 @@ def has_comma(text: str, separator: str, layout: Layout) -> bool:
     for _, raw in records(text, separator):
         cells = cells_of(raw, separator)
         for column in layout.columns:
-            cell = cells[column.index] if column.index < len(cells) else ''
+            cell = cells[column.at] if column.at < len(cells) else ''
             if ',' in cell or '.' in cell:
                 return ',' in cell
     return False
@@ -423,7 +423,7 @@ NUMBER = re.compile(r'([0-9]*)(?:[.,]([0-9]*))?(?:[eE]([+-]?[0-9]{1,2}))?')
 
 class Scaled(NamedTuple):
     """An amount in parts over a power of ten, for amounts finer than a part."""
-    count: int
+    digits: int
     places: int
 
 
@@ -460,9 +460,9 @@ def parts_in(cell: str, unit: str, layout: Layout, title: str) -> int:
 def finer(cells: Sequence[str], layout: Layout) -> bool:
     """Has a row an amount that is no whole count of parts?"""
     for column in layout.columns:
-        cell = cells[column.index].strip()
+        cell = cells[column.at].strip()
         if cell and cell not in layout.absent:
-            count, places = exact(cell, column.unit, layout.titles[column.index])
+            count, places = exact(cell, column.unit, layout.titles[column.at])
             if count % 10 ** places:
                 return True
     return False
@@ -535,8 +535,8 @@ def strange_code(cells: Sequence[str], layout: Layout) -> Optional[Strange]:
     """The first column of a retired or unknown code in which a row has an amount. A sheet with that code is read by the
     library, which refuses it: the code's amount is never taken for another's."""
     for column in layout.strange:
-        if column.index < len(cells) and present(cells[column.index], layout):
+        if column.at < len(cells) and present(cells[column.at], layout):
             number, _, _, _ = library.read(lines.sheet({column.code: 1}, []))
             return Strange(number, "column '%s' has an amount of code %d, %s" % (
-                shown(layout.titles[column.index]), column.code, gas.REFUSALS[number][0]))
+                shown(layout.titles[column.at]), column.code, gas.REFUSALS[number][0]))
     return None

@@ -156,7 +156,7 @@ def audited(archive: Archive, plan: Plan, processes: Optional[int] = None,
     by_chunk: dict[int, Found] = {}
     with crew_of(processes, None) as crew:
         for chunk, found in mapped(crew, partial(audit_chunk, plan), archive.layout, chunks(archive, SIZE)):
-            by_chunk[chunk.index] = found
+            by_chunk[chunk.number] = found
             progress(len(chunk.data))
     whole = Found()
     for index in sorted(by_chunk):
@@ -294,7 +294,8 @@ def cells(row: Union[Finding, NotRated, NoFirst], layout: Layout) -> list[str]:
 
 def findings_file(found: Found, layout: Layout) -> bytes:
     """All that is found as rows with the archive's separator, decimal sign and line ends."""
-    rows = [COLUMNS, *(cells(row, layout) for row in (*found.findings, *found.not_rated, *found.no_first))]
+    entries: list[Any] = [*found.findings, *found.not_rated, *found.no_first]
+    rows = [COLUMNS, *(cells(row, layout) for row in entries)]
     lines = (layout.separator.join(quoted(cell, layout.separator) for cell in row) for row in rows)
     return ''.join(line + layout.newline for line in lines).encode('utf-8', 'surrogateescape')
 

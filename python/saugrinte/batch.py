@@ -67,7 +67,7 @@ def answers(data: bytes, line: int, layout: Layout) -> Iterator[tuple[int, str, 
 
 def reason(number: int, amounts: list[int], layout: Layout) -> str:
     sheet = sheet_of({code: parts for code, parts in enumerate(amounts) if parts}, [])
-    return (words.mole_reason if layout.moles else words.reason)(number, sheet, library.ranges())
+    return words.reason(number, sheet, library.ranges(), layout.moles)
 
 
 def rated_row(raw: str, width: int, answer: tuple[Any, ...], layout: Layout) -> str:
@@ -90,7 +90,9 @@ def rated_row(raw: str, width: int, answer: tuple[Any, ...], layout: Layout) -> 
 
 def rate_chunk(layout: Layout, line: int, data: bytes) -> tuple[bytes, dict[str, int], str]:
     """The rows of a chunk rated, how many there are of each kind, and the library's version."""
-    out, tally, newline = [], Counter(), layout.newline
+    out: list[str] = []
+    tally: 'Counter[str]' = Counter()
+    newline = layout.newline
     for _, raw, cells, _, answer in answers(data, line, layout):
         if not raw.strip():
             out.append(raw)
@@ -181,7 +183,7 @@ def mapped(crew: Any, function: Callable[..., Any], layout: Layout,
 
 @contextmanager
 def crew_of(processes: Optional[int], scheduler: Optional[str]) -> Iterator[Any]:
-    crew = Cluster(scheduler) if scheduler else Here(processes)
+    crew: Any = Cluster(scheduler) if scheduler else Here(processes)
     try:
         yield crew
     except BrokenProcessPool:
@@ -207,10 +209,9 @@ class Parts:
     def __init__(self, output: str, archive: Archive) -> None:
         self.output, self.folder = output, output + '.parts'
         state = os.stat(archive.path)
-        self.plan = {'archive': os.path.abspath(archive.path), 'size': state.st_size, 'changed': state.st_mtime_ns,
-                     'layout': repr(archive.layout).replace(repr(archive.layout.absent),
-                                                            repr(sorted(archive.layout.absent))),
-                     'chunk': SIZE, 'library': library.version()}
+        self.plan: dict[str, Any] = {
+            'archive': os.path.abspath(archive.path), 'size': state.st_size, 'changed': state.st_mtime_ns,
+            'layout': repr(archive.layout), 'chunk': SIZE, 'library': library.version()}
         self.header = archive.header
 
     def begin(self, resume: bool, force: bool) -> None:
@@ -290,8 +291,8 @@ def rate_archive(archive: Archive, output: str, *, resume: bool = False, force: 
     def left() -> Iterator[Chunk]:
         nonlocal count
         for chunk in chunks(archive, SIZE):
-            count = chunk.index + 1
-            if parts.has(chunk.index):
+            count = chunk.number + 1
+            if parts.has(chunk.number):
                 progress(len(chunk.data))
             else:
                 yield chunk
@@ -304,7 +305,7 @@ def rate_archive(archive: Archive, output: str, *, resume: bool = False, force: 
                 if version != parts.plan['library']:
                     raise BatchError('a worker has version %s of the library, and here is %s' % (
                         version, parts.plan['library']))
-                parts.put(chunk.index, data, tally)
+                parts.put(chunk.number, data, tally)
                 progress(len(chunk.data))
     tally = parts.tally(count)
     parts.finish(header, count)

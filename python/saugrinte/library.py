@@ -9,6 +9,7 @@ import os
 import threading
 from ctypes import POINTER, byref, c_char_p, c_double, c_int64, c_size_t, c_uint8, c_uint32, c_uint64
 from functools import lru_cache
+from typing import Any, Callable, Sequence
 
 from .words import Ranges
 
@@ -21,6 +22,8 @@ ALLOWANCE = 4000
 Amounts = c_uint32 * CODES
 Bytes = c_uint8 * RECORDS
 Parts = c_uint32 * RECORDS
+
+Records = list[tuple[int, int, int]]        # (system, code, parts)
 
 
 class Missing(OSError):
@@ -46,13 +49,13 @@ class Range(ctypes.Structure):
 class Room(threading.local):
     """Buffers that a call fills, of each thread its own."""
 
-    def __init__(self):
+    def __init__(self) -> None:
         self.figures, self.count = Figures(), c_size_t()
         self.systems, self.codes, self.parts = Bytes(), Bytes(), Parts()
         self.found = (byref(self.count), self.systems, self.codes, self.parts)
         self.amounts = Amounts()
 
-    def records(self):
+    def records(self) -> Records:
         """The split's records [(system, code, parts)] that stand here."""
         count = self.count.value
         return list(zip(self.systems[:count], self.codes[:count], self.parts[:count]))
@@ -61,7 +64,7 @@ class Room(threading.local):
 ROOM = Room()
 
 
-def path():
+def path() -> str:
     """The shared object's file."""
     named = os.environ.get('SAUGRINTE_LIBRARY')
     if named:
@@ -75,7 +78,7 @@ def path():
 
 
 @lru_cache(maxsize=None)
-def library():
+def library() -> Any:
     """The library, loaded once."""
     try:
         lib = ctypes.CDLL(path())
@@ -106,68 +109,68 @@ def library():
         except AttributeError:
             raise Missing('%s has no saugrinte_%s' % (path(), name)) from None
         call.restype, call.argtypes = result, arguments
-    figures = lib.saugrinte_version()
-    if figures // 10000 != INTERFACE[0] or figures // 100 % 100 < INTERFACE[1]:
-        raise Missing('%s has version %s, and %d.%d is needed' % (path(), dotted(figures), *INTERFACE))
+    there = lib.saugrinte_version()
+    if there // 10000 != INTERFACE[0] or there // 100 % 100 < INTERFACE[1]:
+        raise Missing('%s has version %s, and %d.%d is needed' % (path(), dotted(there), *INTERFACE))
     return lib
 
 
-def dotted(figures):
+def dotted(figures: int) -> str:
     return '%d.%d.%d' % (figures // 10000, figures // 100 % 100, figures % 100)
 
 
-def version():
+def version() -> str:
     return dotted(library().saugrinte_version())
 
 
-def records_in(split):
+def records_in(split: Records) -> tuple[Any, ...]:
     """A split's records as the calls take them: count and three arrays."""
     count = len(split)
     room = list(split)[:RECORDS] + [(0, 0, 0)] * (RECORDS - count)
     return count, Bytes(*(r[0] for r in room)), Bytes(*(r[1] for r in room)), Parts(*(r[2] for r in room))
 
 
-def searched(answer):
+def searched(answer: Answer) -> tuple[int, int, Any, Any]:
     if answer.number:
         return answer.number, answer.place, None, None
     figures = ROOM.figures
     return 0, 0, (figures.rating, figures.spread, figures.rounds), ROOM.records()
 
 
-def search(amounts, allowance=ALLOWANCE, moles=False):
+def search(amounts: Sequence[int], allowance: int = ALLOWANCE, moles: bool = False) -> tuple[int, int, Any, Any]:
     """(0, 0, (rating, spread, rounds), records), or (number, place, None, None)."""
     lib = library()
     call = lib.saugrinte_search_moles if moles else lib.saugrinte_search
     return searched(call(Amounts(*amounts), allowance, byref(ROOM.figures), *ROOM.found))
 
 
-def rate_sheet(sheet):
+def rate_sheet(sheet: bytes) -> tuple[int, int, Any, Any]:
     """The same of a sheet; the records are empty where it has its own split."""
     return searched(library().saugrinte_rate(bytes(sheet), len(sheet), byref(ROOM.figures), *ROOM.found))
 
 
-def rate_split(amounts, split, moles=False):
+def rate_split(amounts: Sequence[int], split: Records, moles: bool = False) -> tuple[int, int, Any]:
     """(0, 0, (rating, spread, 0)), or (number, place, None)."""
     lib = library()
     call = lib.saugrinte_rate_split_moles if moles else lib.saugrinte_rate_split
     return searched(call(Amounts(*amounts), *records_in(split), byref(ROOM.figures)))[:3]
 
 
-def convert(moles):
+def convert(moles: Sequence[int]) -> tuple[int, int, Any]:
     """(0, 0, the volumes made), or (number, place, None)."""
     made = Amounts()
     answer = library().saugrinte_convert(Amounts(*moles), made)
     return answer.number, answer.place, None if answer.number else list(made)
 
 
-def partial_number(system, n1, n2, n3):
+def partial_number(system: int, n1: int, n2: int, n3: int) -> tuple[int, Any]:
     """(0, the partial number in units), or (number, None)."""
     units = c_int64()
     answer = library().saugrinte_partial_number(system, n1, n2, n3, byref(units))
     return answer.number, None if answer.number else units.value
 
 
-def read(sheet):
+def read(sheet: bytes) -> tuple[int, int, Any, Any]:
     """(0, 0, amounts, records), or (number, place, None, None)."""
     amounts = Amounts()
     answer = library().saugrinte_read(bytes(sheet), len(sheet), amounts, *ROOM.found)
@@ -176,19 +179,19 @@ def read(sheet):
     return 0, 0, list(amounts), ROOM.records()
 
 
-def write(amounts, split):
+def write(amounts: Sequence[int], split: Records) -> tuple[int, int, Any]:
     """(0, 0, the sheet), or (number, place, None)."""
     sheet, length = (c_uint8 * LONGEST)(), c_size_t()
     answer = library().saugrinte_write(Amounts(*amounts), *records_in(split), sheet, LONGEST, byref(length))
     return answer.number, answer.place, None if answer.number else bytes(sheet[:length.value])
 
 
-def whole_number(units):
+def whole_number(units: int) -> int:
     return library().saugrinte_whole_number(units)
 
 
 @lru_cache(maxsize=None)
-def ranges():
+def ranges() -> Ranges:
     """The ranges of all live codes and of the total, in parts."""
     lib = library()
     amounts = ((code, lib.saugrinte_code_range(code)) for code in range(CODES))
@@ -197,7 +200,7 @@ def ranges():
                   (total.least, total.greatest))
 
 
-def searcher(moles=False):
+def searcher(moles: bool = False) -> Callable[[Sequence[int]], tuple[int, ...]]:
     """A search for many analyses: a function from amounts to (0, 0, rating, spread, rounds, whole number), or (number,
     place). It uses one set of buffers, so it is for one thread."""
     lib = library()
@@ -207,8 +210,8 @@ def searcher(moles=False):
     amounts, figures = room.amounts, room.figures
     arguments = (ALLOWANCE, byref(figures), *room.found)
 
-    def answer(given):
-        amounts[:] = given
+    def answer(given: Sequence[int]) -> tuple[int, ...]:
+        amounts[:] = given              # type: ignore[call-overload]
         said = call(amounts, *arguments)
         if said.number:
             return said.number, said.place

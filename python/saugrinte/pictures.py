@@ -57,7 +57,8 @@ def inlined(svg: str, name: str, alt: str) -> str:
     svg = re.sub(r'(?s)<!--.*?-->|<metadata>.*?</metadata>|<style.*?</style>|^.*?(?=<svg )', '', svg)
     svg = re.sub(r'( id="|href="#|url\(#)', r'\g<1>%s-' % name, svg)
     svg = re.sub(r'\n\s*', '\n', svg)
-    return svg.strip().replace('<svg ', '<svg role="img" aria-label="%s" style="stroke-linejoin:round" ' % escape(alt), 1)
+    root = '<svg role="img" aria-label="%s" style="stroke-linejoin:round" ' % escape(alt)
+    return svg.strip().replace('<svg ', root, 1)
 
 
 def signed(units: int) -> str:
@@ -145,22 +146,12 @@ def split_picture(rating: Rating, name: str = 'split') -> str:
         stacked(panels[0], systems, there, '% of the simplified mixture')
         if enlarged:
             stacked(panels[1], systems, rest, '% of the simplified mixture, without methane, enlarged')
-        handles, labels = panels[0].get_legend_handles_labels()
-        figure.legend(handles, labels, loc='outside upper center' if outside_legends() else 'upper center',
-                      ncol=columns, frameon=False, handlelength=1.8, handleheight=1.2, handletextpad=0.5,
-                      columnspacing=1)
-        if not outside_legends():
-            figure.get_layout_engine().set(rect=(0, 0, 1, 1 - legend_height / height))
+        panels[0].legend(loc='lower right', bbox_to_anchor=(1, 1), ncol=columns, frameon=False, borderaxespad=0.2,
+                         handlelength=1.8, handleheight=1.2, handletextpad=0.5, columnspacing=1)
 
     columns = len(there) if len(there) < 5 else 3
-    legend_height = 0.27 * math.ceil(len(there) / columns) + 0.08
-    height = legend_height + (0.36 * len(systems) + 0.62) * (2 if enlarged else 1)
+    height = 0.1 + 0.27 * math.ceil(len(there) / columns) + (0.36 * len(systems) + 0.62) * (2 if enlarged else 1)
     return picture(name, alt, (WIDTH, height), draw)
-
-
-def outside_legends() -> bool:
-    """Has matplotlib legends outside the panels (3.7 and later)?"""
-    return tuple(int(figure) for figure in matplotlib.__version__.split('.')[:2]) >= (3, 7)
 
 
 def parts_of(share: object, components: Sequence[str]) -> list[int]:
@@ -184,6 +175,7 @@ def stacked(axes: Axes, systems: Sequence[object], components: Sequence[str], la
             left[row] += width
     axes.set(xlim=(0, widest * 1.02), xlabel=label, yticks=rows, yticklabels=['system %d' % s.system for s in systems])
     axes.xaxis.label.set_size(9)
+    axes.xaxis.set_major_locator(MaxNLocator(5))
     axes.tick_params(axis='y', length=0)
     axes.invert_yaxis()
 
@@ -349,8 +341,8 @@ class Bin:
 
 
 class History:
-    """An archive's numbers for its picture, in bounded memory: bins are made twice as wide when there are too many. Rows
-    have places, which are their times in seconds or their numbers, in any order."""
+    """An archive's numbers for its picture, in bounded memory: bins are made twice as wide when there are too many.
+    Rows have places, which are their times in seconds or their numbers, in any order."""
 
     def __init__(self) -> None:
         self.width, self.bins = 1.0, {}
@@ -409,8 +401,8 @@ LANES = (('below', 'v', 'below %s'), ('refused', 'x', 'refused'), ('unreadable',
 
 
 def archive_picture(history: History, plate: Optional[int] = None, times: bool = False, name: str = 'archive') -> str:
-    """The numbers over time or row by row: points, or for many rows the mean with a band from the least to the greatest;
-    below them the rows that are below the plate, refused and unreadable."""
+    """The numbers over time or row by row: points, or for many rows the mean with a band from the least to the
+    greatest; below them the rows that are below the plate, refused and unreadable."""
     lanes = [(what, mark, label % plate if '%' in label else label) for what, mark, label in LANES
              if history.count(what)]
     scale = 1 / 86400 if times else 1.0

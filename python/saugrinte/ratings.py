@@ -132,7 +132,7 @@ def refusal_of(number: int, place: int, amounts: Sequence[int], split: Sequence[
     ranges = library.ranges()
     if sheet is None:
         sheet = lines.sheet({code: parts for code, parts in enumerate(amounts) if parts}, list(split)[:library.RECORDS])
-    reason = (words.mole_reason if moles else words.reason)(number, sheet, ranges)
+    reason = words.reason(number, sheet, ranges, moles)
     if number in (2, 3, 4):
         return Refused(number, reason, place=place)
     if number == 5:
@@ -176,7 +176,7 @@ def rate_parts(amounts: Sequence[int], allowance: int = library.ALLOWANCE, moles
     number, place, figures, split = library.search(amounts, allowance, moles)
     if number:
         raise refusal_of(number, place, amounts, moles=moles)
-    return Rating(*figures, named(split), moles)
+    return Rating(figures[0], figures[1], figures[2], named(split), moles)
 
 
 def rate_split_parts(amounts: Sequence[int], split: Split, moles: bool = False) -> Rating:
@@ -185,7 +185,7 @@ def rate_split_parts(amounts: Sequence[int], split: Split, moles: bool = False) 
     number, place, figures = library.rate_split(amounts, records, moles)
     if number:
         raise refusal_of(number, place, amounts, records, moles)
-    return Rating(*figures, named(records), moles)
+    return Rating(figures[0], figures[1], figures[2], named(records), moles)
 
 
 def rate(analysis: Mapping[str, Amount], *, unit: str = 'percent', allowance: int = library.ALLOWANCE) -> Rating:
@@ -259,7 +259,7 @@ def rate_sheet(sheet: bytes) -> Rating:
             for code, parts in gas.listed(sheet):
                 amounts[code] = parts
         raise refusal_of(number, place, amounts, sheet=bytes(sheet))
-    return Rating(*figures, named(split or library.read(sheet)[3]))
+    return Rating(figures[0], figures[1], figures[2], named(split or library.read(sheet)[3]))
 
 
 def read_sheet(sheet: bytes) -> Sheet:

@@ -7,14 +7,18 @@ from collections import Counter
 from datetime import datetime, timezone
 from decimal import Decimal, InvalidOperation
 from html import escape
-from typing import BinaryIO, Iterable, Iterator, Mapping, NamedTuple, Optional, Sequence, Union
+from typing import TYPE_CHECKING, BinaryIO, Iterable, Iterator, Mapping, NamedTuple, Optional, Sequence, Union
 
 import click
 
 from . import archive, batch, gas, library, lines, ratings
 from .amounts import Amount, by_code, by_name, in_unit
+from .command import answer_to as rating_of
 from .ratings import Rating, Refused
 from .words import methane_number
+
+if TYPE_CHECKING:
+    from .pictures import Effect
 
 # Forms of time besides those of ISO 8601. Days and months between slashes could be either and are not taken.
 TIMES = ('%d.%m.%Y %H:%M:%S', '%d.%m.%Y %H:%M', '%d.%m.%Y', '%Y/%m/%d %H:%M:%S', '%Y/%m/%d %H:%M', '%Y/%m/%d')
@@ -40,14 +44,14 @@ dd{margin:0;font-variant-numeric:tabular-nums}
 .pictures figure{margin:0 0 1.5rem}
 figure{margin:0;break-inside:avoid}
 .tables>div{max-width:100%}
-.tables{display:flex;flex-wrap:wrap;gap:0 2.5rem;align-items:flex-start}
+.tables{display:flex;flex-wrap:wrap;gap:0 1.5rem;align-items:flex-start}
 figcaption{font-size:.875rem;color:#444;margin-top:.3rem}
 svg{display:block;max-width:100%;height:auto}
 .wide svg{width:46rem}
 .scroll{overflow-x:auto;margin:.6rem 0;max-width:100%}
 table{border-collapse:collapse;font-variant-numeric:tabular-nums;font-size:.9rem}
 caption{text-align:left;font-weight:600;padding:.3rem 0}
-th,td{padding:.22rem .55rem;border-bottom:1px solid #ddd;text-align:right;white-space:nowrap}
+th,td{padding:.22rem .48rem;border-bottom:1px solid #ddd;text-align:right;white-space:nowrap}
 th{font-weight:600}
 th:first-child,td:first-child,td.text,th.text{text-align:left}
 td.long,th.long{text-align:left}
@@ -60,7 +64,9 @@ a{color:#0b57a4}
 @media print{body{max-width:none;padding:0;font-size:10pt}.noprint{display:none}h2{break-after:avoid}
 table,tr,.top,.reason{break-inside:avoid}.scroll{overflow:visible}
 .pictures{columns:2;column-gap:8mm}.top{grid-template-columns:1fr 1fr}.tables{gap:0 6mm}table{font-size:8pt}
-th,td{padding:.15rem .35rem}.number{font-size:34pt}.refused{font-size:22pt}h1{font-size:14pt}figcaption{font-size:8.5pt}
+th,td{padding:.15rem .35rem}.number{font-size:34pt}.refused{font-size:22pt}h1{font-size:14pt}
+figcaption,footer{font-size:8.5pt}
+.wide svg{width:140mm}
 tr.fault td,.reason{background:none}a{color:inherit}}
 '''
 
@@ -87,7 +93,8 @@ def page(title: str, body: str, style: str = '') -> str:
             '</footer>\n</body>\n</html>\n' % (escape(title), STYLE, style, body, ratings.version()))
 
 
-def table(caption: str, head: Sequence[object], rows: Iterable[Sequence[object]], marked: Mapping[int, str] = {}) -> str:
+def table(caption: str, head: Sequence[object], rows: Iterable[Sequence[object]],
+          marked: Mapping[int, str] = {}) -> str:
     """A table in a box of its own that scrolls; some rows, by their place, have a class."""
     def cell(tag: str, given: object) -> str:
         text, kind = given if isinstance(given, Cell) else (given, '')
@@ -251,17 +258,9 @@ def answer_to(data: bytes, moles: bool) -> tuple[dict[str, Decimal], Answer]:
     known = {} if gas.torn(sheet) or gas.miscoded(sheet) else dict(gas.listed(sheet))
     parts = [known.get(code, 0) for code in range(gas.PLACES)]
     try:
-        return by_name(parts), rating_of(sheet, parts, moles)
+        return by_name(parts), rating_of(data, moles)
     except Refused as refused:
         return by_name(parts), refused
-
-
-def rating_of(sheet: bytes, parts: Sequence[int], moles: bool) -> Rating:
-    if not moles:
-        return ratings.rate_sheet(sheet)
-    split = gas.proposed(sheet)
-    return ratings.rate_split_parts(parts, ratings.named(split), moles=True) if split else ratings.rate_parts(
-        parts, moles=True)
 
 
 # ------------------------------------------------------------ a rated archive
@@ -355,7 +354,8 @@ class Summary:
 
     def __init__(self, rated: Rated, time_column: Optional[str], plate: Optional[int]) -> None:
         from . import pictures
-        self.number, self.refusal, self.word = (rated.titles.index(name) for name in ('methane_number', 'refusal', 'word'))
+        self.number, self.refusal, self.word = (
+            rated.titles.index(name) for name in ('methane_number', 'refusal', 'word'))
         self.time = None if time_column is None else place_of(time_column, rated.titles)
         self.plate, self.clock, self.history = plate, Clock(), pictures.History()
         self.rows = self.rated = self.below = self.untimed = 0
@@ -414,8 +414,8 @@ def archive_page(path: Union[str, 'os.PathLike[str]', BinaryIO], *, time_column:
     start = path.read(archive.PEEKED)
     rated = rated_archive(start)
     if not rated:
-        raise ValueError(NOT_RATED if is_table(start) else 'this is no rated archive: its first row has not the titles %s'
-                         % ', '.join(batch.ADDED))
+        raise ValueError(NOT_RATED if is_table(start) else
+                         'this is no rated archive: its first row has not the titles %s' % ', '.join(batch.ADDED))
     title = 'Rated archive' if title is None else title
     return page(title, archive_body(rated, start, path, time_column=time_column, plate=plate, title=title))
 
@@ -451,7 +451,8 @@ def archive_caption(summary: Summary, time_column: Optional[str]) -> str:
     many = summary.history.points is None
     return 'The methane number %s: %s.%s%s' % (
         "over the times of column '%s'" % time_column if time_column is not None else 'row by row',
-        'the mean, and the band from the least to the greatest, of rows that lie together' if many else 'each rated row',
+        'the mean, and the band from the least to the greatest, of rows that lie together' if many
+        else 'each rated row',
         ' Marks below the picture are rows below the plate, refused and unreadable, where there are such.',
         ' %s no time that can be read and left out of the picture.' % (
             '1 row has' if summary.untimed == 1 else '%d rows have' % summary.untimed) if summary.untimed else '')

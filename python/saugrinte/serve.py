@@ -1,5 +1,5 @@
-"""A page in the browser for people at this machine: a form for a gas, or for a file, which answers with the report of it.
-It listens on 127.0.0.1 alone, needs no script, keeps nothing and writes no file.
+"""A page in the browser for people at this machine: a form for a gas, or for a file, which answers with its report. It
+listens on 127.0.0.1 alone, needs no script, keeps nothing and writes no file.
 """
 import errno
 import io
@@ -34,7 +34,8 @@ STYLE = '''
 form{margin-top:1rem}
 fieldset{border:1px solid #bbb;border-radius:.3rem;margin:0 0 1.2rem;padding:.6rem 1rem 1rem;min-width:0}
 legend{font-weight:600;padding:0 .4rem}
-.fields{display:grid;grid-template-columns:repeat(auto-fill,minmax(min(100%,8.2rem),1fr));gap:.7rem 1rem;align-items:start}
+.fields{display:grid;grid-template-columns:repeat(auto-fill,minmax(min(100%,8.2rem),1fr));gap:.7rem 1rem;
+align-items:start}
 label{display:block}
 label code{white-space:nowrap}
 .hint{display:block;font-size:.8rem;line-height:1.3;color:#555}
@@ -44,8 +45,8 @@ textarea{font-family:ui-monospace,"DejaVu Sans Mono",monospace;font-size:.9rem}
 input[type=file]{font:inherit;max-width:100%}
 input[aria-invalid=true],textarea[aria-invalid=true]{border:2px solid #9c1c00}
 .error{color:#9c1c00;font-weight:600;font-size:.9rem;margin:.2rem 0}
-button{font:inherit;font-weight:600;padding:.5rem 1.1rem;border:1px solid #0b57a4;border-radius:.3rem;background:#0b57a4;
-color:#fff;cursor:pointer;margin-top:.9rem}
+button{font:inherit;font-weight:600;padding:.5rem 1.1rem;border:1px solid #0b57a4;border-radius:.3rem;
+background:#0b57a4;color:#fff;cursor:pointer;margin-top:.9rem}
 .choice label{display:inline-block;margin-right:1.2rem;padding:.3rem 0}
 '''
 
@@ -75,11 +76,13 @@ def form(values: Mapping[str, str], wrong: Mapping[str, str] = {}) -> str:
         'plate': field('plate', 'plate number', 'of the engine, may be left out', values, wrong),
         'amounts': '\n'.join(amount_field(c, values, wrong) for c in gas.COMPONENTS),
         'lines': escape(values.get('lines', '')), 'lines_wrong': beside('lines', wrong),
-        'lines_marked': marked('lines', wrong), 'file_wrong': beside('file', wrong), 'file_marked': marked('file', wrong),
+        'lines_marked': marked('lines', wrong),
+        'file_wrong': beside('file', wrong), 'file_marked': marked('file', wrong),
         'time': field('time', 'column of times', 'of a rated archive, may be left out', values, wrong)}
 
 
-FORM = '''<form id="form" class="noprint" method="post" action="/rate" enctype="multipart/form-data" accept-charset="utf-8">
+FORM = '''<form id="form" class="noprint" method="post" action="/rate" enctype="multipart/form-data"
+accept-charset="utf-8">
 %(wrong)s
 <fieldset class="choice"><legend>Unit and plate</legend>
 <label><input type="radio" name="basis" value="volume"%(volume)s> amounts are percent by volume</label>
@@ -259,7 +262,8 @@ class Handler(BaseHTTPRequestHandler):
         if path in answers:
             answers[path]()
         elif path in allowed:
-            self.refuse(HTTPStatus.METHOD_NOT_ALLOWED, 'This address takes %s.' % allowed[path], {'Allow': allowed[path]})
+            self.refuse(HTTPStatus.METHOD_NOT_ALLOWED, 'This address takes %s.' % allowed[path],
+                        {'Allow': allowed[path]})
         else:
             self.refuse(HTTPStatus.NOT_FOUND, 'There is no such page here.')
 
@@ -281,8 +285,8 @@ class Handler(BaseHTTPRequestHandler):
             self.refuse(HTTPStatus.LENGTH_REQUIRED, 'The request does not say how long it is.')
             return
         if int(length) > MOST:
-            self.refuse(HTTPStatus.REQUEST_ENTITY_TOO_LARGE, 'This is more than %d MiB; `saugrinte report` takes files of '
-                        'any length.' % (MOST >> 20), unread=int(length))
+            self.refuse(HTTPStatus.REQUEST_ENTITY_TOO_LARGE, 'This is more than %d MiB; `saugrinte report` takes files '
+                        'of any length.' % (MOST >> 20), unread=int(length))
             return
         body = self.rfile.read(int(length))
         try:
@@ -307,8 +311,9 @@ class Handler(BaseHTTPRequestHandler):
         for _ in range(min(unread, 4 * MOST) >> 16):
             if not self.rfile.read(1 << 16):
                 break
-        self.put(status, report.page(status.phrase, '<main><h1>%s</h1>\n%s\n<p><a href="/">To the form</a></p></main>' % (
-            escape(status.phrase), report.paragraph(text))), headers)
+        body = '<main><h1>%s</h1>\n%s\n<p><a href="/">To the form</a></p></main>' % (
+            escape(status.phrase), report.paragraph(text))
+        self.put(status, report.page(status.phrase, body), headers)
 
     def put(self, status: HTTPStatus, page: str, headers: Mapping[str, str] = {}) -> None:
         data = page.encode('utf-8', 'replace')
@@ -321,7 +326,7 @@ class Handler(BaseHTTPRequestHandler):
             self.wfile.write(data)
 
     def send_error(self, code: int, message: Optional[str] = None, explain: Optional[str] = None) -> None:
-        """What the server itself turns away: a request line or a header that it cannot read, a method it does not know."""
+        """What the server itself turns away: a request line or header that it cannot read, an unknown method."""
         status = HTTPStatus.METHOD_NOT_ALLOWED if code == HTTPStatus.NOT_IMPLEMENTED else HTTPStatus(code)
         self.close_connection = True
         self.refuse(status, message or status.phrase)

@@ -105,14 +105,12 @@ def detail(number, sheet, ranges, unit=gas.PERCENT):
     return DETAILS[number](sheet, unit, ranges) if number in DETAILS else None
 
 
-def reason(number, sheet, ranges, unit=gas.PERCENT):
-    """What is at fault, or the refusal's word and sentence."""
+def reason(number, sheet, ranges, moles=False):
+    """What is at fault, or the refusal's word and sentence. Of a mole analysis the sheet has its amounts, and it is
+    said where the volumes made are meant."""
+    unit = gas.MOLE_PERCENT if moles else gas.PERCENT
     word, sentence = gas.REFUSALS.get(number, ('refused', "README.md's table of refusals tells more"))
-    if unit == gas.MOLE_PERCENT:
+    if moles:
         sentence = gas.OF_MOLES.get(number, sentence)
-    return detail(number, sheet, ranges, unit) or '%s: %s' % (word, sentence)
-
-
-def mole_reason(number, sheet, ranges):
-    """The same of a mole analysis, from a sheet with its amounts. It says where it is of the volumes made."""
-    return reason(number, sheet, ranges, gas.MOLE_PERCENT) + (gas.MADE if number in gas.OF_MADE else '')
+    return (detail(number, sheet, ranges, unit) or '%s: %s' % (word, sentence)) \
+        + (gas.MADE if moles and number in gas.OF_MADE else '')

@@ -1,5 +1,6 @@
 """Pages of HTML as the tests look at them."""
 import re
+from html import unescape
 from html.parser import HTMLParser
 from xml.etree import ElementTree
 
@@ -21,7 +22,8 @@ class Page(HTMLParser):
 
     def handle_starttag(self, tag, attributes):
         given = dict(attributes)
-        assert tag not in ('script', 'link', 'iframe', 'object', 'img') and not any(name.startswith('on') for name in given)
+        assert tag not in ('script', 'link', 'iframe', 'object', 'img')
+        assert not any(name.startswith('on') for name in given)
         for name in ('href', 'xlink:href', 'src'):
             assert given.get(name, '#')[0] in '#/', given
         assert 'url(' not in given.get('style', '') or 'url(#' in given['style']
@@ -49,7 +51,6 @@ class Page(HTMLParser):
 
     def table(self, caption):
         """The rows of a table, with their cells' texts."""
-        from html import unescape
         found = re.search(r'(?s)<caption>%s</caption>.*?</table>' % re.escape(caption), self.html)
         return [[unescape(cell) for cell in re.findall(r'(?s)<t[dh][^>]*>(.*?)</t[dh]>', row)]
                 for row in re.findall(r'(?s)<tr.*?</tr>', found.group())]
