@@ -20,7 +20,7 @@ from typing import Any, Callable, Iterator, NamedTuple, Optional, Sequence, Unio
 
 import click
 
-from . import library
+from . import gas, library
 from .archive import Archive, ArchiveError, Layout, chunks, quoted, text_of
 from .batch import SIZE, BatchError, answers, crew_of, mapped, write_whole
 from .command import STOPPED, WRONG, archive_of, archive_options, progress_bar
@@ -30,7 +30,7 @@ from .mistakes import Mistaken, Untried, tried
 from .ratings import number_of
 from .words import methane_number
 
-SPREAD = Decimal('0.05')        # the method's own: a rating's partial numbers lie as near to each other
+SPREAD = number_of(gas.SPREAD_LIMIT).normalize()
 FIRST = re.compile(r'[+-]?([0-9]{1,9})(?:[.,]([0-9]{0,12}))?')
 RETIRED = 3
 UNEXPLAINED = 'no known mistake gives it'

@@ -43,6 +43,7 @@ SPLIT_COUNTS = (0, 6, 9, 12, 15, 18, 21)
 PLACES = 16             # amounts of a mole analysis, by code from 0
 LONGEST = 188
 GREATEST_AMOUNT = 4294967295
+SPREAD_LIMIT = 500000   # units (0.05), how far apart partial numbers may lie: drawn and quoted, it decides no rating
 
 # Names that could mean more than one thing, with the names to use.
 AMBIGUOUS = (

@@ -23,7 +23,6 @@ from .ratings import Rating, Refused, rate_parts
 from .words import methane_number
 
 STEP = 1000                 # parts by which a component grows in the picture of effects
-SPREAD_LIMIT = 500000       # units; drawn for comparison and decides nothing
 
 MOST_BINS = 800             # of an archive's picture
 MOST_POINTS = 400           # rows that are drawn one by one
@@ -188,7 +187,7 @@ def partial_picture(rating: Rating, name: str = 'partial') -> str:
     systems = rating.systems
     least, greatest = min(s.units for s in systems), max(s.units for s in systems)
     low, high = least / 1e7, greatest / 1e7
-    limit, left, right = SPREAD_LIMIT / 1e7, low - 0.018, low + 0.08
+    limit, left, right = gas.SPREAD_LIMIT / 1e7, low - 0.018, low + 0.08
     if low - 0.06 < float(rating.number) < low + 0.12:
         left, right = min(left, float(rating.number) - 0.012), max(right, float(rating.number) + 0.012)
     place = where(rating.units, least, greatest)
@@ -293,7 +292,7 @@ def effects_picture(found: Sequence[Effect], moles: bool = False, step: int = ST
     alt = 'Change of the methane number where a component grows by %s %s at methane\u2019s expense: %s.' % (
         gas.percent(step), unit, '; '.join('%s %s' % (effect_label(e, step), effect_text(e)) for e in found))
     changes, labels = [(e.units or 0) / 1e7 for e in found], [effect_label(e, step) for e in found]
-    play, limits = SPREAD_LIMIT / 1e7, effect_limits(changes, max(map(len, labels)))
+    play, limits = gas.SPREAD_LIMIT / 1e7, effect_limits(changes, max(map(len, labels)))
 
     def draw(figure: Figure) -> None:
         axes = figure.add_subplot()

@@ -172,8 +172,8 @@ def gas_pictures(parts: Sequence[int], rating: Rating, moles: bool) -> str:
         figure(pictures.split_picture(rating), 'The simplified mixture, as it is split between %s. The tables have the '
                'figures.' % gas.counted(len(rating.systems), 'system')),
         figure(pictures.partial_picture(rating), 'The partial number of each system. The band is the spread, %s; the '
-               'limit of the spread is drawn for comparison. The rating is corrected for carbon dioxide and nitrogen, '
-               'so it can lie outside the band.' % methane_number(rating.spread_units))]
+               'limit of the spread is drawn for comparison. The rating is corrected for carbon dioxide, so it can lie '
+               'outside the band.' % methane_number(rating.spread_units))]
     try:
         effects = pictures.effects(parts, moles)
     except Refused as refused:

@@ -2,8 +2,6 @@
 what others wrote is escaped, and a long archive makes a short page."""
 import io
 import os
-import subprocess
-import sys
 import threading
 import time
 from decimal import Decimal
@@ -11,7 +9,7 @@ from decimal import Decimal
 import matplotlib
 import pytest
 from click.testing import CliRunner
-from gases import ENVIRONMENT, EXAMPLE, ROOT, TABLE_A1, command, gases
+from gases import EXAMPLE, ROOT, TABLE_A1, command, gases
 from hypothesis import given, settings, strategies as st
 from pages import Page
 
@@ -150,16 +148,18 @@ def test_any_gas_has_a_page(analysis, plate):
 
 def test_the_same_input_gives_the_same_bytes():
     rating, settings_before = saugrinte.rate(TABLE), dict(matplotlib.rcParams)
-    pages, given_again = [], report.gas_page(TABLE, rating, plate=80, title='t')
-    threads = [threading.Thread(target=lambda: pages.append(report.gas_page(TABLE, rating, plate=80, title='t')))
-               for _ in range(3)]
+    drawn, found = [], pictures.effects(TABLE_A1)
+    draw = [lambda: drawn.append(pictures.partial_picture(rating)),
+            lambda: drawn.append(pictures.effects_picture(found))]
+    threads = [threading.Thread(target=one) for one in draw * 3]
     for thread in threads:
         thread.start()
     for thread in threads:
         thread.join()
-    assert pages == [given_again] * 3 and dict(matplotlib.rcParams) == settings_before
-    elsewhere = command('report', EXAMPLE, '-o', '-', '--plate', '80', '--title', 't')
-    assert elsewhere == (0, given_again, '')
+    assert sorted(map(drawn.count, drawn)) == [3] * 6 and dict(matplotlib.rcParams) == settings_before
+    here = report.gas_page(TABLE, rating, plate=80, title='t')
+    assert all(picture in here for picture in drawn)
+    assert command('report', EXAMPLE, '-o', '-', '--plate', '80', '--title', 't') == (0, here, '')
 
 
 def test_settings_of_others_change_nothing():
@@ -278,21 +278,27 @@ def test_bins_lose_nothing(rows, times):
 
 # ------------------------------------------------------------ the command
 
+def run(*arguments):
+    """The command within this process: its status and what it said."""
+    done = CliRunner().invoke(report.command, [str(argument) for argument in arguments])
+    assert done.exception is None or isinstance(done.exception, SystemExit)
+    return done.exit_code, done.output
+
+
 def test_the_command(tmp_path):
     out = tmp_path / 'report.html'
     out.write_text('old')
-    assert command('report', EXAMPLE, '-o', out, '--plate', '80') == (0, '', '')
-    assert Page(out.read_text(encoding='utf-8')).html.count('table-a1.txt') == 2
     (tmp_path / 'sheet').write_bytes(saugrinte.write_sheet(TABLE))
-    assert command('report', tmp_path / 'sheet', '-o', out)[0] == 0 and '91.0787' in out.read_text(encoding='utf-8')
+    assert run(tmp_path / 'sheet', '-o', out, '--plate', '80') == (0, '')
+    page = Page(out.read_text(encoding='utf-8'))
+    assert '91.0787' in page.text and '<h1>sheet</h1>' in page.html
     assert sorted(os.listdir(tmp_path)) == ['report.html', 'sheet']
     (tmp_path / 'rated.csv').write_text(TITLES + '\n' + '\n'.join(rated_rows(30)))
-    assert command('report', tmp_path / 'rated.csv', '-o', out, '--time', 'time', '--title', 'Week 1')[0] == 0
+    assert run(tmp_path / 'rated.csv', '-o', out, '--time', 'time', '--title', 'Week 1') == (0, '')
     assert '<h1>Week 1</h1>' in out.read_text(encoding='utf-8')
     with open(EXAMPLE, 'rb') as file:
-        run = subprocess.run([sys.executable, '-m', 'saugrinte', 'report', '-', '-o', '-'], stdin=file, env=ENVIRONMENT,
-                             stdout=subprocess.PIPE, check=True)
-    assert '<h1>standard input</h1>' in Page(run.stdout.decode()).html
+        status, page, _ = command('report', '-', '-o', '-', stdin=file)
+    assert status == 0 and '<h1>standard input</h1>' in Page(page).html
 
 
 @pytest.mark.parametrize('text, options, said', [
@@ -308,12 +314,14 @@ def test_what_the_command_turns_away(tmp_path, text, options, said):
     given_file, out = tmp_path / 'file', tmp_path / 'report.html'
     given_file.write_text(text)
     out.write_text('old')
-    run = CliRunner().invoke(report.command, [str(given_file), '-o', str(out), *options])
-    assert isinstance(run.exception, SystemExit) and run.exit_code and said in run.output
+    status, shown = run(given_file, '-o', out, *options)
+    assert status and said in shown
     assert out.read_text() == 'old' and len(os.listdir(tmp_path)) == 2
 
 
 def test_files_that_cannot_be_written(tmp_path):
-    status, _, wrong = command('report', EXAMPLE, '-o', tmp_path / 'none' / 'report.html')
-    assert status == 1 and 'No such file or directory' in wrong and 'Traceback' not in wrong
-    assert command('report', EXAMPLE, '-o', os.devnull)[0] == 0 and not os.path.isfile(os.devnull)
+    poor = tmp_path / 'poor.txt'
+    poor.write_text('methane 97\n')
+    status, said = run(poor, '-o', tmp_path / 'none' / 'report.html')
+    assert status == 1 and 'No such file or directory' in said
+    assert run(poor, '-o', os.devnull)[0] == 0 and not os.path.isfile(os.devnull)
