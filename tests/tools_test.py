@@ -181,7 +181,7 @@ NAMES_TAKEN = {
     6: ('neo-pentane', 'neopentane', 'neo pentane', 'neoC5', 'neo-C5', 'neo-C5H12', '2,2-dimethylpropane'),
     7: ('i-pentane', 'iC5', 'i-C5', 'isopentane', 'iso-pentane', 'isoC5', 'iC5H12', '2-methylbutane'),
     8: ('n-pentane', 'nC5', 'n-C5', 'nC5H12'),
-    10: ('hexanes+', 'C6+', 'C6 +', 'nC6+', 'hexane+', 'n-hexane+', 'hexanes plus', 'C6 plus', 'C6-plus',
+    10: ('hexanes+', 'C6+', 'C6 +', 'nC6+', 'hexane+', 'n-hexane+', 'hexane plus', 'hexanes plus', 'C6 plus', 'C6-plus',
          'n-hexane and higher', 'hexane and higher', '"hexanes and higher"', 'C6 and higher'),
     11: ('carbon-dioxide', 'carbon dioxide', '"carbon dioxide"', "'carbon dioxide'", 'carbondioxide', 'carbon_dioxide',
          'CO2', 'CO\u2082'),

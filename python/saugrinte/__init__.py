@@ -13,14 +13,17 @@ first call, so that names and lines can be used without it.
 from typing import TYPE_CHECKING
 
 if TYPE_CHECKING:
-    from .ratings import (Rating, Record, Refused, Sheet, SystemShare, convert, partial_number, rate, rate_moles,
-                          rate_moles_split, rate_sheet, rate_split, read_sheet, version, write_sheet)
+    from .ratings import (AmountError, Rating, Record, Refused, Sheet, SystemShare, convert, partial_number, rate,
+                          rate_moles, rate_moles_split, rate_sheet, rate_split, read_sheet, version, write_sheet)
 
-__all__ = ['Rating', 'Record', 'Refused', 'Sheet', 'SystemShare', 'convert', 'partial_number', 'rate', 'rate_moles',
-           'rate_moles_split', 'rate_sheet', 'rate_split', 'read_sheet', 'version', 'write_sheet']
+__all__ = ['AmountError', 'Rating', 'Record', 'Refused', 'Sheet', 'SystemShare', 'convert', 'partial_number', 'rate',
+           'rate_moles', 'rate_moles_split', 'rate_sheet', 'rate_split', 'read_sheet', 'version', 'write_sheet']
 
 
 def __getattr__(name: str) -> object:
+    if name == '__version__':
+        from . import ratings
+        return ratings.version()
     if name in __all__:
         from . import ratings
         return getattr(ratings, name)

@@ -7,33 +7,27 @@ absent component. A row that cannot be read is an answer too, with what is wrong
 import csv
 import os
 import re
+import stat
 from dataclasses import dataclass
 from typing import Iterator, NamedTuple, Optional, Sequence
 
 from . import gas, library, lines
-from .amounts import DECIMALS, UNITS
+from .amounts import DECIMALS, UNITS, AmountError, Scaled, exact
 from .lines import shown
 
 SEPARATORS = {'semicolon': ';', 'comma': ',', 'tab': '\t'}
 BASES = ('volume', 'mole')
 
-# Gases that the method leaves out here: a row that has one is not rated.
-OUTSIDE = {
-    'carbon-monoxide': ('CO', 'carbon monoxide'), 'ethylene': ('ethene', 'C2H4'), 'propylene': ('propene', 'C3H6'),
-    'butylene': ('butene', 'C4H8'), 'butadiene': ('C4H6',), 'acetylene': ('ethyne', 'C2H2'),
-    'hydrogen-sulphide': ('H2S', 'hydrogen sulfide'), 'oxygen': ('O2',), 'helium': ('He',), 'argon': ('Ar',),
-    'water': ('H2O', 'moisture'), 'ammonia': ('NH3',), 'benzene': ('C6H6',), 'toluene': ('C7H8',),
-    'heptane': ('heptanes', 'n-heptane', 'C7', 'nC7', 'C7H16', 'C7+', 'heptanes+'),
-    'octane': ('octanes', 'n-octane', 'C8', 'nC8', 'C8H18', 'C8+', 'octanes+'),
-    'nonane': ('nonanes', 'n-nonane', 'C9', 'nC9', 'C9H20', 'C9+', 'nonanes+'),
-    'decane': ('decanes', 'n-decane', 'C10', 'nC10', 'C10+', 'decanes+'),
-}
-OUTSIDE_NAMES = {gas.key(name): known for known, names in OUTSIDE.items() for name in (known, *names)}
-
 # A title's unit, in brackets or at its end; a column of a code.
 BRACKETED = re.compile(r'^(.*?)[\s,_]*[\[(]([^\])]*)[\])]\s*$', re.DOTALL)
-TRAILING = re.compile(r'(?i)^(.+?)[\s,_]*((?:(?:mole?|vol)[\s._-]*)?(?:%|percent|pct|ppmv?|fraction)|mol/mol|m3/m3)$')
+TRAILING = re.compile(r'''(?ix)^(.+?)[\s,._-]*(
+    (?:(?:mole?|vol)[\s._-]*)?(?:%|percent|pct|ppmv?|frac(?:tion)?)(?:[\s._-]*(?:mole?|vol|v/v))?
+    | (?:c|\u00b5|\u03bc|u)?mol/mol | m3/m3 | vpm)$''')
 CODE = re.compile(r'(?i)^(?:code[\s_]*)?([0-9]{1,3})$')
+# How hexanes+ are made up, as some analysers print it after the name: C6+ 47/35/17.
+MADE_UP = re.compile(r'\s+[0-9]{1,3}/[0-9]{1,3}/[0-9]{1,3}\b')
+# Titles that have a component's name or a unit and are none's.
+OTHERS = re.compile(r'(?i)number|index|zahl|total|sum|gesamt|normali[sz]')
 
 MOST_LINES = 50             # lines of one record
 PEEKED = 1 << 18            # bytes in which the titles must end
@@ -61,6 +55,7 @@ class Options:
     absent: tuple[str, ...] = ()            # texts that stand for an absent component
     normalise: bool = False                 # scale the amounts to 100 %
     rounded: bool = False                   # round amounts to parts
+    skip: int = 0                           # lines before the titles
 
 
 class Column(NamedTuple):
@@ -110,9 +105,12 @@ class Chunk(NamedTuple):
 def unit_of(text: str) -> Optional[tuple[Optional[str], Optional[str]]]:
     """(unit, basis) that a title's text declares, or None where it is no unit. A part per million is a part."""
     plain = re.sub(r'[\s._-]', '', text.lower())
-    fraction = {'mol/mol': 'mole', 'mole/mole': 'mole', 'm3/m3': 'volume', 'v/v': 'volume'}
-    if plain in fraction:
-        return 'fraction', fraction[plain]
+    plain = plain.replace('\u03bc', 'u').replace('\u00b5', 'u')
+    ratios = {'mol/mol': ('fraction', 'mole'), 'mole/mole': ('fraction', 'mole'), 'm3/m3': ('fraction', 'volume'),
+              'v/v': ('fraction', 'volume'), 'cmol/mol': ('percent', 'mole'), 'umol/mol': ('parts', 'mole'),
+              'vpm': ('parts', 'volume'), '%v/v': ('percent', 'volume')}
+    if plain in ratios:
+        return ratios[plain]
     basis = '(mole?|vol|volume|v)?'
     found = re.fullmatch(basis + '(%|percent|pct|ppm|ppmv|parts|fraction|frac)?' + basis, plain)
     if not plain or not found or found[1] and found[3]:
@@ -139,8 +137,8 @@ def named(text: str) -> Optional[tuple[str, int, str]]:
         return 'live', gas.CODES[key], gas.BY_CODE[gas.CODES[key]].name
     if key in gas.MEANINGS:
         return 'ambiguous', 0, gas.MEANINGS[key]
-    if key in OUTSIDE_NAMES:
-        return 'outside', 0, OUTSIDE_NAMES[key]
+    if key in gas.OUTSIDE_NAMES:
+        return 'outside', 0, gas.OUTSIDE_NAMES[key]
     code = CODE.match(text.strip())
     if code and int(code[1]) < 256:
         number = int(code[1])
@@ -152,8 +150,9 @@ def named(text: str) -> Optional[tuple[str, int, str]]:
 
 def title_of(text: str) -> Title:
     """Reads a title: a name with or without a unit, as `CH4`, `Methane [mol%]`, `C1 (methane) mol %`, `code 9`."""
-    found, rest, unit, basis = named(text), text, None, None
-    for form in (TRAILING, BRACKETED, TRAILING):
+    rest = MADE_UP.sub('', text)
+    found, unit, basis = named(rest), None, None
+    for form in (TRAILING, BRACKETED, TRAILING, BRACKETED):
         parts = form.match(rest)
         if found or not parts:
             continue
@@ -173,6 +172,19 @@ def title_of(text: str) -> Title:
     if not found:
         return Title('carried', 0, '', None, None)
     return Title(*found, unit, basis)
+
+
+def looks_like_one(text: str) -> bool:
+    """Has a title that is not understood a component's name in it, or the unit of one? It is not carried along in
+    silence: a component that is not counted makes a wrong number."""
+    if OTHERS.search(text):
+        return False
+    words = [word for word in re.split(r'[^\w+-]+', text) if word]
+    pieces = words + [piece for word in words for piece in re.split(r'[+_-]', word) if len(piece) > 1]
+    pieces += [a + ' ' + b for a, b in zip(words, words[1:])]
+    unit = any(parts and unit_of(parts[2]) for parts in (TRAILING.match(text), BRACKETED.match(text)))
+    return unit or any((named(piece) or ('carried',))[0] in ('live', 'ambiguous', 'outside') and not piece.isdigit()
+                       for piece in pieces)
 
 
 def declared_title(title: str, meaning: str) -> Title:
@@ -202,7 +214,17 @@ def titles_of(cells: Sequence[str], options: Options) -> list[Title]:
     if missing:
         raise ArchiveError("there is no column '%s'; there are %s" % (
             shown(missing[0]), ', '.join("'%s'" % shown(cell) for cell in cells)))
-    return [declared_title(cell, declared[cell]) if cell in declared else title_of(cell) for cell in cells]
+    titles = [declared_title(cell, declared[cell]) if cell in declared else title_of(cell) for cell in cells]
+    numbers = [cell for cell, title in zip(cells, titles)
+               if cell.isdigit() and cell not in declared and title.kind in ('live', 'strange')]
+    if numbers and str(gas.REQUIRED) not in numbers:
+        raise ArchiveError("is column '%s' that of code %s? Name it 'code %s', or declare it, as --column '%s=-'" % (
+            (shown(numbers[0]),) * 4))
+    for cell, title in zip(cells, titles):
+        if title.kind == 'carried' and cell not in declared and looks_like_one(cell):
+            raise ArchiveError("column '%s' looks like a component's and is not understood: declare it, as --column "
+                               "'%s=hexanes+', or '%s=-' to carry it along" % ((shown(cell),) * 3))
+    return titles
 
 
 def same_component(cells: Sequence[str], titles: Sequence[Title], options: Options) -> None:
@@ -244,8 +266,9 @@ def layout_of(cells: Sequence[str], separator: str, options: Options, newline: s
         if title.kind == 'ambiguous':
             raise ArchiveError("column '%s' could be %s; or declare it, as --column '%s=n-butane'" % (
                 shown(cell), title.name, shown(cell)))
-    if not any(title.kind == 'live' for title in titles):
-        raise ArchiveError("no title is a component's; there are %s" % ', '.join("'%s'" % shown(c) for c in cells))
+    if not any(title.code == gas.REQUIRED for title in titles):
+        raise ArchiveError("no title is %s's; there are %s" % (
+            gas.BY_CODE[gas.REQUIRED].name, ', '.join("'%s'" % shown(c) for c in cells)))
     same_component(cells, titles, options)
     basis = basis_of(cells, titles, options)
     of_kind = {kind: tuple(Column(index, title.code, unit_for(cells[index], title, options))
@@ -277,44 +300,49 @@ def notes_of(layout: Layout) -> tuple[str, ...]:
 
 # ------------------------------------------------------------ records
 
-def record_form(separator: str) -> 're.Pattern[str]':
-    """A record whose quotes are closed."""
+def record_form(separator: str, strict: bool = False) -> 're.Pattern[str]':
+    """A record whose quotes are closed. The strict form has quotes around whole cells alone."""
     s = re.escape(separator)
     field = r'(?:"(?:[^"]|"")*"(?!")[^%s]*|[^"%s][^%s]*|)' % (s, s, s)
-    return re.compile('%s(?:%s%s)*' % (field, s, field))
+    if strict:
+        field = r'(?:"(?:[^"]|"")*"(?=%s|\r?\Z)|[^"%s]*)' % (s, s)
+    return re.compile('%s(?:%s%s)*\r?' % (field, s, field))
 
 
 def cells_of(raw: str, separator: str) -> list[str]:
+    """The cells of a record; RowError where they cannot be told apart."""
     if '"' not in raw:
         return raw.split(separator)
-    return next(csv.reader([raw], delimiter=separator), [])
+    try:
+        return next(csv.reader([raw], delimiter=separator), [])
+    except csv.Error as wrong:
+        raise RowError('unreadable', str(wrong)) from None
 
 
 def records(text: str, separator: str) -> Iterator[tuple[int, str]]:
-    """The records of whole lines, each with its line from 0. A quoted cell may have line ends in it; a quote that is
-    not closed within some lines is one of its own line."""
+    """The records of whole lines, each with its line from 0. A quoted cell may have line ends in it; where a quote is
+    not closed within some lines, or not at a cell's end, its line is a record of its own."""
     rows = text.split('\n')
     if rows and not rows[-1]:
         rows.pop()
     if '"' not in text:
         yield from enumerate(row[:-1] if row.endswith('\r') else row for row in rows)
         return
-    form, at = record_form(separator), 0
+    forms, at = (record_form(separator), record_form(separator, strict=True)), 0
     while at < len(rows):
-        end = record_end(rows, at, form) or at + 1
+        end = record_end(rows, at, forms) or at + 1
         raw = '\n'.join(rows[at:end])
         yield at, raw[:-1] if raw.endswith('\r') else raw
         at = end
 
 
-def record_end(rows: Sequence[str], at: int, form: 're.Pattern[str]') -> Optional[int]:
+def record_end(rows: Sequence[str], at: int, forms: 'tuple[re.Pattern[str], ...]') -> Optional[int]:
     """The row after the record that begins in this one, None where its quote is not closed."""
-    if '"' not in rows[at]:
+    if '"' not in rows[at] or forms[0].fullmatch(rows[at]):
         return at + 1
-    for end in range(at + 1, min(at + MOST_LINES, len(rows)) + 1):
-        if end == at + 1 or '"' in rows[end - 1]:
-            if form.fullmatch('\n'.join(rows[at:end])):
-                return end
+    for end in range(at + 2, min(at + MOST_LINES, len(rows)) + 1):
+        if '"' in rows[end - 1] and forms[0].fullmatch('\n'.join(rows[at:end])):
+            return end if forms[1].fullmatch('\n'.join(rows[at:end])) else at + 1
     return None
 
 
@@ -324,9 +352,9 @@ def whole_records(data: bytes, separator: str) -> int:
     if b'"' not in data[:end]:
         return end
     rows = data[:end].decode('utf-8', 'surrogateescape').split('\n')[:-1]
-    form, at = record_form(separator), 0
+    forms, at = (record_form(separator), record_form(separator, strict=True)), 0
     while at < len(rows):
-        after = record_end(rows, at, form)
+        after = record_end(rows, at, forms)
         if after is None and at + MOST_LINES > len(rows):
             return len('\n'.join(rows[:at]).encode('utf-8', 'surrogateescape')) + (1 if at else 0)
         at = after or at + 1
@@ -357,10 +385,17 @@ def separator_of(first: str, options: Options) -> str:
     there = [s for s in SEPARATORS.values() if s in first]
     if len(there) < 2:
         return there[0] if there else ','
-    fit = [s for s in there if sum(title_kind(cell) == 'live' for cell in cells_of(first, s)) > 1]
+    fit = [s for s in there if sum(title_kind(' '.join(cell.split())) == 'live' for cell in split_cells(first, s)) > 1]
     if len(fit) != 1:
         raise ArchiveError('the titles have several of ; , and tab in them: give --separator')
     return fit[0]
+
+
+def split_cells(text: str, separator: str) -> list[str]:
+    try:
+        return cells_of(text, separator)
+    except RowError:
+        return []
 
 
 def title_kind(cell: str) -> str:
@@ -373,7 +408,10 @@ def title_kind(cell: str) -> str:
 def has_comma(text: str, separator: str, layout: Layout) -> bool:
     """Have the first amounts with a decimal sign a comma?"""
     for _, raw in records(text, separator):
-        cells = cells_of(raw, separator)
+        try:
+            cells = cells_of(raw, separator)
+        except RowError:
+            continue
         for column in layout.columns:
             cell = cells[column.at] if column.at < len(cells) else ''
             if ',' in cell or '.' in cell:
@@ -381,63 +419,78 @@ def has_comma(text: str, separator: str, layout: Layout) -> bool:
     return False
 
 
+def titles_end(start: bytes, at: int, options: Options) -> int:
+    """Where the record of titles that begins here ends: at its line feed, or at the end of what was read."""
+    end = start.find(b'\n', at)
+    if end < 0 or b'"' not in start[at:end]:
+        return len(start) if end < 0 else end
+    first = start[at:end].decode('utf-8', 'surrogateescape')
+    rows = start[at:].decode('utf-8', 'surrogateescape').split('\n')[:MOST_LINES]
+    for separator in [separator_of(first, options)] if options.separator else SEPARATORS.values():
+        after = record_end(rows, 0, (record_form(separator), record_form(separator, strict=True)))
+        if after:
+            return at + len('\n'.join(rows[:after]).encode('utf-8', 'surrogateescape'))
+    raise ArchiveError('a quote in the titles is not closed')
+
+
+def titles_start(start: bytes, options: Options) -> tuple[int, int]:
+    """Where the titles begin, and their line: after the lines to skip and blank ones."""
+    line, at = 1, 3 if start.startswith(b'\xef\xbb\xbf') else 0
+    for _ in range(options.skip):
+        at, line = start.find(b'\n', at) + 1 or len(start), line + 1
+    while start[at:at + 1] in (b'\n', b'\r') and at < len(start):
+        line, at = line + (start[at:at + 1] == b'\n'), at + 1
+    return at, line
+
+
+def peek(path: str) -> tuple[bytes, int]:
+    """An archive's first bytes and its size. Chunks are read from the file again, so it must be one."""
+    if not stat.S_ISREG(os.stat(path).st_mode):
+        raise ArchiveError('this is no file that can be read twice; save what comes through it first')
+    with open(path, 'rb') as file:
+        return file.read(PEEKED), os.fstat(file.fileno()).st_size
+
+
 def open_archive(path: str, options: Options) -> Archive:
     """Reads an archive's titles and first rows, or ArchiveError."""
-    with open(path, 'rb') as file:
-        start = file.read(PEEKED)
-        size = os.fstat(file.fileno()).st_size
+    start, size = peek(path)
     if start.startswith(gas.UTF_16):
         raise ArchiveError('the file is UTF-16; save it as UTF-8')
-    skip = 3 if start.startswith(b'\xef\xbb\xbf') else 0
-    line, at = 1, skip
-    while start[at:at + 1] in (b'\n', b'\r') and at < len(start):       # blank lines before the titles
-        line, at = line + (start[at:at + 1] == b'\n'), at + 1
-    end = start.find(b'\n', at)
-    end = len(start) if end < 0 else end
-    header = start[at:end]
+    at, line = titles_start(start, options)
+    end = titles_end(start, at, options)
+    header = start[at:end].rstrip(b'\r')
     if not header.strip():
         raise ArchiveError('the file has no titles')
-    if b'\r' in header[:-1] or end == PEEKED:
-        raise ArchiveError('no line end was found after the titles' if end == PEEKED
-                           else 'lines end with a bare carriage return; save it with line feeds')
-    newline = '\r\n' if header.endswith(b'\r') else '\n'
-    text = header.rstrip(b'\r').decode('utf-8', 'surrogateescape')
+    if end == PEEKED:
+        raise ArchiveError('no line end was found after the titles')
+    newline = '\r\n' if start[at:end].endswith(b'\r') else '\n'
+    text = header.decode('utf-8', 'surrogateescape')
+    if re.search('\r(?!\n)', text):
+        raise ArchiveError('lines end with a bare carriage return; save it with line feeds')
     separator = separator_of(text, options)
-    if not record_form(separator).fullmatch(text):
-        raise ArchiveError("a quote in the titles is not closed")
-    cells = [cell.strip() for cell in cells_of(text, separator)]
+    try:
+        cells = [' '.join(cell.split()) for cell in cells_of(text.replace('\r\n', '\n'), separator)]
+    except RowError as wrong:
+        raise ArchiveError('the titles cannot be read: %s' % wrong.detail) from None
     layout = layout_of(cells, separator, options, newline)
     rest = start[end + 1:]
-    comma = has_comma(rest[:rest.rfind(b'\n') + 1 or len(rest)].decode('utf-8', 'surrogateescape'), separator, layout)
-    if comma:
-        layout = layout_of(cells, separator, options, newline, comma)
-    return Archive(path, layout, start[:at] + header.rstrip(b'\r'), min(end + 1, size), line + 1, size,
+    if has_comma(rest[:rest.rfind(b'\n') + 1 or len(rest)].decode('utf-8', 'surrogateescape'), separator, layout):
+        layout = layout_of(cells, separator, options, newline, comma=True)
+    return Archive(path, layout, start[:at] + header, min(end + 1, size), line + 1 + header.count(b'\n'), size,
                    notes_of(layout))
 
 
 # ------------------------------------------------------------ rows
 
 POWERS = tuple(10 ** n for n in range(20))
-NUMBER = re.compile(r'([0-9]*)(?:[.,]([0-9]*))?(?:[eE]([+-]?[0-9]{1,2}))?')
 
 
-class Scaled(NamedTuple):
-    """An amount in parts over a power of ten, for amounts finer than a part."""
-    digits: int
-    places: int
-
-
-def exact(cell: str, unit: str, title: str) -> Scaled:
-    """Any amount that can be read, to its last digit."""
-    found = NUMBER.fullmatch(cell)
-    if not found or not (found[1] or found[2]) or len(cell) > 30:
-        sign = ': it is below 0' if cell.startswith('-') else ''
-        both = ': it has a comma and a point' if ',' in cell and '.' in cell else ''
-        raise RowError('unreadable', "column '%s': '%s' is not an amount%s%s" % (shown(title), shown(cell), sign, both))
-    whole, decimals, power = found.groups('')
-    places = len(decimals) - int(power or 0) - UNITS[unit]
-    count = int(whole + decimals or '0')
-    return Scaled(count * 10 ** -places, 0) if places < 0 else Scaled(count, places)
+def amount_in(cell: str, unit: str, title: str) -> Scaled:
+    """The amount in a cell, to its last digit; percent may have its sign."""
+    try:
+        return exact(cell[:-1].rstrip() if unit == 'percent' and cell.endswith('%') else cell, unit)
+    except AmountError as wrong:
+        raise RowError('unreadable', "column '%s': %s" % (shown(title), wrong)) from None
 
 
 def parts_in(cell: str, unit: str, layout: Layout, title: str) -> int:
@@ -447,7 +500,7 @@ def parts_in(cell: str, unit: str, layout: Layout, title: str) -> int:
     digits = whole + decimals
     if len(decimals) <= places and len(digits) < 16 and digits.isascii() and digits.isdigit():
         return int(digits) * POWERS[places - len(decimals)]
-    count, places = exact(cell, unit, title)
+    count, places = amount_in(cell, unit, title)
     parts, rest = divmod(count, 10 ** places)
     if rest:
         if not layout.rounded:
@@ -461,17 +514,20 @@ def finer(cells: Sequence[str], layout: Layout) -> bool:
     """Has a row an amount that is no whole count of parts?"""
     for column in layout.columns:
         cell = cells[column.at].strip()
-        if cell and cell not in layout.absent:
-            count, places = exact(cell, column.unit, layout.titles[column.at])
-            if count % 10 ** places:
-                return True
+        if cell and cell not in layout.absent and not amount_in(cell, column.unit, layout.titles[column.at]).whole:
+            return True
     return False
 
 
 def present(cell: str, layout: Layout) -> bool:
     """Is there an amount in a cell? Not where it is empty, 0, or a text that stands for nothing."""
     cell = cell.strip()
-    return bool(cell) and cell not in layout.absent and cell.strip('0.,') != ''
+    if not cell or cell in layout.absent or cell.strip('0.,') == '':
+        return False
+    try:
+        return exact(cell, 'fraction').digits != 0
+    except AmountError:
+        return True
 
 
 def scaled(amounts: list[int]) -> list[int]:

@@ -22,7 +22,7 @@ import click
 
 from . import gas, library
 from .archive import Archive, ArchiveError, Layout, chunks, quoted, text_of
-from .batch import SIZE, BatchError, answers, crew_of, mapped, write_whole
+from .batch import SIZE, BatchError, answers, crew_of, output_of, write_whole
 from .command import STOPPED, WRONG, archive_of, archive_options, progress_bar
 from .gas import counted
 from .lines import shown
@@ -155,7 +155,7 @@ def audited(archive: Archive, plan: Plan, processes: Optional[int] = None,
     """What an archive has, findings worst first, all else in the order of rows."""
     by_chunk: dict[int, Found] = {}
     with crew_of(processes, None) as crew:
-        for chunk, found in mapped(crew, partial(audit_chunk, plan), archive.layout, chunks(archive, SIZE)):
+        for chunk, found in crew.mapped(partial(audit_chunk, plan), archive.layout, chunks(archive, SIZE)):
             by_chunk[chunk.number] = found
             progress(len(chunk.data))
     whole = Found()
@@ -317,15 +317,6 @@ def stop(wrong: Union[Exception, str]) -> click.ClickException:
     return error
 
 
-def check_output(output: str, archive: str) -> None:
-    """Before the work: the findings are not to be written over the archive, nor into a folder that is not there."""
-    if os.path.exists(output) and os.path.samefile(output, archive):
-        raise ArchiveError('%s is the archive itself: name another file for what is found' % output)
-    folder = os.path.dirname(os.path.abspath(output))
-    if not os.path.isdir(folder):
-        raise ArchiveError('there is no folder %s' % folder)
-
-
 @click.command('audit')
 @click.argument('archive', type=click.Path(exists=True, dir_okay=False))
 @click.option('--first', required=True, metavar='COLUMN', help='The column with the numbers of the first papers.')
@@ -358,8 +349,7 @@ def command(archive: str, first: str, allow: Decimal, worst: Optional[int], outp
     try:
         opened = archive_of(archive, how)
         plan = plan_of(opened.layout, first, allow, None if output else worst)
-        if output:
-            check_output(output, archive)
+        output = output and output_of(output, archive)
         with progress_bar(opened, os.path.basename(archive)) as bar:
             found = audited(opened, plan, processes, bar.update)
         if output:
@@ -367,8 +357,6 @@ def command(archive: str, first: str, allow: Decimal, worst: Optional[int], outp
     except (click.ClickException, ArchiveError, BatchError) as wrong:
         raise stop(wrong) from None
     except OSError as wrong:
-        if isinstance(wrong, library.Missing):
-            raise
         raise stop('%s: %s' % (wrong.filename or output or archive, wrong.strerror)) from None
     except KeyboardInterrupt:
         click.echo('saugrinte: stopped', err=True)

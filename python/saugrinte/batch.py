@@ -4,15 +4,16 @@ The archive is cut into chunks, which are rated on all processors or on a dask c
 file of its own in the folder OUTPUT.parts, whole or not there; when all are done they are put together as OUTPUT, which
 is whole or not there either. A run that was stopped is gone on with from the chunks that are there.
 """
+import fcntl
 import json
 import os
+import re
 import shutil
 import signal
 from collections import Counter
-from concurrent.futures import FIRST_COMPLETED, Future, ProcessPoolExecutor, wait
-from concurrent.futures.process import BrokenProcessPool
 from contextlib import contextmanager
 from multiprocessing import get_context
+from multiprocessing.connection import Connection, wait
 from typing import Any, Callable, Iterator, Optional
 
 from . import gas, library, words
@@ -67,7 +68,7 @@ def answers(data: bytes, line: int, layout: Layout) -> Iterator[tuple[int, str, 
 
 def reason(number: int, amounts: list[int], layout: Layout) -> str:
     sheet = sheet_of({code: parts for code, parts in enumerate(amounts) if parts}, [])
-    return words.reason(number, sheet, library.ranges(), layout.moles)
+    return words.reason(number, sheet, library.ranges(), layout.moles).removeprefix(gas.REFUSALS[number][0] + ': ')
 
 
 def rated_row(raw: str, width: int, answer: tuple[Any, ...], layout: Layout) -> str:
@@ -115,22 +116,72 @@ def alone() -> None:
         os._exit(1)
 
 
+def work_on(pipe: Connection, others: list[Connection]) -> None:
+    """A worker: answers what comes through its pipe until that is shut."""
+    alone()
+    for other in others:
+        other.close()
+    while True:
+        try:
+            function, arguments = pipe.recv()
+        except EOFError:
+            return
+        try:
+            answer = True, function(*arguments)
+        except Exception as wrong:
+            answer = False, wrong
+        pipe.send(answer)
+
+
 class Here:
-    """All processors of this machine."""
+    """All processors of this machine, a process and a pipe for each. Nothing is shared between them, so that a process
+    that is killed stops the run and never leaves it waiting."""
 
     def __init__(self, processes: Optional[int] = None) -> None:
-        count = processes or len(os.sched_getaffinity(0))
-        self.width = 2 * count
-        self.pool = ProcessPoolExecutor(count, mp_context=get_context('fork'), initializer=alone)
+        context = get_context('fork')
+        self.pipes: list[Connection] = []
+        self.workers = []
+        for _ in range(processes or len(os.sched_getaffinity(0))):
+            here, there = context.Pipe()
+            self.pipes.append(here)
+            self.workers.append(context.Process(target=work_on, args=(there, list(self.pipes)), daemon=True))
+            self.workers[-1].start()
+            there.close()
 
-    def submit(self, function: Callable[..., Any], *arguments: Any) -> 'Future[Any]':
-        return self.pool.submit(function, *arguments)
+    def mapped(self, function: Callable[..., Any], layout: Layout,
+               work: Iterator[Chunk]) -> Iterator[tuple[Chunk, Any]]:
+        """The function's answer to each chunk, as they come; each process has one chunk at a time."""
+        idle, busy = list(self.pipes), {}
+        for chunk in work:
+            pipe = idle.pop()
+            self.spoken(pipe.send, (function, (layout, chunk.line, chunk.data)))
+            busy[pipe] = chunk
+            while not idle:
+                yield from self.answered(busy, idle)
+        while busy:
+            yield from self.answered(busy, idle)
 
-    def first(self, futures: list[Any]) -> list[Any]:
-        return list(wait(futures, return_when=FIRST_COMPLETED)[0])
+    def answered(self, busy: dict[Connection, Chunk], idle: list[Connection]) -> Iterator[tuple[Chunk, Any]]:
+        for pipe in wait(list(busy)):
+            good, answer = self.spoken(pipe.recv)
+            idle.append(pipe)
+            if not good:
+                raise answer
+            yield busy.pop(pipe), answer
+
+    @staticmethod
+    def spoken(call: Callable[..., Any], *arguments: Any) -> Any:
+        try:
+            return call(*arguments)
+        except (EOFError, ConnectionError):
+            raise BatchError('a process that rates was stopped') from None
 
     def close(self) -> None:
-        self.pool.shutdown(cancel_futures=True)
+        for pipe in self.pipes:
+            pipe.close()
+        for worker in self.workers:
+            worker.terminate()
+            worker.join()
 
 
 class Cluster:
@@ -144,41 +195,28 @@ class Cluster:
         try:
             self.client = Client(address, timeout=10)
             self.client.wait_for_workers(1, timeout=30)
-        except (OSError, TimeoutError) as wrong:
-            raise BatchError('the scheduler %s or its workers cannot be reached: %s' % (address, wrong)) from None
         except Exception as wrong:
-            if type(wrong).__name__ != 'TimeoutError':
+            if not isinstance(wrong, (OSError, ValueError)) and type(wrong).__name__ != 'TimeoutError':
                 raise
-            raise BatchError('the scheduler %s has no workers' % address) from None
-        threads = sum(self.client.nthreads().values())
-        self.width = max(4, 2 * threads)
+            raise BatchError('the scheduler %s or its workers cannot be reached: %s' % (address, wrong)) from None
+        self.most = max(4, 2 * sum(self.client.nthreads().values()))
 
-    def submit(self, function: Callable[..., Any], *arguments: Any) -> Any:
-        return self.client.submit(function, *arguments, pure=False, retries=5)
-
-    def first(self, futures: list[Any]) -> list[Any]:
+    def mapped(self, function: Callable[..., Any], layout: Layout,
+               work: Iterator[Chunk]) -> Iterator[tuple[Chunk, Any]]:
+        """The function's answer to each chunk, as they come; only so many are under way at once."""
         from distributed import wait as wait_for
-        return list(wait_for(futures, return_when='FIRST_COMPLETED').done)
+        under_way: dict[Any, Chunk] = {}
+        for chunk in work:
+            under_way[self.client.submit(function, layout, chunk.line, chunk.data, pure=False, retries=5)] = chunk
+            while len(under_way) >= self.most:
+                for future in wait_for(list(under_way), return_when='FIRST_COMPLETED').done:
+                    yield under_way.pop(future), future.result()
+        while under_way:
+            for future in wait_for(list(under_way), return_when='FIRST_COMPLETED').done:
+                yield under_way.pop(future), future.result()
 
     def close(self) -> None:
         self.client.close()
-
-
-def mapped(crew: Any, function: Callable[..., Any], layout: Layout,
-           work: Iterator[Chunk]) -> Iterator[tuple[Chunk, Any]]:
-    """The function's answer to each chunk, as they come; only so many chunks are in memory at once."""
-    under_way: dict[Any, Chunk] = {}
-    more = True
-    while more or under_way:
-        while more and len(under_way) < crew.width:
-            chunk = next(work, None)
-            if chunk is None:
-                more = False
-            else:
-                under_way[crew.submit(function, layout, chunk.line, chunk.data)] = chunk
-        if under_way:
-            for future in crew.first(list(under_way)):
-                yield under_way.pop(future), future.result()
 
 
 @contextmanager
@@ -186,13 +224,25 @@ def crew_of(processes: Optional[int], scheduler: Optional[str]) -> Iterator[Any]
     crew: Any = Cluster(scheduler) if scheduler else Here(processes)
     try:
         yield crew
-    except BrokenProcessPool:
-        raise BatchError('a process that rates was stopped') from None
     finally:
         crew.close()
 
 
 # ------------------------------------------------------------ files
+
+def output_of(path: str, source: str) -> str:
+    """The file that an output's name stands for; BatchError where it cannot be written or is the source itself."""
+    if path == '-':
+        raise BatchError('- is no name for a file here')
+    real = os.path.realpath(path)
+    if not os.path.isdir(os.path.dirname(real)):
+        raise BatchError('there is no folder %s' % os.path.dirname(real))
+    if os.path.lexists(real) and not os.path.isfile(real):
+        raise BatchError('%s is no regular file' % path)
+    if os.path.exists(real) and os.path.exists(source) and os.path.samefile(real, source):
+        raise BatchError('%s is what is read: name another file' % path)
+    return real
+
 
 def write_whole(path: str, data: bytes) -> None:
     """A file that is whole or not there."""
@@ -204,70 +254,95 @@ def write_whole(path: str, data: bytes) -> None:
 
 
 class Parts:
-    """The folder OUTPUT.parts: what the run is, and each chunk that is done."""
+    """The folder OUTPUT.parts: what the run is, and each chunk that is done. One run at a time has it."""
+    OURS = re.compile(r'(?:[0-9]{8}\.csv(?:\.tally)?(?:\.new)?|whole|lock|plan\.json(?:\.new)?)')
 
     def __init__(self, output: str, archive: Archive) -> None:
         self.output, self.folder = output, output + '.parts'
+        self.plan_file = os.path.join(self.folder, 'plan.json')
         state = os.stat(archive.path)
         self.plan: dict[str, Any] = {
             'archive': os.path.abspath(archive.path), 'size': state.st_size, 'changed': state.st_mtime_ns,
             'layout': repr(archive.layout), 'chunk': SIZE, 'library': library.version()}
-        self.header = archive.header
+        self.lock: Optional[int] = None
 
     def begin(self, resume: bool, force: bool) -> None:
-        plan = os.path.join(self.folder, 'plan.json')
-        if os.path.exists(self.output) and os.path.samefile(self.output, self.plan['archive']):
-            raise BatchError('%s is the archive itself' % self.output)
-        if resume and os.path.exists(plan):
-            with open(plan, encoding='utf-8') as file:
-                told = json.load(file)
-            differ = [name for name in self.plan if told.get(name) != self.plan[name]]
-            if differ:
-                raise BatchError('the run in %s had another %s: begin anew with --force' % (
-                    self.folder, ' and another '.join(differ)))
-            return
-        if os.path.exists(self.folder) and not force:
-            if os.path.exists(plan):
-                raise BatchError('%s has a run that was stopped: --resume goes on with it, --force begins anew'
-                                 % self.folder)
-            raise BatchError('%s is there already and is no run of batch' % self.folder)
-        if os.path.exists(self.output) and not force:
+        """Takes the folder for this run: a new one, or that of a run that was stopped."""
+        there = os.path.lexists(self.folder)
+        if os.path.exists(self.output) and not force and not (resume and there):
             raise BatchError('%s is there already: --force writes it anew' % self.output)
-        if os.path.exists(plan):
-            shutil.rmtree(self.folder)
-        if not os.path.exists(self.folder):
+        if there and not all(self.OURS.fullmatch(name) for name in os.listdir(self.folder)):
+            raise BatchError('%s is there already and is no run of batch' % self.folder)
+        if not there:
             os.mkdir(self.folder)
-        write_whole(plan, json.dumps(self.plan, indent=1).encode())
+        self.take()
+        if resume and os.path.exists(self.plan_file):
+            return self.go_on()
+        if os.path.exists(self.plan_file) and not force:
+            raise BatchError('%s has a run that was stopped: --resume goes on with it, --force begins anew'
+                             % self.folder)
+        self.clear()
+        write_whole(self.plan_file, json.dumps(self.plan, indent=1).encode())
 
-    def name(self, index: int) -> str:
-        return os.path.join(self.folder, '%08d.csv' % index)
+    def take(self) -> None:
+        self.lock = os.open(os.path.join(self.folder, 'lock'), os.O_RDWR | os.O_CREAT | os.O_CLOEXEC, 0o644)
+        try:
+            fcntl.flock(self.lock, fcntl.LOCK_EX | fcntl.LOCK_NB)
+        except OSError:
+            raise BatchError('a run is going on in %s' % self.folder) from None
 
-    def has(self, index: int) -> bool:
-        return os.path.exists(self.name(index))
+    def go_on(self) -> None:
+        with open(self.plan_file, encoding='utf-8') as file:
+            told = json.load(file)
+        differ = [name for name in self.plan if told.get(name) != self.plan[name]]
+        if differ:
+            raise BatchError('the run in %s had another %s: begin anew with --force' % (
+                self.folder, ' and another '.join(differ)))
 
-    def put(self, index: int, data: bytes, tally: dict[str, int]) -> None:
-        write_whole(self.name(index) + '.tally', json.dumps(tally).encode())
-        write_whole(self.name(index), data)
+    def clear(self) -> None:
+        """Removes all chunks, and then what tells of them."""
+        names = sorted(name for name in os.listdir(self.folder) if name != 'lock')
+        for name in sorted(names, key='plan.json'.__eq__):
+            os.remove(os.path.join(self.folder, name))
+
+    def leave(self) -> None:
+        """Lets go of the folder; one that has nothing but the lock is removed."""
+        if self.lock is not None:
+            if os.listdir(self.folder) == ['lock']:
+                os.remove(os.path.join(self.folder, 'lock'))
+                os.rmdir(self.folder)
+            os.close(self.lock)
+            self.lock = None
+
+    def name(self, number: int) -> str:
+        return os.path.join(self.folder, '%08d.csv' % number)
+
+    def has(self, number: int) -> bool:
+        return os.path.exists(self.name(number))
+
+    def put(self, number: int, data: bytes, tally: dict[str, int]) -> None:
+        write_whole(self.name(number) + '.tally', json.dumps(tally).encode())
+        write_whole(self.name(number), data)
 
     def tally(self, count: int) -> 'Counter[str]':
         tally: 'Counter[str]' = Counter()
-        for index in range(count):
-            with open(self.name(index) + '.tally', encoding='utf-8') as file:
+        for number in range(count):
+            with open(self.name(number) + '.tally', encoding='utf-8') as file:
                 tally.update(json.load(file))
         return tally
 
     def finish(self, header: bytes, count: int) -> None:
-        """Puts the chunks together as the output, and removes the folder."""
+        """Puts the chunks together as the output, and removes them."""
         whole = os.path.join(self.folder, 'whole')
         with open(whole, 'wb') as file:
             file.write(header)
-            for index in range(count):
-                with open(self.name(index), 'rb') as part:
+            for number in range(count):
+                with open(self.name(number), 'rb') as part:
                     shutil.copyfileobj(part, file, 1 << 20)
             file.flush()
             os.fsync(file.fileno())
         os.replace(whole, self.output)
-        shutil.rmtree(self.folder)
+        self.clear()
 
 
 def header_of(archive: Archive) -> bytes:
@@ -282,10 +357,9 @@ def header_of(archive: Archive) -> bytes:
 
 def rate_archive(archive: Archive, output: str, *, resume: bool = False, force: bool = False,
                  processes: Optional[int] = None, scheduler: Optional[str] = None,
-                 progress: Callable[[int], None] = lambda size: None) -> 'Counter[str]':
+                 progress: Callable[[int], Any] = lambda size: None) -> 'Counter[str]':
     """Rates an archive into a file. Returns how many rows there are of each kind; `progress` is told the bytes done."""
-    header, parts = header_of(archive), Parts(output, archive)
-    parts.begin(resume, force)
+    header, parts = header_of(archive), Parts(output_of(output, archive.path), archive)
     count = 0
 
     def left() -> Iterator[Chunk]:
@@ -297,24 +371,20 @@ def rate_archive(archive: Archive, output: str, *, resume: bool = False, force: 
             else:
                 yield chunk
 
-    work = left()
-    first = next(work, None)
-    if first is not None:
-        with crew_of(processes, scheduler) as crew:
-            for chunk, (data, tally, version) in mapped(crew, rate_chunk, archive.layout, prefixed(first, work)):
+    with crew_of(processes, scheduler) as crew:
+        try:
+            parts.begin(resume, force)
+            for chunk, (data, tally, version) in crew.mapped(rate_chunk, archive.layout, left()):
                 if version != parts.plan['library']:
                     raise BatchError('a worker has version %s of the library, and here is %s' % (
                         version, parts.plan['library']))
                 parts.put(chunk.number, data, tally)
                 progress(len(chunk.data))
-    tally = parts.tally(count)
-    parts.finish(header, count)
+            tally = parts.tally(count)
+            parts.finish(header, count)
+        finally:
+            parts.leave()
     return tally
-
-
-def prefixed(first: Chunk, rest: Iterator[Chunk]) -> Iterator[Chunk]:
-    yield first
-    yield from rest
 
 
 def summary(tally: 'Counter[str]') -> str:

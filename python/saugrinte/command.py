@@ -63,6 +63,7 @@ def page(rating: Rating) -> str:
     """A rating for a person."""
     out = ['methane number  ' + methane_number(rating.units) + (gas.MADE if rating.moles else ''),
            'whole number    %d' % rating.whole_number,
+           'amounts         %s' % ('mole percent' if rating.moles else 'percent by volume'),
            'spread          %s, at most 0.05' % methane_number(rating.spread_units),
            'rounds          %d' % rating.rounds, '',
            'the split, in percent of the simplified mixture:']
@@ -102,7 +103,7 @@ def rate_files(files: tuple[str, ...], moles: bool, as_json: bool) -> None:
         except Refused as refused:
             text, said = refusal_page(refused), {**said, **refused.as_dict()}
         except (OSError, ValueError) as wrong:
-            message = getattr(wrong, 'strerror', None) or str(wrong)
+            message = getattr(wrong, 'strerror', None) or str(wrong).replace('./rate --moles', '--moles')
             click.echo('saugrinte: %s: %s' % (name, message), err=True)
             status = UNREAD
             if not as_json:
@@ -140,6 +141,8 @@ ARCHIVE_OPTIONS = (
                  help='Scale amounts to 100 %; rows so changed are marked.'),
     click.option('--round', 'rounded', is_flag=True,
                  help='Round amounts finer than a part, halves up; rows so changed are marked.'),
+    click.option('--skip', type=click.IntRange(0), default=0, metavar='N',
+                 help='Lines before the titles, which are kept as they are.'),
 )
 
 
@@ -190,6 +193,9 @@ def batch_archive(archive: str, output: str, resume: bool, force: bool, processe
     """
     from .batch import BatchError, rate_archive, summary
     opened = archive_of(archive, how)
+    if resume and os.path.isfile(output) and not os.path.exists(os.path.realpath(output) + '.parts'):
+        click.echo('saugrinte: %s is there and no run is left to go on with' % output, err=True)
+        return
     try:
         with progress_bar(opened, os.path.basename(archive)) as bar:
             tally = rate_archive(opened, output, resume=resume, force=force, processes=processes, scheduler=scheduler,
@@ -210,6 +216,10 @@ def main() -> None:
         group(prog_name='saugrinte')
     except library.Missing as wrong:
         click.echo('saugrinte: %s' % wrong, err=True)
+        sys.exit(WRONG)
+    except OSError as wrong:                # standard output cannot be written
+        click.echo('saugrinte: standard output: %s' % wrong.strerror, err=True)
+        os.dup2(os.open(os.devnull, os.O_WRONLY), sys.stdout.fileno())
         sys.exit(WRONG)
 
 

@@ -17,8 +17,8 @@ COMPONENTS = tuple(Component(*row) for row in (
     (6, 'neo-pentane', 'neoC5', ('neoC5H12', '2,2-dimethylpropane')),
     (7, 'i-pentane', 'iC5', ('isopentane', 'isoC5', 'iC5H12', '2-methylbutane')),
     (8, 'n-pentane', 'nC5', ('nC5H12',)),
-    (10, 'hexanes+', 'C6+', ('hexane+', 'n-hexane+', 'nC6+', 'hexanes plus', 'C6 plus', 'hexane and higher',
-                             'n-hexane and higher', 'hexanes and higher', 'C6 and higher')),
+    (10, 'hexanes+', 'C6+', ('hexane+', 'n-hexane+', 'nC6+', 'hexane plus', 'hexanes plus', 'C6 plus',
+                             'hexane and higher', 'n-hexane and higher', 'hexanes and higher', 'C6 and higher')),
     (11, 'carbon-dioxide', 'CO2', ()),
     (12, 'nitrogen', 'N2', ()),
     (15, 'hydrogen', 'H2', ()),
@@ -96,6 +96,19 @@ SPLIT_CODES = {key(name): code for code, split_name in SPLIT_NAMES.items()
                for name in ((split_name, 'butanes') if code == SPLITS_ONLY
                             else (split_name, BY_CODE[code].short, *BY_CODE[code].others))}
 MEANINGS = {key(name): meaning for names, meaning in AMBIGUOUS for name in names}
+
+# Gases that the method leaves out here: a row that has one is not rated.
+OUTSIDE = {
+    'carbon-monoxide': ('CO', 'carbon monoxide'), 'ethylene': ('ethene', 'C2H4'), 'propylene': ('propene', 'C3H6'),
+    'butylene': ('butene', 'C4H8'), 'butadiene': ('C4H6',), 'acetylene': ('ethyne', 'C2H2'),
+    'hydrogen-sulphide': ('H2S', 'hydrogen sulfide'), 'oxygen': ('O2',), 'helium': ('He',), 'argon': ('Ar',),
+    'water': ('H2O', 'moisture'), 'ammonia': ('NH3',), 'benzene': ('C6H6',), 'toluene': ('C7H8',),
+    'heptane': ('heptanes', 'n-heptane', 'C7', 'nC7', 'C7H16', 'C7+', 'heptanes+'),
+    'octane': ('octanes', 'n-octane', 'C8', 'nC8', 'C8H18', 'C8+', 'octanes+'),
+    'nonane': ('nonanes', 'n-nonane', 'C9', 'nC9', 'C9H20', 'C9+', 'nonanes+'),
+    'decane': ('decanes', 'n-decane', 'C10', 'nC10', 'C10+', 'decanes+'),
+}
+OUTSIDE_NAMES = {key(name): known for known, names in OUTSIDE.items() for name in (known, *names)}
 
 
 def percent(parts):

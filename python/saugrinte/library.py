@@ -26,7 +26,7 @@ Parts = c_uint32 * RECORDS
 Records = list[tuple[int, int, int]]        # (system, code, parts)
 
 
-class Missing(OSError):
+class Missing(RuntimeError):
     """The shared object is not there, or is not one for this package."""
 
 

@@ -2,12 +2,15 @@
 
 Every figure comes from the library. `units` are 0.0000001 of a methane number, `parts` 0.0001 %.
 """
+import re
+import sys
 from dataclasses import dataclass
 from decimal import Decimal
-from typing import Any, Iterable, Mapping, Optional, Sequence, Union
+from numbers import Integral
+from typing import Any, Callable, Iterable, Mapping, Optional, Sequence, Union
 
 from . import gas, library, lines, words
-from .amounts import Amount, AmountError, by_code, by_name, in_unit, parts_of
+from .amounts import Amount, AmountError, by_code, by_name, decimal_of, in_unit, parts_of
 
 # Components of each system in the order of the formula, as the header lists them.
 SYSTEMS: dict[int, tuple[str, ...]] = {
@@ -21,7 +24,7 @@ SYSTEMS: dict[int, tuple[str, ...]] = {
 
 def number_of(units: int) -> Decimal:
     """Units as a methane number, exactly."""
-    return Decimal(units).scaleb(-7)
+    return decimal_of(units, 7)
 
 
 @dataclass(frozen=True)
@@ -132,7 +135,9 @@ def refusal_of(number: int, place: int, amounts: Sequence[int], split: Sequence[
     ranges = library.ranges()
     if sheet is None:
         sheet = lines.sheet({code: parts for code, parts in enumerate(amounts) if parts}, list(split)[:library.RECORDS])
-    reason = words.reason(number, sheet, ranges, moles)
+    reason = words.reason(number, sheet, ranges, moles).removeprefix(gas.REFUSALS[number][0] + ': ')
+    if len(split) > library.RECORDS:
+        reason = 'the split has %d records, and %d are the most' % (len(split), library.RECORDS)
     if number in (2, 3, 4):
         return Refused(number, reason, place=place)
     if number == 5:
@@ -157,22 +162,47 @@ def records_of(split: Split) -> list[tuple[int, int, int]]:
     if isinstance(split, Rating):
         split = split.split
     if isinstance(split, Mapping):
-        split = [Record(system, name, parts_of(amount)) for system in sorted(split)
-                 for name, amount in sorted(split[system].items(), key=lambda entry: split_code(entry[0]))]
-    return [(record.system, split_code(record.component), record.parts) for record in split]
+        systems = sorted(split, key=within(255, 'system'))
+        split = [record for system in systems for record in members(system, split[system])]
+    try:
+        records = list(split)
+    except TypeError:
+        records = [None]
+    if not all(isinstance(record, Record) for record in records):
+        raise AmountError('a split is a rating, records, or {system: {component: percent}}')
+    system, parts = within(255, 'system'), within(gas.GREATEST_AMOUNT, 'count of parts')
+    return [(system(record.system), split_code(record.component), parts(record.parts)) for record in records]
+
+
+def members(system: int, given: Mapping[str, Amount]) -> list[Record]:
+    """A system's records from its amounts in percent."""
+    if not isinstance(given, Mapping):
+        raise AmountError('a split is a rating, records, or {system: {component: percent}}')
+    return [Record(system, name, parts_of(given[name])) for name in sorted(given, key=split_code)]
+
+
+def within(greatest: int, what: str) -> Callable[[Any], int]:
+    """A check that a figure is whole, not below 0 and not too great."""
+    def check(value: Any) -> int:
+        if isinstance(value, bool) or not isinstance(value, Integral) or not 0 <= value <= greatest:
+            raise AmountError('%s is no %s from 0 to %d' % (lines.shown(repr(value)), what, greatest))
+        return int(value)
+
+    return check
 
 
 def split_code(name: str) -> int:
-    code = gas.SPLIT_CODES.get(gas.key(name))
-    if code is None and name.startswith('code '):
-        code = int(name[5:])
+    code = gas.SPLIT_CODES.get(gas.key(name)) if isinstance(name, str) else None
+    if code is None and isinstance(name, str) and re.fullmatch('code [0-9]{1,3}', name):
+        code = within(255, 'code')(int(name[5:]))
     if code is None:
-        raise AmountError("'%s' is none of %s" % (lines.shown(name), ', '.join(gas.SPLIT_NAMES.values())))
+        raise AmountError("%s is none of %s" % (lines.shown(repr(name)), ', '.join(gas.SPLIT_NAMES.values())))
     return code
 
 
 def rate_parts(amounts: Sequence[int], allowance: int = library.ALLOWANCE, moles: bool = False) -> Rating:
-    """Rates amounts in parts by code."""
+    """Rates amounts in parts by code. More rounds than the library allows count as that many."""
+    allowance = min(within(sys.maxsize, 'allowance')(allowance), library.ALLOWANCE)
     number, place, figures, split = library.search(amounts, allowance, moles)
     if number:
         raise refusal_of(number, place, amounts, moles=moles)
@@ -222,32 +252,43 @@ def convert(moles: Mapping[str, Amount], *, unit: str = 'percent') -> dict[str, 
 def partial_number(system: int, amounts: Union[Mapping[str, Amount], Sequence[Amount]], *,
                    unit: str = 'percent') -> Decimal:
     """The partial number of a system at amounts of its components: by name, or in the formula's order (SYSTEMS)."""
+    if isinstance(system, bool) or not isinstance(system, Integral):
+        raise AmountError("%s is no system's number" % lines.shown(repr(system)))
+    parts = formula_amounts(int(system), amounts, unit)
+    number, units = library.partial_number(system, *parts) if 0 <= system < 1 << 32 else (13, None)
+    if number:
+        raise Refused(number, gas.REFUSALS[number][1])
+    return number_of(units)
+
+
+def formula_amounts(system: int, amounts: Union[Mapping[str, Amount], Sequence[Amount]], unit: str) -> list[int]:
+    """A system's three amounts in the formula's order, in parts."""
     known = SYSTEMS.get(system, ())
     if isinstance(amounts, Mapping):
-        given = {component(name): parts_of(amount, unit) for name, amount in amounts.items()}
-        strange = [name for name, parts in given.items() if name not in known]
+        names = [component(name) for name in amounts]
+        strange = [name for place, name in enumerate(names) if name not in known or name in names[:place]]
         if strange and known:
-            raise AmountError('system %d has %s, and not %s' % (system, ', '.join(known), ', '.join(strange)))
+            raise AmountError('system %d has %s, each once, and not %s' % (
+                system, ', '.join(known), ', '.join(strange)))
+        given = {component(name): parts_of(amount, unit) for name, amount in amounts.items()}
         parts = [given.get(name, 0) for name in known]
-    else:
+    elif isinstance(amounts, Sequence) and not isinstance(amounts, (str, bytes)):
         parts = [parts_of(amount, unit) for amount in amounts]
-        if len(parts) > 3:
-            raise AmountError('a system has three amounts at most, and %d are given' % len(parts))
-    if not 0 <= system < 1 << 32:
-        raise Refused(13, gas.REFUSALS[13][1])
-    number, units = library.partial_number(system, *parts, *[0] * (3 - len(parts)))
-    if number:
-        raise Refused(number, words.reason(number, b'', library.ranges()))
-    return number_of(units)
+    else:
+        raise AmountError('amounts are three in the order of the formula, or by name')
+    if len(parts) > 3:
+        raise AmountError('a system has three amounts at most, and %d are given' % len(parts))
+    return parts + [0] * (3 - len(parts))
 
 
 def component(name: str) -> str:
     """The name that SYSTEMS has for a component, or the name itself."""
-    code = gas.SPLIT_CODES.get(gas.key(name))
-    if code is not None:
-        return gas.SPLIT_NAMES[code]
-    code = gas.CODES.get(gas.key(name))
-    return gas.BY_CODE[code].name if code is not None else name.lower().replace(' ', '-')
+    key = gas.key(name) if isinstance(name, str) else ''
+    if key in gas.SPLIT_CODES:
+        return gas.SPLIT_NAMES[gas.SPLIT_CODES[key]]
+    if key in gas.CODES:
+        return gas.BY_CODE[gas.CODES[key]].name
+    return gas.OUTSIDE_NAMES.get(key, lines.shown(str(name)))
 
 
 def rate_sheet(sheet: bytes) -> Rating:

@@ -534,11 +534,13 @@ def command(file: str, output: str, plate: Optional[int], moles: bool, time_colu
     name = 'standard input' if file == '-' else file
     title = os.path.basename(name) if title is None else title
     try:
+        if output != '-' and (os.path.isfile(output) or not os.path.exists(output)):
+            output = batch.output_of(output, file)
         with click.open_file(file, 'rb') as opened:
             body = reported(opened, moles=moles, time_column=time_column, plate=plate, title=title)
         write(output, page(title, body))
-    except library.Missing:
-        raise
+    except batch.BatchError as wrong:
+        raise click.ClickException(str(wrong)) from None
     except (OSError, ValueError) as wrong:
         raise click.ClickException('%s: %s' % (
             getattr(wrong, 'filename', None) or name, getattr(wrong, 'strerror', None) or wrong)) from None

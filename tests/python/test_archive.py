@@ -37,6 +37,55 @@ def test_other_titles(title, kind):
     assert title_of(title).kind == kind
 
 
+@pytest.mark.parametrize('title', [
+    'CH4 % mol', 'CH4 % vol', 'CH4.mol%', 'CH4 molfrac', 'Methane (C1) [mol%]', 'CH4 ppm mol', 'CH4 [cmol/mol]',
+    'CH4 [\u00b5mol/mol]', 'CH4 vpm', 'CH4 [% v/v]'])
+def test_more_titles_of_methane(title):
+    read = title_of(title)
+    assert (read.kind, read.code) == ('live', 1) and read.unit and read.basis
+
+
+@pytest.mark.parametrize('title', ['C6+ 47/35/17 mol%', 'Hexane Plus mol%', 'C6+', 'Hexanes+ [mol %]'])
+def test_more_titles_of_hexanes(title):
+    assert title_of(title).code == 10
+
+
+@pytest.mark.parametrize('title', ['GC1.CH4', 'ST01 C2', 'n-C4 wt%', 'N2+O2', 'C6s [mol%]', 'neo-Pentan mol%', 'C1 raw',
+                                   'Methan [Mol-%]', 'Ethan %', 'iso butane raw'])
+def test_a_title_that_looks_like_a_component_is_never_carried_in_silence(title):
+    with pytest.raises(ArchiveError) as wrong:
+        layout('CH4', title)
+    assert '--column' in str(wrong.value) or 'unit' in str(wrong.value)
+    assert layout('CH4', title, columns=((title, '-'),)).carried == (1,)
+
+
+@pytest.mark.parametrize('title', ['methane number', 'Methanzahl', 'Total [%]', 'Sum mol%', 'Wobbe index', 'station',
+                                   'density [kg/m3]', 'calorific value', 'unnormalised %', 'Time', 'remark', 'operator',
+                                   'hexagon'])
+def test_titles_that_are_carried(title):
+    assert layout('CH4', title).carried == (1,)
+
+
+def test_bare_numbers_are_codes_where_methane_is_one():
+    assert layout('1', '2').columns[1].code == 2
+    with pytest.raises(ArchiveError) as wrong:
+        layout('CH4', '2')
+    assert 'code 2' in str(wrong.value)
+    assert layout('CH4', '2024').carried == (1,)
+
+
+def test_no_methane_no_run():
+    with pytest.raises(ArchiveError) as wrong:
+        layout('C2', 'C3')
+    assert "no title is methane's" in str(wrong.value)
+
+
+@pytest.mark.parametrize('cell', ['20,000', '20.000', '1,234,567', '970.797'])
+def test_thousands_are_never_taken_for_decimals(cell):
+    with pytest.raises(RowError):
+        amounts_of(['900000', cell], layout('CH4', 'C2', unit='parts'))
+
+
 def test_titles_that_are_errors():
     for title in ('CH4 [kg]', 'N2 (bar)', 'C1 (ethane)'):
         with pytest.raises(ArchiveError):
@@ -51,7 +100,7 @@ def layout(*titles, **options):
     (['CH4', 'C2'], {'unit': None}, '--unit'), (['CH4', 'C2'], {'basis': None}, '--basis'),
     (['CH4 [mol%]', 'C2 [vol%]'], {}, 'never added'), (['CH4 [mol%]'], {'basis': 'volume'}, '--basis says volume'),
     (['CH4', 'butane'], {}, 'i-butane or n-butane'), (['CH4', 'methane'], {}, 'both methane'),
-    (['date', 'x'], {}, 'no title'), (['CH4'], {'columns': (('C9', 'hexanes+'),)}, "no column 'C9'"),
+    (['date', 'x'], {}, "no title is methane's"), (['CH4'], {'columns': (('C9', 'hexanes+'),)}, "no column 'C9'"),
     (['CH4', 'x'], {'columns': (('x', 'xenon'),)}, 'none of')])
 def test_what_must_be_declared(titles, options, word):
     with pytest.raises(ArchiveError) as wrong:
@@ -81,7 +130,8 @@ def test_cells_that_cannot_be_read(cell):
 
 
 @pytest.mark.parametrize('cell, parts', [('', 0), ('0', 0), ('0,0000', 0), (' 97,0797 ', 970797),
-                                         ('97.07970', 970797), ('9.7e1', 970000), ('.5', 5000),
+                                         ('97.07970', 970797), ('9.7e1', 970000), ('.5', 5000), ('95 %', 950000),
+                                         ('+95', 950000),
                                          ('5.', 50000), ('007', 70000), ('n.d.', 0)])
 def test_cells_that_are_read(cell, parts):
     assert amounts_of([cell, '1'], layout('CH4', 'C2', absent=('n.d.',)))[0][1] == parts

@@ -279,7 +279,7 @@ def test_nothing_is_written_over_the_archive(tmp_path):
     path = tmp_path / 'archive.csv'
     text = csv_of([(TABLE_A1, '91', {})])
     path.write_text(text)
-    for output, message in ((path, 'is the archive itself'), (tmp_path / 'no' / 'file.csv', 'there is no folder')):
+    for output, message in ((path, 'is what is read'), (tmp_path / 'no' / 'file.csv', 'there is no folder')):
         said = CliRunner().invoke(audit.command, [str(path), '--first', 'MN', '-o', str(output)])
         assert said.exit_code == 2 and message in said.output
     assert path.read_text() == text and os.listdir(tmp_path) == ['archive.csv']

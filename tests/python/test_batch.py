@@ -90,7 +90,7 @@ def test_chunks_do_not_show(tmp_path, monkeypatch):
     assert len(set(whole.values())) == 1
 
 
-BAD = '''row;C1;C2;9;CO;remark
+BAD = '''row;C1;C2;code 9;CO;remark
 1;98;2;;;good
 2;98;;;;empty cell
 3;98;2;0,1;;retired
@@ -112,7 +112,7 @@ def test_bad_rows_never_stop_the_run(tmp_path):
     status, out, said = command('batch', source, '-o', output, '--unit', 'percent', '--basis', 'volume')
     assert status == 0 and out == ''
     assert '12 rows, 3 rated, 2 refused (3 retired: 1, 6 total: 1), 1 outside, 6 unreadable' in said
-    assert "'9'" in said and "'CO'" in said and 'carried along' in said
+    assert "'code 9'" in said and "'CO'" in said and 'carried along' in said
     rows = {row['row'].split(';')[0].split(',')[0]: row for row in rated(output)}
     words = {n: (row['refusal'], row['word']) for n, row in rows.items()}
     unreadable = ('', 'unreadable')
@@ -159,7 +159,7 @@ def test_nothing_is_overwritten_unasked(tmp_path):
     status, _, said = command('batch', source, '-o', output)
     assert status == 1 and '--force' in said and output.read_text() == 'mine'
     status, _, said = command('batch', source, '-o', source, '--force')
-    assert status == 1 and 'the archive itself' in said
+    assert status == 1 and 'what is read' in said
     assert command('batch', source, '-o', output, '--force')[0] == 0
     assert command('batch', output, '-o', tmp_path / 'again.csv')[2].count("column 'methane_number' already")
     assert sorted(os.listdir(tmp_path)) == ['a.csv', 'r.csv']
@@ -171,7 +171,74 @@ def test_commands_that_are_wrong(tmp_path):
         assert command(*arguments)[0] == 2
     (tmp_path / 'a.csv').write_text('C1 [vol%]\n98\n')
     status, _, said = command('batch', tmp_path / 'a.csv', '-o', tmp_path / 'no' / 'r.csv')
-    assert status == 1 and 'No such file' in said and 'Traceback' not in said
+    assert status == 1 and 'there is no folder' in said and 'Traceback' not in said
+
+
+def test_outputs_that_are_no_files(tmp_path):
+    source = tmp_path / 'a.csv'
+    table(source, [TABLE_A1])
+    os.mkfifo(tmp_path / 'pipe')
+    for output, word in ((tmp_path / 'pipe', 'no regular file'), ('-', 'no name for a file')):
+        status, _, said = command('batch', source, '-o', output, '--force')
+        assert status == 1 and word in said
+    status, _, said = command('batch', tmp_path / 'pipe', '-o', tmp_path / 'r.csv')
+    assert status == 1 and 'read twice' in said
+    os.symlink('real.csv', tmp_path / 'link.csv')
+    assert command('batch', source, '-o', tmp_path / 'link.csv')[0] == 0
+    assert (tmp_path / 'link.csv').is_symlink() and rated(tmp_path / 'real.csv')
+    assert sorted(os.listdir(tmp_path)) == ['a.csv', 'link.csv', 'pipe', 'real.csv']
+
+
+def test_chunks_of_another_run_are_never_taken(tmp_path):
+    """Whatever a folder has, --force begins with none of it, and one that is not batch's is left alone."""
+    source, output = tmp_path / 'a.csv', tmp_path / 'r.csv'
+    table(source, [TABLE_A1] * 3)
+    parts = tmp_path / 'r.csv.parts'
+    parts.mkdir()
+    (parts / '00000000.csv').write_text('old\n')
+    (parts / '00000000.csv.tally').write_text('{"rated": 12345}')
+    status, _, said = command('batch', source, '-o', output, '--force')
+    assert status == 0 and '3 rows, 3 rated' in said and len(rated(output)) == 3 and not parts.exists()
+    parts.mkdir()
+    (parts / 'mine').write_text('mine')
+    status, _, said = command('batch', source, '-o', output, '--force')
+    assert status == 1 and 'no run of batch' in said and (parts / 'mine').read_text() == 'mine'
+
+
+def test_a_stray_quote_spoils_its_own_row_alone(tmp_path):
+    source, output = tmp_path / 'a.csv', tmp_path / 'r.csv'
+    rows = ['%d;98;2' % n for n in range(60)]
+    rows[3], rows[30], rows[31], rows[32] = '"purged, see log;98;2', '"comment";98;2', '"6 inch;98;2', '"6 inch;98;2'
+    rows[40] = '"two\nlines";98;2'
+    source.write_text('row;C1 [vol%];C2 [vol%]\n' + '\n'.join(rows) + '\n')
+    status, _, said = command('batch', source, '-o', output)
+    assert status == 0 and '60 rows, 57 rated, 3 unreadable' in said
+    assert [row['row'] for row in rated(output) if row['word']] == [rows[3], rows[31], rows[32]]
+
+
+def test_rows_that_the_csv_module_cannot_read(tmp_path):
+    source, output = tmp_path / 'a.csv', tmp_path / 'r.csv'
+    for bad in ('"%s";98;2' % ('x' * 140000), '"a";98\rb;2', '\0;98;2'):
+        source.write_text('row;C1 [vol%];C2 [vol%]\n' + bad + '\n1;98;2\n', newline='')
+        status, _, said = command('batch', source, '-o', output, '--force')
+        assert status == 0 and '2 rows' in said and 'Traceback' not in said
+
+
+def test_lines_before_the_titles_and_titles_of_two_lines(tmp_path):
+    source, output = tmp_path / 'a.csv', tmp_path / 'r.csv'
+    source.write_text('Station: Emden\n\n"C1\n[vol%]";"C2\n[vol%]"\n98;2\n')
+    status, _, said = command('batch', source, '-o', output, '--skip', '1')
+    assert status == 0 and '1 row, 1 rated' in said
+    assert output.read_text().startswith('Station: Emden\n\n"C1\n[vol%]";"C2\n[vol%]";methane_number')
+
+
+def test_nothing_is_left_to_go_on_with(tmp_path):
+    source, output = tmp_path / 'a.csv', tmp_path / 'r.csv'
+    table(source, [TABLE_A1])
+    assert command('batch', source, '-o', output, '--resume')[0] == 0
+    before = output.read_bytes()
+    status, _, said = command('batch', source, '-o', output, '--resume')
+    assert status == 0 and 'no run is left' in said and output.read_bytes() == before
 
 
 # ------------------------------------------------------------ stopped runs
@@ -252,6 +319,38 @@ def test_the_workers_end_with_a_killed_run(big, tmp_path):
     run.wait()
     run.stderr.close()
     until(lambda: not members(run.pid), 10)
+
+
+def test_a_killed_worker_stops_the_run(big, tmp_path):
+    """It never waits for ever; what was done is kept, and the run is gone on with."""
+    source, right = big
+    output = str(tmp_path / 'r.csv')
+    for _ in range(3):
+        run = begun(source, output, '--processes', '2', '--resume')
+        until(lambda: parts_done(output) >= 1)
+        workers = [int(pid) for pid in members(run.pid) if int(pid) != run.pid]
+        if not workers:
+            break
+        os.kill(workers[0], signal.SIGKILL)
+        assert run.wait(20) in (0, 1)
+        said = run.stderr.read()
+        run.stderr.close()
+        assert run.returncode == 0 or b'a process that rates was stopped' in said
+    assert command('batch', source, '-o', output, '--resume')[0] == 0
+    assert whole_of(output) == whole_of(right)
+
+
+def test_two_runs_at_once(big, tmp_path):
+    source, right = big
+    output = str(tmp_path / 'r.csv')
+    run = begun(source, output, '--processes', '1')
+    until(lambda: parts_done(output) >= 1)
+    for option in ('--resume', '--force'):
+        status, _, said = command('batch', source, '-o', output, option)
+        assert status == 1 and 'a run is going on' in said
+    assert run.wait(60) == 0
+    run.stderr.close()
+    assert whole_of(output) == whole_of(right)
 
 
 def members(group):

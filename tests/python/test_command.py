@@ -15,6 +15,7 @@ from saugrinte import amounts
 MOLES = os.path.join(ROOT, 'examples', 'moles.txt')
 PAGE = '''methane number  91.0787
 whole number    91
+amounts         percent by volume
 spread          0.0370, at most 0.05
 rounds          8
 
@@ -72,6 +73,38 @@ def test_standard_input_and_splits():
 def test_help(name):
     status, out, said = command(*filter(None, [name]), '--help')
     assert status == 0 and out.startswith('Usage: saugrinte') and said == ''
+
+
+def test_a_refusal_says_its_word_once(tmp_path):
+    (tmp_path / 'poor.txt').write_text('methane 98\nnitrogen 2\n')
+    said = command('rate', tmp_path / 'poor.txt')[1]
+    assert said.startswith('refused 16, too few: methane stands alone')
+
+
+def test_output_that_cannot_be_written():
+    with open('/dev/full', 'w') as full:
+        run = subprocess.run([sys.executable, '-m', 'saugrinte', 'rate', EXAMPLE], stdout=full, stderr=subprocess.PIPE,
+                             env=ENVIRONMENT)
+    assert run.returncode == 2 and b'standard output' in run.stderr and b'Traceback' not in run.stderr
+
+
+def test_a_library_that_is_not_there(tmp_path):
+    table(tmp_path / 'a.csv', [TABLE_A1])
+    for arguments in (['rate', EXAMPLE], ['batch', tmp_path / 'a.csv', '-o', tmp_path / 'r.csv'],
+                      ['report', EXAMPLE, '-o', tmp_path / 'r.html']):
+        run = subprocess.run([sys.executable, '-m', 'saugrinte', *map(str, arguments)], capture_output=True, text=True,
+                             env={**ENVIRONMENT, 'SAUGRINTE_LIBRARY': '/nowhere.so'})
+        assert run.returncode == 2 and '/nowhere.so' in run.stderr and 'Traceback' not in run.stderr
+    assert os.listdir(tmp_path) == ['a.csv']
+
+
+def test_a_report_is_not_written_over_what_it_reads(tmp_path):
+    (tmp_path / 'gas.txt').write_bytes(open(EXAMPLE, 'rb').read())
+    status, _, said = command('report', tmp_path / 'gas.txt', '-o', tmp_path / 'x' / '..' / 'gas.txt')
+    assert status == 1 and 'Traceback' not in said
+    status, _, said = command('report', tmp_path / 'gas.txt', '-o', tmp_path / 'gas.txt')
+    assert status == 1 and 'what is read' in said
+    assert (tmp_path / 'gas.txt').read_bytes() == open(EXAMPLE, 'rb').read()
 
 
 def test_version():

@@ -232,7 +232,7 @@ def test_hydrogen_has_no_mole_rating():
     ({12: 150000}, 'nitrogen-as-hexanes', 'hexanes+ 15.0084 % is outside 0.001 to 0.61 %'),
     ({11: 99950}, 'hexanes-as-carbon-dioxide', 'carbon-dioxide 10.0034 % is outside 0.005 to 10 %'),
     ({11: 0, 10: 40}, 'hexanes-as-carbon-dioxide', 'carbon-dioxide 0.004 % is outside 0.005 to 10 %'),
-    ({2: 0, 3: 0}, 'butanes-and-heavier-left-out', 'too few: methane stands alone; ethane, propane, butanes, pentanes, '
+    ({2: 0, 3: 0}, 'butanes-and-heavier-left-out', 'methane stands alone; ethane, propane, butanes, pentanes, '
      'hexanes+ or hydrogen must be there too')))
 def test_reasons(changes, key, reason):
     """A mistake whose number the library refuses is told with the refusal of the changed analysis."""

@@ -3,14 +3,14 @@ import doctest
 import os
 import re
 import threading
-from decimal import Decimal
+from decimal import Decimal, Inexact, Rounded, localcontext
 
 import pytest
 from gases import EXAMPLE, ROOT, TABLE_A1, gases
 from hypothesis import given, strategies as st
 
 import saugrinte
-from saugrinte import amounts, gas, library, lines, ratings
+from saugrinte import Record, amounts, gas, library, lines, ratings
 
 TABLE = amounts.by_name(TABLE_A1)
 
@@ -105,9 +105,60 @@ def test_refusals_of_splits():
     split = saugrinte.rate(TABLE).split
     assert refused(saugrinte.rate_split, TABLE, split[:6]).number == 7
     assert refused(saugrinte.rate_split, TABLE, split * 3).number == 7
+    assert '27 records' in str(refused(saugrinte.rate_split, TABLE, split * 3))
     moved = [saugrinte.Record(r.system, r.component, r.parts + (n == 0)) for n, r in enumerate(split)]
     assert refused(saugrinte.rate_split, TABLE, moved).number == 8
     assert refused(saugrinte.write_sheet, TABLE, split[:4]).number == 1
+
+
+def test_the_precision_of_decimal_plays_no_part():
+    exact = Decimal('97.07970000000000000000000000000000001')
+    for precision in (1, 4, 28):
+        with localcontext() as context:
+            context.prec, context.traps[Inexact], context.traps[Rounded] = precision, True, True
+            rating = saugrinte.rate(TABLE)
+            assert (rating.units, str(rating.number), str(rating.spread)) == (910787384, '91.0787384', '0.0369794')
+            for amount in (exact, str(exact)):
+                with pytest.raises(saugrinte.AmountError):
+                    saugrinte.rate({**TABLE, 'methane': amount})
+            assert refused(saugrinte.rate, {**TABLE, 'ethane': '0.0099'}).amount == Decimal('0.0099')
+
+
+@pytest.mark.parametrize('analysis', [None, [], 'methane', 5, {None: 1}, {5: 1}, {b'methane': 1}, {'butane': 1}])
+def test_analyses_that_are_none(analysis):
+    for call in (saugrinte.rate, saugrinte.rate_moles, saugrinte.write_sheet, saugrinte.convert):
+        with pytest.raises(saugrinte.AmountError):
+            call(analysis)
+
+
+def test_figures_never_wrap():
+    split = saugrinte.rate(TABLE).split
+    first, rest = split[0], list(split[1:])
+    for wrong in (Record(first.system, first.component, first.parts + 2 ** 32),
+                  Record(260, first.component, first.parts), Record(-252, first.component, first.parts),
+                  Record(4, 'code 257', first.parts), Record(4, 'code x', 1), Record(4, 'methane', -1),
+                  Record(4, 'methane', 1.0), Record(4, None, 1), ('4', 'methane', 1), None):
+        for call in (saugrinte.rate_split, saugrinte.write_sheet):
+            with pytest.raises(saugrinte.AmountError):
+                call(TABLE, [wrong, *rest])
+    for wrong in ({'4': {}}, {260: {'methane': 1}}, {4: None}, 5, {4: {'xenon': 1}}):
+        with pytest.raises(saugrinte.AmountError):
+            saugrinte.rate_split(TABLE, wrong)
+    for wrong in (-1, 2.5, None, '4000', True):
+        with pytest.raises(saugrinte.AmountError):
+            saugrinte.rate(TABLE, allowance=wrong)
+    assert saugrinte.rate(TABLE, allowance=2 ** 32) == saugrinte.rate(TABLE)
+
+
+def test_partial_numbers():
+    assert saugrinte.partial_number(20, {'CH4': 100}) == Decimal('100.0003')
+    by_place = saugrinte.partial_number(8, ['90', '6', '4'])
+    assert by_place == saugrinte.partial_number(8, {'butane': 4, 'C1': 90, 'ethane': '6'})
+    assert saugrinte.partial_number(14, {'CO': 60, 'H2': 40}) == saugrinte.partial_number(14, [60, 40])
+    for system, wrong in ((4, '100'), (4, {'methane': 90, 'CH4': 5}), (4, {'nitrogen': 5}), (4, [1, 2, 3, 4]),
+                          ('4', [1]), (4.0, [1]), (None, [1]), (4, None)):
+        with pytest.raises(saugrinte.AmountError):
+            saugrinte.partial_number(system, wrong)
 
 
 @given(gases(hydrogen=True))
@@ -196,6 +247,10 @@ def test_a_library_that_is_not_there(monkeypatch, tmp_path):
     monkeypatch.undo()
     library.library.cache_clear()
     assert saugrinte.rate(TABLE).units == 910787384
+
+
+def test_the_version():
+    assert saugrinte.__version__ == saugrinte.version()
 
 
 def test_the_example_file():

@@ -323,5 +323,5 @@ def test_files_that_cannot_be_written(tmp_path):
     poor = tmp_path / 'poor.txt'
     poor.write_text('methane 97\n')
     status, said = run(poor, '-o', tmp_path / 'none' / 'report.html')
-    assert status == 1 and 'No such file or directory' in said
+    assert status == 1 and 'there is no folder' in said
     assert run(poor, '-o', os.devnull)[0] == 0 and not os.path.isfile(os.devnull)
