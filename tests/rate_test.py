@@ -444,7 +444,7 @@ def with_moles(place):
         expect(message, got == (1, b'', 'rate: standard input: %s\n' % message), got)
     got = place.run('moles 0')
     expect('mol without --moles', got[:2] == (1, b'') and got[2].endswith(
-        ': amounts are percent by volume; ./rate --moles rates lines in mole percent\n'), got)
+        ': amounts are percent by volume here; --moles is for lines in mole percent\n'), got)
     got = place.run('--moles', path=place.bare)
     expect('no Python', got == (2, b'', 'rate: python3 was not found; ./rate < SHEET works without it\n'), got)
     for arguments in (('--mole',), ('--moles', '-x'), ('--moles=1',)):

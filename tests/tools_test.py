@@ -48,7 +48,7 @@ LEAN_LINES = lines(os.path.join(ROOT, 'examples', 'biomethane.txt'))
 BLEND_LINES = lines(os.path.join(ROOT, 'examples', 'hydrogen.txt'))
 COUNT = 'a split has three records for each of two to seven systems, and %d are given'
 
-BY_VOLUME = 'amounts are percent by volume; ./rate --moles rates lines in mole percent'
+BY_VOLUME = 'amounts are percent by volume here; --moles is for lines in mole percent'
 
 # Every component, from the last to the first, with 21 records: 188 bytes.
 FULL = ('hydrogen', 'nitrogen', 'carbon-dioxide', 'hexanes+', 'n-pentane', 'i-pentane', 'neo-pentane', 'n-butane',
@@ -401,9 +401,9 @@ def tables():
     words = dict(re.findall(r'(?m)^\| ([0-9]+) \| ([a-z ]+) \| .* \|$', readme))
     expect('words', words == {str(n): word for n, (word, _) in gas.REFUSALS.items()}, words)
     expect('the rest', (gas.RETIRED, gas.SPLITS_ONLY, (gas.REQUIRED,), gas.MOST_COMPONENTS, gas.SPLIT_COUNTS,
-                        gas.LONGEST, RANGES.total, tuple(gas.SPLIT_NAMES))
+                        gas.LONGEST, RANGES.total, gas.SPREAD_LIMIT, tuple(gas.SPLIT_NAMES))
            == (ref.RETIRED, ref.SPLITS_ONLY, ref.REQUIRED, ref.MOST_COMPONENTS, ref.SPLIT_COUNTS, ref.LONGEST,
-               (ref.LEAST_TOTAL, ref.GREATEST_TOTAL), ref.SPLIT_CODE), '')
+               (ref.LEAST_TOTAL, ref.GREATEST_TOTAL), ref.SPREAD_LIMIT, ref.SPLIT_CODE), '')
 
 
 def shell(command, place):

@@ -26,8 +26,12 @@ TRAILING = re.compile(r'''(?ix)^(.+?)[\s,._-]*(
 CODE = re.compile(r'(?i)^(?:code[\s_]*)?([0-9]{1,3})$')
 # How hexanes+ are made up, as some analysers print it after the name: C6+ 47/35/17.
 MADE_UP = re.compile(r'\s+[0-9]{1,3}/[0-9]{1,3}/[0-9]{1,3}\b')
-# Titles that have a component's name or a unit and are none's.
-OTHERS = re.compile(r'(?i)number|index|zahl|total|sum|gesamt|normali[sz]')
+# Titles that have methane's name, or a unit, and are no component's: a methane number, a total.
+RATINGS = re.compile(r'(?i)(?:.*\W)?(?:methane[\s_-]*(?:number|index|no)|methanzahl)\b[^+]*')
+TOTALS = re.compile(r'(?i)(?:un|not )?-?(?:normali[sz]ed|raw)?[\s_-]*(?:total|sum|summe|gesamt)?')
+# Words that begin as a component's name does, in other languages too.
+ALIKE = re.compile(r'(?i)(?:^|[^a-z])(?:neo|iso|[in])?-?(?:(?:meth|eth|prop|but|pent|hex|hept|oct|non)an|heav(?:y|ies)|'
+                   r'stickstoff|kohlendioxid|wasserstoff|dmp\b)')
 
 MOST_LINES = 50             # lines of one record
 PEEKED = 1 << 18            # bytes in which the titles must end
@@ -177,14 +181,16 @@ def title_of(text: str) -> Title:
 def looks_like_one(text: str) -> bool:
     """Has a title that is not understood a component's name in it, or the unit of one? It is not carried along in
     silence: a component that is not counted makes a wrong number."""
-    if OTHERS.search(text):
+    if RATINGS.fullmatch(text):
         return False
     words = [word for word in re.split(r'[^\w+-]+', text) if word]
     pieces = words + [piece for word in words for piece in re.split(r'[+_-]', word) if len(piece) > 1]
     pieces += [a + ' ' + b for a, b in zip(words, words[1:])]
-    unit = any(parts and unit_of(parts[2]) for parts in (TRAILING.match(text), BRACKETED.match(text)))
-    return unit or any((named(piece) or ('carried',))[0] in ('live', 'ambiguous', 'outside') and not piece.isdigit()
-                       for piece in pieces)
+    if ALIKE.search(text) or any((named(piece) or ('carried',))[0] in ('live', 'ambiguous', 'outside')
+                                 and not piece.isdigit() for piece in pieces):
+        return True
+    return any(parts and unit_of(parts[2]) and not TOTALS.fullmatch(parts[1])
+               for parts in (TRAILING.match(text), BRACKETED.match(text)))
 
 
 def declared_title(title: str, meaning: str) -> Title:
@@ -451,6 +457,20 @@ def peek(path: str) -> tuple[bytes, int]:
         return file.read(PEEKED), os.fstat(file.fileno()).st_size
 
 
+def all_declared(rows: str, layout: Layout, options: Options) -> None:
+    """Where amounts are scaled to 100 %, a component that is not counted would not show in the total: so a column of
+    figures that is carried along must be declared."""
+    declared = {title for title, _ in options.columns}
+    read = (split_cells(raw, layout.separator) for _, raw in records(rows, layout.separator))
+    cells: list[str] = next((row for row in read if len(row) == len(layout.titles)), [])
+    for place in layout.carried if cells else ():
+        title = layout.titles[place]
+        if title not in declared and not RATINGS.fullmatch(title) and re.fullmatch(r'[0-9]+(?:[.,][0-9]+)?',
+                                                                                   cells[place].strip()):
+            raise ArchiveError("with --normalise, column '%s', which has figures, must be declared: --column '%s=-' "
+                               "carries it along" % (shown(title), shown(title)))
+
+
 def open_archive(path: str, options: Options) -> Archive:
     """Reads an archive's titles and first rows, or ArchiveError."""
     start, size = peek(path)
@@ -474,7 +494,10 @@ def open_archive(path: str, options: Options) -> Archive:
         raise ArchiveError('the titles cannot be read: %s' % wrong.detail) from None
     layout = layout_of(cells, separator, options, newline)
     rest = start[end + 1:]
-    if has_comma(rest[:rest.rfind(b'\n') + 1 or len(rest)].decode('utf-8', 'surrogateescape'), separator, layout):
+    rows = rest[:rest.rfind(b'\n') + 1 or len(rest)].decode('utf-8', 'surrogateescape')
+    if options.normalise:
+        all_declared(rows, layout, options)
+    if has_comma(rows, separator, layout):
         layout = layout_of(cells, separator, options, newline, comma=True)
     return Archive(path, layout, start[:at] + header, min(end + 1, size), line + 1 + header.count(b'\n'), size,
                    notes_of(layout))

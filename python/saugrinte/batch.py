@@ -10,6 +10,7 @@ import os
 import re
 import shutil
 import signal
+import tempfile
 from collections import Counter
 from contextlib import contextmanager
 from multiprocessing import get_context
@@ -25,6 +26,9 @@ from .lines import sheet as sheet_of
 ADDED = ('methane_number', 'whole_number', 'spread', 'rounds', 'refusal', 'word', 'detail')
 CHANGED = 'changed'
 SIZE = 1 << 19              # bytes of a chunk
+
+UMASK = os.umask(0)
+os.umask(UMASK)
 
 
 class BatchError(Exception):
@@ -107,18 +111,18 @@ def rate_chunk(layout: Layout, line: int, data: bytes) -> tuple[bytes, dict[str,
 
 # ------------------------------------------------------------ processors
 
-def alone() -> None:
+def bound_to(parent: int) -> None:
     """A worker leaves interrupts to the main process, and ends with it, even when that is killed."""
     import ctypes
     signal.signal(signal.SIGINT, signal.SIG_IGN)
     ctypes.CDLL(None).prctl(1, signal.SIGKILL, 0, 0, 0)        # PR_SET_PDEATHSIG
-    if os.getppid() == 1:
+    if os.getppid() != parent:
         os._exit(1)
 
 
-def work_on(pipe: Connection, others: list[Connection]) -> None:
+def work_on(parent: int, pipe: Connection, others: list[Connection]) -> None:
     """A worker: answers what comes through its pipe until that is shut."""
-    alone()
+    bound_to(parent)
     for other in others:
         other.close()
     while True:
@@ -144,7 +148,8 @@ class Here:
         for _ in range(processes or len(os.sched_getaffinity(0))):
             here, there = context.Pipe()
             self.pipes.append(here)
-            self.workers.append(context.Process(target=work_on, args=(there, list(self.pipes)), daemon=True))
+            self.workers.append(context.Process(target=work_on, args=(os.getpid(), there, list(self.pipes)),
+                                                daemon=True))
             self.workers[-1].start()
             there.close()
 
@@ -162,7 +167,8 @@ class Here:
             yield from self.answered(busy, idle)
 
     def answered(self, busy: dict[Connection, Chunk], idle: list[Connection]) -> Iterator[tuple[Chunk, Any]]:
-        for pipe in wait(list(busy)):
+        ready: list[Any] = wait(list(busy))
+        for pipe in ready:
             good, answer = self.spoken(pipe.recv)
             idle.append(pipe)
             if not good:
@@ -204,16 +210,24 @@ class Cluster:
     def mapped(self, function: Callable[..., Any], layout: Layout,
                work: Iterator[Chunk]) -> Iterator[tuple[Chunk, Any]]:
         """The function's answer to each chunk, as they come; only so many are under way at once."""
-        from distributed import wait as wait_for
         under_way: dict[Any, Chunk] = {}
         for chunk in work:
             under_way[self.client.submit(function, layout, chunk.line, chunk.data, pure=False, retries=5)] = chunk
             while len(under_way) >= self.most:
-                for future in wait_for(list(under_way), return_when='FIRST_COMPLETED').done:
-                    yield under_way.pop(future), future.result()
+                yield from self.answered(under_way)
         while under_way:
-            for future in wait_for(list(under_way), return_when='FIRST_COMPLETED').done:
-                yield under_way.pop(future), future.result()
+            yield from self.answered(under_way)
+
+    @staticmethod
+    def answered(under_way: dict[Any, Chunk]) -> Iterator[tuple[Chunk, Any]]:
+        from distributed import wait as wait_for
+        try:
+            done = [(future, future.result()) for future in wait_for(list(under_way),
+                                                                     return_when='FIRST_COMPLETED').done]
+        except Exception as wrong:
+            raise BatchError('the cluster could not rate a chunk: %s: %s' % (type(wrong).__name__, wrong)) from None
+        for future, answer in done:
+            yield under_way.pop(future), answer
 
     def close(self) -> None:
         self.client.close()
@@ -246,16 +260,22 @@ def output_of(path: str, source: str) -> str:
 
 def write_whole(path: str, data: bytes) -> None:
     """A file that is whole or not there."""
-    with open(path + '.new', 'wb') as file:
-        file.write(data)
-        file.flush()
-        os.fsync(file.fileno())
-    os.replace(path + '.new', path)
+    handle, new = tempfile.mkstemp(prefix=os.path.basename(path) + '.', suffix='.new', dir=os.path.dirname(path) or '.')
+    try:
+        with open(handle, 'wb') as file:
+            file.write(data)
+            file.flush()
+            os.fsync(file.fileno())
+        os.chmod(new, 0o666 & ~UMASK)
+        os.replace(new, path)
+    except BaseException:
+        os.unlink(new)
+        raise
 
 
 class Parts:
     """The folder OUTPUT.parts: what the run is, and each chunk that is done. One run at a time has it."""
-    OURS = re.compile(r'(?:[0-9]{8}\.csv(?:\.tally)?(?:\.new)?|whole|lock|plan\.json(?:\.new)?)')
+    OURS = re.compile(r'(?:[0-9]{8}\.csv(?:\.tally)?|plan\.json)(?:\.\w+\.new)?|whole|lock')
 
     def __init__(self, output: str, archive: Archive) -> None:
         self.output, self.folder = output, output + '.parts'
@@ -285,11 +305,17 @@ class Parts:
         write_whole(self.plan_file, json.dumps(self.plan, indent=1).encode())
 
     def take(self) -> None:
-        self.lock = os.open(os.path.join(self.folder, 'lock'), os.O_RDWR | os.O_CREAT | os.O_CLOEXEC, 0o644)
+        """Takes the lock, or BatchError where another run has it. One that was removed meanwhile is none."""
+        name = os.path.join(self.folder, 'lock')
+        lock = os.open(name, os.O_RDWR | os.O_CREAT | os.O_CLOEXEC, 0o644)
         try:
-            fcntl.flock(self.lock, fcntl.LOCK_EX | fcntl.LOCK_NB)
+            fcntl.flock(lock, fcntl.LOCK_EX | fcntl.LOCK_NB)
+            if not os.path.samestat(os.fstat(lock), os.stat(name)):
+                raise FileNotFoundError
         except OSError:
+            os.close(lock)
             raise BatchError('a run is going on in %s' % self.folder) from None
+        self.lock = lock
 
     def go_on(self) -> None:
         with open(self.plan_file, encoding='utf-8') as file:

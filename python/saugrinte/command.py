@@ -8,8 +8,8 @@ from typing import Any, Callable, Optional
 import click
 
 from . import gas, library, lines
-from .amounts import in_unit
-from .archive import SEPARATORS, Archive, ArchiveError, Options, open_archive
+from .amounts import UNITS, in_unit
+from .archive import BASES, SEPARATORS, Archive, ArchiveError, Options, open_archive
 from .ratings import Rating, Refused, rate_parts, rate_sheet, rate_split_parts, named
 from .words import methane_number
 
@@ -51,10 +51,7 @@ def answer_to(data: bytes, moles: bool) -> Rating:
     """The rating of a file's bytes, lines or a sheet."""
     if moles:
         _, sheet = lines.of_mole_lines(data)
-        amounts = [0] * gas.PLACES
-        for code, parts in gas.listed(sheet):
-            amounts[code] = parts
-        split = gas.proposed(sheet)
+        amounts, split = lines.amounts_in(sheet), gas.proposed(sheet)
         return rate_split_parts(amounts, named(split), moles=True) if split else rate_parts(amounts, moles=True)
     return rate_sheet(lines.of_lines(data) if gas.is_text(data) else data)
 
@@ -103,7 +100,7 @@ def rate_files(files: tuple[str, ...], moles: bool, as_json: bool) -> None:
         except Refused as refused:
             text, said = refusal_page(refused), {**said, **refused.as_dict()}
         except (OSError, ValueError) as wrong:
-            message = getattr(wrong, 'strerror', None) or str(wrong).replace('./rate --moles', '--moles')
+            message = getattr(wrong, 'strerror', None) or str(wrong)
             click.echo('saugrinte: %s: %s' % (name, message), err=True)
             status = UNREAD
             if not as_json:
@@ -128,9 +125,9 @@ def declared(context: click.Context, parameter: click.Parameter,
 
 
 ARCHIVE_OPTIONS = (
-    click.option('--unit', type=click.Choice(['percent', 'parts', 'fraction']),
+    click.option('--unit', type=click.Choice(list(UNITS)),
                  help='Unit of columns whose title has none; a part is 0.0001 %, or 1 ppm.'),
-    click.option('--basis', type=click.Choice(['volume', 'mole']),
+    click.option('--basis', type=click.Choice(BASES),
                  help='What amounts are shares of, where no title says it.'),
     click.option('--separator', type=click.Choice(list(SEPARATORS)), help='Between cells; found from the titles else.'),
     click.option('--column', 'columns', metavar='TITLE=COMPONENT', multiple=True, callback=declared,

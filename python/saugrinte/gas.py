@@ -3,6 +3,8 @@ decides an answer: the proved library does, and it has the ranges.
 
 A part is 0.0001 % by volume, or in a mole analysis 0.0001 mole percent.
 """
+from __future__ import annotations
+
 import re
 from collections import namedtuple
 
@@ -85,7 +87,7 @@ OF_MADE = (7, 8, 9, 10, 11, 13, 16)
 OF_MOLES = {16: 'methane stands alone; ethane, propane, butanes, pentanes or hexanes+ must be there too'}
 
 
-def key(name):
+def key(name: str) -> str:
     """A name without case, blanks, hyphens and underscores; lowered figures (as in a formula) as plain ones."""
     lowered = {0x2080 + n: str(n) for n in range(10)}
     return re.sub('[\\s_\u2010-\u2013-]', '', name.translate(lowered).lower())
@@ -111,7 +113,7 @@ OUTSIDE = {
 OUTSIDE_NAMES = {key(name): known for known, names in OUTSIDE.items() for name in (known, *names)}
 
 
-def percent(parts):
+def percent(parts: int) -> str:
     """An amount in percent, without zeros at the end."""
     return ('%d.%04d' % divmod(parts, 10000)).rstrip('0').rstrip('.')
 
@@ -120,24 +122,25 @@ NO_TEXT = re.compile(rb'[^\t\n\r\x20-\x7e\x80-\xff]')
 UTF_16 = (b'\xff\xfe', b'\xfe\xff')
 
 
-def is_text(data):
+def is_text(data: bytes) -> bool:
     """Whether a file is lines: it has bytes, and no control characters but tab, line feed and carriage return; or it
     begins with the byte-order mark of UTF-16. A sheet that passes refusals 1 to 4 is no such text: its first byte is 0
     to 12, of which 9 and 10 alone are text, and of nine rising codes the first is 4 at most, which is not."""
     return data.startswith(UTF_16) or bool(data) and not NO_TEXT.search(data)
 
 
-def no_text(data):
+def no_text(data: bytes) -> str:
     """Where a file that is not lines has its first byte that is no text."""
     other = NO_TEXT.search(data)
+    assert other is not None
     return 'line %d has byte %02X, which is no text' % (data.count(b'\n', 0, other.start()) + 1, other.group()[0])
 
 
-def counted(number, thing):
+def counted(number: int, thing: str) -> str:
     return '%d %s%s' % (number, thing, '' if number == 1 else 's')
 
 
-def torn(sheet):
+def torn(sheet: bytes) -> str | None:
     """What tears a sheet, or None."""
     if not sheet:
         return 'it has no bytes'
@@ -161,21 +164,21 @@ def torn(sheet):
         'left over' if len(sheet) > whole else 'missing')
 
 
-def listed(sheet):
+def listed(sheet: bytes) -> list[tuple[int, int]]:
     """The components [(code, parts)] of a sheet that is not torn."""
     return [(sheet[at], int.from_bytes(sheet[at + 1:at + 5], 'big')) for at in range(1, 1 + 5 * sheet[0], 5)]
 
 
-def proposed(sheet):
+def proposed(sheet: bytes) -> list[tuple[int, int, int]]:
     """The split's records [(system, code, parts)] of a sheet that is not torn."""
     return [(sheet[at], sheet[at + 1], int.from_bytes(sheet[at + 2:at + 6], 'big'))
             for at in range(2 + 5 * sheet[0], len(sheet), 6)]
 
 
-def miscoded(sheet):
+def miscoded(sheet: bytes) -> tuple[int, str] | None:
     """(2, 3 or 4, what is wrong) with the first code at fault of a sheet that is not torn, or None. People count
     records from 1."""
-    def named(code):
+    def named(code: int) -> str:
         return 'code %d (%s)' % (code, BY_CODE[code].name)
 
     before = 0

@@ -1,5 +1,5 @@
-"""The proved library through its header, include/saugrinte.h: one function here for each of its calls, amounts in parts
-by code and numbers in units. What is refused comes back as its number and its place.
+"""The proved library through its header, include/saugrinte.h: a function here for each call but the controller's
+record, amounts in parts by code and numbers in units. What is refused comes back as its number and its place.
 
 The shared object is looked for in the file that SAUGRINTE_LIBRARY names, then beside this file (where the wheel has
 it), then where a checkout builds it.
@@ -7,7 +7,7 @@ it), then where a checkout builds it.
 import ctypes
 import os
 import threading
-from ctypes import POINTER, byref, c_char_p, c_double, c_int64, c_size_t, c_uint8, c_uint32, c_uint64
+from ctypes import POINTER, byref, c_char_p, c_int64, c_size_t, c_uint8, c_uint32
 from functools import lru_cache
 from typing import Any, Callable, Sequence
 
@@ -36,10 +36,6 @@ class Answer(ctypes.Structure):
 
 class Figures(ctypes.Structure):
     _fields_ = [('rating', c_int64), ('spread', c_int64), ('rounds', c_int64)]
-
-
-class Controller(ctypes.Structure):
-    _fields_ = [('rating', c_double), ('spread', c_double)]
 
 
 class Range(ctypes.Structure):
@@ -98,7 +94,6 @@ def library() -> Any:
         'partial_number': (Answer, [c_uint32, c_uint32, c_uint32, c_uint32, POINTER(c_int64)]),
         'read': (Answer, [c_char_p, c_size_t, amounts, *found]),
         'write': (Answer, [amounts, *split, POINTER(c_uint8), c_size_t, POINTER(c_size_t)]),
-        'controller': (Controller, [c_int64, c_uint64]),
         'whole_number': (c_int64, [c_int64]),
         'code_range': (Range, [c_uint32]),
         'total_range': (Range, []),

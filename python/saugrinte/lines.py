@@ -1,21 +1,24 @@
 """An analysis in plain lines as people write it, a component and its amount in each, and a sheet's bytes: from one to
 the other and back. Ranges and totals are left to the rating.
 """
+from __future__ import annotations
+
 import re
+from collections.abc import Iterable, Mapping, Sequence
 
 from . import gas
 
 MOST = 1 << 20          # bytes of lines
 
 
-def shown(text):
+def shown(text: str) -> str:
     """Part of a line, fit for a message."""
     return ''.join(c if c.isprintable() else '?' for c in text[:40]) + ('...' if len(text) > 40 else '')
 
 
 # ------------------------------------------------------------ lines to a sheet
 
-def text_of(data):
+def text_of(data: bytes) -> str:
     """Lines as text. What is not UTF-8 (in a comment, say) becomes \\xff and the like, which no name or amount has."""
     if len(data) > MOST:
         raise ValueError('the lines have more than %d bytes' % MOST)
@@ -23,12 +26,13 @@ def text_of(data):
     return text[1:] if text.startswith('\ufeff') else text
 
 
-def parts(text):
+def parts(text: str) -> int:
     """The amount in parts (0.0001 %), or ValueError saying what is wrong."""
     if not re.fullmatch(r'[0-9]+([.,][0-9]+)?', text):
         both = ': it has a comma and a point' if ',' in text and '.' in text else ''
         raise ValueError("'%s' is not an amount such as 97.0797%s" % (shown(text), both))
-    whole, decimals = re.fullmatch(r'0*([0-9]*?)(?:[.,]([0-9]+))?', text).groups('')
+    whole, _, decimals = text.replace(',', '.').partition('.')
+    whole = whole.lstrip('0')
     if len(decimals) > 4:
         raise ValueError("'%s' has more than four decimals; a part is 0.0001 %%" % shown(text))
     if len(whole) > 6 or int(whole or '0') * 10000 + int(decimals.ljust(4, '0')) > gas.GREATEST_AMOUNT:
@@ -36,7 +40,7 @@ def parts(text):
     return int(whole or '0') * 10000 + int(decimals.ljust(4, '0'))
 
 
-def known(name, codes, names):
+def known(name: str, codes: Mapping[str, int], names: Iterable[str]) -> int:
     """The code of a name, or ValueError saying which names there are."""
     if len(name) > 1 and name[0] == name[-1] and name[0] in '"\'':
         name = name[1:-1]
@@ -48,7 +52,7 @@ def known(name, codes, names):
     raise ValueError("'%s' is none of %s" % (shown(name), ', '.join(names)))
 
 
-def record(words, form, moles=False):
+def record(words: list[str], form: str, moles: bool = False) -> tuple[str, str]:
     """Name and amount of a line's words, or ValueError. A word of the name that begins with a figure would be another
     amount: `CO 2 0.1` is not CO2."""
     if moles:
@@ -56,7 +60,7 @@ def record(words, form, moles=False):
             raise ValueError('amounts are mole percent here; lines in percent by volume are rated without --moles')
         words = gas.MOLES.sub(' %', ' '.join(words)).split()
     elif any(gas.A_MOLE.match(word) for word in words[1:]):
-        raise ValueError('amounts are percent by volume; ./rate --moles rates lines in mole percent')
+        raise ValueError('amounts are percent by volume here; --moles is for lines in mole percent')
     if words[-1:] == ['%']:
         words = words[:-1]
     elif words and words[-1].endswith('%') and words[-1][:1] in set('0123456789'):
@@ -66,10 +70,11 @@ def record(words, form, moles=False):
     return ' '.join(words[:-1]), words[-1]
 
 
-def read(text, moles=False):
+def read(text: str, moles: bool = False) -> tuple[dict[int, int], list[tuple[int, int, int]]]:
     """The components {code: parts} and the split's records [(system, code, parts)]. The components may be in mole
     percent; a split is of volumes always."""
-    components, split = {}, []
+    components: dict[int, int] = {}
+    split: list[tuple[int, int, int]] = []
     for number, line in enumerate(re.split('\r\n|\n|\r', text), 1):
         words = line.split('#')[0].split()
         try:
@@ -99,19 +104,19 @@ def read(text, moles=False):
     return components, split
 
 
-def split_section(split):
+def split_section(split: Sequence[tuple[int, int, int]]) -> bytes:
     return bytes([len(split)]) + b''.join(bytes([system, code]) + amount.to_bytes(4, 'big')
                                           for system, code, amount in split)
 
 
-def sheet(components, split):
+def sheet(components: Mapping[int, int], split: Sequence[tuple[int, int, int]]) -> bytes:
     out = bytearray([len(components)])
     for code in sorted(components):
         out += bytes([code]) + components[code].to_bytes(4, 'big')
     return bytes(out) + split_section(split)
 
 
-def of_lines(data):
+def of_lines(data: bytes) -> bytes:
     """The sheet of lines, or ValueError saying which line is wrong and why."""
     if data and not gas.is_text(data):
         raise ValueError(gas.no_text(data) if gas.torn(data)
@@ -119,7 +124,7 @@ def of_lines(data):
     return sheet(*read(text_of(data)))
 
 
-def of_mole_lines(data):
+def of_mole_lines(data: bytes) -> tuple[bytes, bytes]:
     """What the program of mole analyses reads of lines in mole percent, an amount for each code and the split, and a
     sheet that has the same; or ValueError. An amount of 0 is an absent one."""
     if not gas.is_text(data):
@@ -134,7 +139,16 @@ def of_mole_lines(data):
 
 # ------------------------------------------------------------ a sheet to lines
 
-def lines(data):
+def amounts_in(sheet: bytes) -> list[int]:
+    """The parts by code of a sheet that is not torn; codes that no analysis has are left out."""
+    amounts = [0] * gas.PLACES
+    for code, parts_of_it in gas.listed(sheet):
+        if code < gas.PLACES:
+            amounts[code] = parts_of_it
+    return amounts
+
+
+def lines(data: bytes) -> bytes:
     """The lines of a sheet, or ValueError saying what is wrong with it."""
     tear = gas.torn(data)
     if tear:

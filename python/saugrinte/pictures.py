@@ -1,6 +1,6 @@
 """Pictures of a rated gas and of a rated archive, drawn by matplotlib and given as SVG text. The same input gives the
-same bytes. A picture can stand in one page with others: its ids begin with its own name. Every figure drawn comes from
-the library; hatches, marks and labels tell what colours tell, for a print in black and white.
+same bytes. A picture can stand in one page with others: its ids (matplotlib's gid) begin with its own name. Every
+figure drawn comes from the library; hatches, marks and labels tell what colours tell, for a print in black and white.
 """
 import io
 import math
@@ -9,7 +9,7 @@ import threading
 from dataclasses import dataclass
 from decimal import Decimal
 from html import escape
-from typing import Callable, Optional, Sequence
+from typing import Any, Callable, Optional, Sequence
 
 import matplotlib.style
 from matplotlib.axes import Axes
@@ -19,7 +19,7 @@ from matplotlib.ticker import FormatStrFormatter, MaxNLocator
 
 from . import gas, library
 from .amounts import in_unit
-from .ratings import Rating, Refused, rate_parts
+from .ratings import Rating, Refused, SystemShare, rate_parts
 from .words import methane_number
 
 STEP = 1000                 # parts by which a component grows in the picture of effects
@@ -36,7 +36,7 @@ BLUE, ORANGE, GREY, INK = '#56b4e9', '#e69f00', '#dddddd', '#222222'
 LOOKS = {'methane': ('#cfe8f7', ''), 'ethane': ('#e69f00', '///'), 'propane': ('#009e73', '|||'),
          'butane': ('#cc79a7', 'xxx'), 'hydrogen': ('#f0e442', '\\\\\\')}
 MARKS = 'osD^vP*'
-PAPER = {'facecolor': 'white', 'edgecolor': 'none', 'pad': 0.8}     # under text
+PAPER: dict[str, Any] = {'facecolor': 'white', 'edgecolor': 'none', 'pad': 0.8}     # under text
 
 DRAWING = threading.Lock()  # matplotlib's settings are one for the whole process
 
@@ -84,8 +84,7 @@ def verdict(rating: Rating, plate: int) -> str:
     units = rating.units - plate * 10 ** 7
     if units < 0 <= rating.whole_number - plate:
         return 'short by %s (the whole number %d meets the plate)' % (distance(units), rating.whole_number)
-    return ('ample by %s' if units > 0 else 'short by %s' if units else 'the plate\u2019s number exactly') % (
-        (distance(units),) if units else ())
+    return ('short by %s' if units < 0 else 'ample by %s') % distance(units)
 
 
 def number_picture(rating: Rating, plate: Optional[int] = None, name: str = 'number') -> str:
@@ -106,12 +105,12 @@ def number_picture(rating: Rating, plate: Optional[int] = None, name: str = 'num
         if plate is not None:
             axes.barh(0.95, number - plate, 0.5, plate, color=ORANGE if short else BLUE, edgecolor=INK,
                       hatch='///' if short else '')
-            axes.plot([plate, plate], [0.45, 2.05], color=INK, linestyle='--', linewidth=1.6)
+            axes.plot([plate, plate], [0.45, 2.05], color=INK, linestyle='--', linewidth=1.6, gid='plate')
             put(axes, plate, 0.04, 'plate %d' % plate)
             axes.annotate('', (number, 2.0), (plate, 2.0), arrowprops={'arrowstyle': '->', 'color': INK,
                                                                       'shrinkA': 0, 'shrinkB': 0})
             put(axes, (number + plate) / 2, 2.25, said.split(' (')[0], weight='bold')
-        axes.plot(number, 0.95, 'D', color=INK, markersize=9)
+        axes.plot(number, 0.95, 'D', color=INK, markersize=9, gid='mark')
         axes.annotate(methane_number(rating.units), (number, 1.32), size=12, weight='bold', va='bottom',
                       ha='center' if plate is None else 'right' if short else 'left')
         axes.xaxis.set_major_locator(MaxNLocator(6))
@@ -153,11 +152,11 @@ def split_picture(rating: Rating, name: str = 'split') -> str:
     return picture(name, alt, (WIDTH, height), draw)
 
 
-def parts_of(share: object, components: Sequence[str]) -> list[int]:
+def parts_of(share: SystemShare, components: Sequence[str]) -> list[int]:
     return [share.components.get(component, 0) for component in components]
 
 
-def stacked(axes: Axes, systems: Sequence[object], components: Sequence[str], label: str) -> None:
+def stacked(axes: Axes, systems: Sequence[SystemShare], components: Sequence[str], label: str) -> None:
     """A bar for each system, its components one after the other, named where there is room."""
     bare(axes, 'bottom', 'left')
     rows = range(len(systems))
@@ -203,11 +202,12 @@ def partial_picture(rating: Rating, name: str = 'partial') -> str:
                  yticklabels=['system %d' % s.system for s in systems])
         axes.axvspan(low, high, 0, rows / (rows + 2.4), facecolor=GREY)
         rating_line(axes, rating, place)
-        axes.annotate('', (low, -0.75), (low + limit, -0.75), arrowprops={'arrowstyle': '|-|,widthA=.35,widthB=.35',
-                                                                         'shrinkA': 0, 'shrinkB': 0, 'color': INK})
+        axes.annotate('', (low, -0.75), (low + limit, -0.75), arrowprops={
+            'arrowstyle': '|-|,widthA=.35,widthB=.35', 'shrinkA': 0, 'shrinkB': 0, 'color': INK, 'gid': 'limit'})
         axes.text(low + limit / 2, -1.0, 'limit of the spread %g' % limit, ha='center', va='bottom', size=9, bbox=PAPER)
         for row, system in enumerate(systems):
-            axes.plot(system.units / 1e7, row, MARKS[row], color=INK, markerfacecolor=ORANGE, markersize=8)
+            axes.plot(system.units / 1e7, row, MARKS[row], color=INK, markerfacecolor=ORANGE, markersize=8,
+                      gid='system-%d' % system.system)
             axes.annotate(methane_number(system.units), (system.units / 1e7, row), (8, 0), va='center', size=9,
                           textcoords='offset points', bbox={**PAPER, 'alpha': 0.75})
         axes.xaxis.set_major_locator(MaxNLocator(5))
@@ -229,7 +229,7 @@ def rating_line(axes: Axes, rating: Rating, place: str) -> None:
     left, right = axes.get_xlim()
     number, text = float(rating.number), 'rating %s: %s' % (methane_number(rating.units), place)
     if left <= number <= right:
-        axes.plot([number, number], [axes.get_ylim()[0], -1.75], color=INK, linestyle='-.', linewidth=1.5)
+        axes.plot([number, number], [axes.get_ylim()[0], -1.75], color=INK, linestyle='-.', linewidth=1.5, gid='rating')
         put(axes, number, -1.9, text, size=9, weight='bold')
         return
     put(axes, (left + right) / 2, -1.9, '\u25c0 ' + text if number < left else text + ' \u25b6', size=9, weight='bold')
@@ -301,7 +301,7 @@ def effects_picture(found: Sequence[Effect], moles: bool = False, step: int = ST
         axes.axvline(0, color=INK, linewidth=0.8)
         for row, (one, change) in enumerate(zip(found, changes)):
             axes.barh(row, change, 0.66, color=BLUE if change > 0 else ORANGE, edgecolor=INK, linewidth=0.8,
-                      hatch=('' if one.present else '///') if one.parts == step else 'xxx')
+                      hatch=('' if one.present else '///') if one.parts == step else 'xxx', gid=one.component)
             axes.annotate(effect_text(one), (change, row), (5 if change >= 0 else -5, 0), size=9, va='center',
                           textcoords='offset points', ha='left' if change >= 0 else 'right')
         axes.set(xlim=limits, yticks=range(len(found)), yticklabels=labels,
@@ -344,15 +344,16 @@ class History:
     Rows have places, which are their times in seconds or their numbers, in any order."""
 
     def __init__(self) -> None:
-        self.width, self.bins = 1.0, {}
-        self.first = self.last = None
+        self.width = 1.0
+        self.bins: dict[int, Bin] = {}
+        self.first = self.last = 0
         self.points: Optional[list[tuple[float, float]]] = []
 
     def bin_at(self, place: float) -> Bin:
         index = math.floor(place / self.width)
         if index not in self.bins:
-            self.first = index if self.first is None else min(index, self.first)
-            self.last = index if self.last is None else max(index, self.last)
+            self.first = min(index, self.first) if self.bins else index
+            self.last = max(index, self.last) if self.bins else index
             self.bins[index] = Bin()
             while self.last - self.first >= MOST_BINS:
                 self.widen()
@@ -435,13 +436,13 @@ def numbers(axes: Axes, history: History, plate: Optional[int], scale: float) ->
     if history.points:
         points = sorted(history.points)
         axes.plot([x * scale for x, _ in points], [y for _, y in points], '-o', color='#0072b2', linewidth=0.8,
-                  markersize=5 if len(points) < 60 else 3)
+                  markersize=5 if len(points) < 60 else 3, gid='numbers')
     elif history.points is None:
         banded(axes, broken([one for one in history.ordered() if one.rated], scale))
     else:
         axes.text(0.5, 0.5, 'no row is rated', transform=axes.transAxes, ha='center')
     if plate is not None:
-        axes.axhline(plate, color=INK, linestyle='--', linewidth=1.4)
+        axes.axhline(plate, color=INK, linestyle='--', linewidth=1.4, gid='plate')
         axes.annotate('plate %d' % plate, (1, plate), (-2, 3), xycoords=('axes fraction', 'data'), ha='right', size=9,
                       textcoords='offset points', weight='bold', bbox={**PAPER, 'alpha': 0.8})
     axes.yaxis.set_major_locator(MaxNLocator(6))
@@ -463,8 +464,8 @@ def broken(bins: Sequence[Bin], scale: float) -> list[tuple[float, float, float,
 
 def banded(axes: Axes, drawn: Sequence[tuple[float, float, float, float]]) -> None:
     places, least, mean, greatest = zip(*drawn)
-    axes.fill_between(places, least, greatest, color='#a8cfe6', linewidth=0.6, label='least to greatest')
-    axes.plot(places, mean, color='#00456e', linewidth=1.1, label='mean')
+    axes.fill_between(places, least, greatest, color='#a8cfe6', linewidth=0.6, label='least to greatest', gid='band')
+    axes.plot(places, mean, color='#00456e', linewidth=1.1, label='mean', gid='mean')
     axes.legend(loc='lower left', bbox_to_anchor=(0, 1), ncol=2, frameon=False, borderaxespad=0, fontsize=9)
 
 
@@ -473,7 +474,7 @@ def marks(axes: Axes, history: History, lanes: Sequence[tuple[str, str, str]], s
     bare(axes, 'bottom')
     for row, (what, mark, _) in enumerate(lanes):
         places = [one.place / one.rows * scale for one in history.ordered() if getattr(one, what)]
-        axes.plot(places, [row] * len(places), mark, color=INK, markersize=6, markerfacecolor='none')
+        axes.plot(places, [row] * len(places), mark, color=INK, markersize=6, markerfacecolor='none', gid=what)
     axes.set(ylim=(len(lanes) - 0.4, -0.6), yticks=range(len(lanes)),
              yticklabels=['%s: %d' % (label, history.count(what)) for what, _, label in lanes])
     axes.tick_params(axis='y', length=0, labelsize=9)

@@ -164,10 +164,7 @@ def records_of(split: Split) -> list[tuple[int, int, int]]:
     if isinstance(split, Mapping):
         systems = sorted(split, key=within(255, 'system'))
         split = [record for system in systems for record in members(system, split[system])]
-    try:
-        records = list(split)
-    except TypeError:
-        records = [None]
+    records: list[Any] = list(split) if isinstance(split, Iterable) else [split]
     if not all(isinstance(record, Record) for record in records):
         raise AmountError('a split is a rating, records, or {system: {component: percent}}')
     system, parts = within(255, 'system'), within(gas.GREATEST_AMOUNT, 'count of parts')
@@ -184,7 +181,7 @@ def members(system: int, given: Mapping[str, Amount]) -> list[Record]:
 def within(greatest: int, what: str) -> Callable[[Any], int]:
     """A check that a figure is whole, not below 0 and not too great."""
     def check(value: Any) -> int:
-        if isinstance(value, bool) or not isinstance(value, Integral) or not 0 <= value <= greatest:
+        if isinstance(value, bool) or not isinstance(value, Integral) or not 0 <= int(value) <= greatest:
             raise AmountError('%s is no %s from 0 to %d' % (lines.shown(repr(value)), what, greatest))
         return int(value)
 
@@ -201,8 +198,8 @@ def split_code(name: str) -> int:
 
 
 def rate_parts(amounts: Sequence[int], allowance: int = library.ALLOWANCE, moles: bool = False) -> Rating:
-    """Rates amounts in parts by code. More rounds than the library allows count as that many."""
-    allowance = min(within(sys.maxsize, 'allowance')(allowance), library.ALLOWANCE)
+    """Rates amounts in parts by code. More rounds than the library allows count as that many, to the library."""
+    allowance = min(within(sys.maxsize, 'allowance')(allowance), 0xffffffff)
     number, place, figures, split = library.search(amounts, allowance, moles)
     if number:
         raise refusal_of(number, place, amounts, moles=moles)
@@ -252,10 +249,8 @@ def convert(moles: Mapping[str, Amount], *, unit: str = 'percent') -> dict[str, 
 def partial_number(system: int, amounts: Union[Mapping[str, Amount], Sequence[Amount]], *,
                    unit: str = 'percent') -> Decimal:
     """The partial number of a system at amounts of its components: by name, or in the formula's order (SYSTEMS)."""
-    if isinstance(system, bool) or not isinstance(system, Integral):
-        raise AmountError("%s is no system's number" % lines.shown(repr(system)))
-    parts = formula_amounts(int(system), amounts, unit)
-    number, units = library.partial_number(system, *parts) if 0 <= system < 1 << 32 else (13, None)
+    system = within(0xffffffff, 'system')(system)
+    number, units = library.partial_number(system, *formula_amounts(system, amounts, unit))
     if number:
         raise Refused(number, gas.REFUSALS[number][1])
     return number_of(units)
@@ -295,11 +290,7 @@ def rate_sheet(sheet: bytes) -> Rating:
     """Rates a sheet: with its own split, or by the search where it has none."""
     number, place, figures, split = library.rate_sheet(sheet)
     if number:
-        amounts = [0] * gas.PLACES
-        if gas.torn(sheet) is None and not gas.miscoded(sheet):
-            for code, parts in gas.listed(sheet):
-                amounts[code] = parts
-        raise refusal_of(number, place, amounts, sheet=bytes(sheet))
+        raise refusal_of(number, place, [] if gas.torn(sheet) else lines.amounts_in(sheet), sheet=bytes(sheet))
     return Rating(figures[0], figures[1], figures[2], named(split or library.read(sheet)[3]))
 
 
@@ -307,8 +298,7 @@ def read_sheet(sheet: bytes) -> Sheet:
     """Reads a sheet; refused 1 to 6."""
     number, place, amounts, split = library.read(sheet)
     if number:
-        known = {code: parts for code, parts in (() if gas.torn(sheet) else gas.listed(sheet))}
-        raise refusal_of(number, place, [known.get(code, 0) for code in range(gas.PLACES)], sheet=bytes(sheet))
+        raise refusal_of(number, place, [] if gas.torn(sheet) else lines.amounts_in(sheet), sheet=bytes(sheet))
     return Sheet(by_name(amounts), named(split))
 
 

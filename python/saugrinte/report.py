@@ -2,18 +2,18 @@
 itself, no script and no network, and prints on paper. Every figure in it comes from the library.
 """
 import os
+import re
 import sys
 from collections import Counter
 from datetime import datetime, timezone
 from decimal import Decimal, InvalidOperation
 from html import escape
-from typing import TYPE_CHECKING, BinaryIO, Iterable, Iterator, Mapping, NamedTuple, Optional, Sequence, Union
+from typing import IO, TYPE_CHECKING, Iterable, Iterator, Mapping, NamedTuple, Optional, Sequence, Union
 
 import click
 
 from . import archive, batch, gas, library, lines, ratings
 from .amounts import Amount, by_code, by_name, in_unit
-from .command import answer_to as rating_of
 from .ratings import Rating, Refused
 from .words import methane_number
 
@@ -23,6 +23,9 @@ if TYPE_CHECKING:
 # Forms of time besides those of ISO 8601. Days and months between slashes could be either and are not taken.
 TIMES = ('%d.%m.%Y %H:%M:%S', '%d.%m.%Y %H:%M', '%d.%m.%Y', '%Y/%m/%d %H:%M:%S', '%Y/%m/%d %H:%M', '%Y/%m/%d')
 LONGEST_ROW = 1 << 24       # bytes
+START = archive.PEEKED + 1024       # bytes in which the titles must end: those that batch reads, and those it adds
+MOST_BEFORE = 50            # lines before the titles, when they are looked for
+GREATEST_PLATE = 150        # an engine's plate states whole numbers from 0 to this
 
 STYLE = '''
 *{box-sizing:border-box}
@@ -148,11 +151,11 @@ def gas_body(amounts: Mapping[str, Amount], answer: Answer, *, moles: bool, titl
 
 def rated_body(parts: Sequence[int], rating: Rating, moles: bool, plate: Optional[int]) -> str:
     from . import pictures
-    verdict = '' if plate is None else pictures.verdict(rating, plate)
+    verdict = '' if plate is None else paragraph(
+        '%s, plate number %d' % (pictures.verdict(rating, plate), plate), 'verdict')
     top = '<div class="top"><div>%s%s%s%s</div>%s</div>' % (
         paragraph('methane number' + (gas.MADE if moles else ''), 'what'),
-        paragraph(methane_number(rating.units), 'number'),
-        paragraph('%s, plate number %d' % (verdict, plate), 'verdict') if verdict else '',
+        paragraph(methane_number(rating.units), 'number'), verdict,
         facts([('whole number', rating.whole_number), ('to seven decimals', rating.number), ('spread', rating.spread),
                ('rounds of the search', rating.rounds)]),
         figure(pictures.number_picture(rating, plate), number_caption(plate)))
@@ -232,9 +235,16 @@ def partial_table(rating: Rating) -> str:
                   for s in systems])
 
 
+def when_given(number: int, moles: bool) -> str:
+    """When a refusal is given, of volumes or of moles."""
+    told = gas.REFUSALS.get(number, ('', ''))[1]
+    return gas.OF_MOLES.get(number, told) if moles else told
+
+
 def refused_body(parts: Sequence[int], refused: Refused, moles: bool) -> str:
     unit = gas.MOLE_PERCENT if moles else gas.PERCENT
-    what = [('refusal', refused.number), ('word', refused.word), ('given when', gas.REFUSALS[refused.number][1])]
+    what: list[tuple[str, object]] = [
+        ('refusal', refused.number), ('word', refused.word), ('given when', when_given(refused.number, moles))]
     if refused.component:
         what.append(('component', refused.component))
     if refused.amount is not None:
@@ -255,50 +265,77 @@ def answer_to(data: bytes, moles: bool) -> tuple[dict[str, Decimal], Answer]:
         sheet = lines.of_mole_lines(data)[1]
     else:
         sheet = lines.of_lines(data) if gas.is_text(data) else data
-    known = {} if gas.torn(sheet) or gas.miscoded(sheet) else dict(gas.listed(sheet))
-    parts = [known.get(code, 0) for code in range(gas.PLACES)]
+    parts = [] if gas.torn(sheet) or gas.miscoded(sheet) else lines.amounts_in(sheet)
     try:
-        return by_name(parts), rating_of(data, moles)
+        return by_name(parts), rating_of_moles(parts, sheet) if moles else ratings.rate_sheet(sheet)
     except Refused as refused:
         return by_name(parts), refused
 
 
+def rating_of_moles(parts: Sequence[int], sheet: bytes) -> Rating:
+    """The rating of mole amounts, with the split of their sheet where it has one."""
+    split = ratings.named(gas.proposed(sheet))
+    return ratings.rate_split_parts(parts, split, moles=True) if split else ratings.rate_parts(parts, moles=True)
+
+
+def plate_of(text: str) -> int:
+    """An engine's plate number; ValueError where the text is none."""
+    if not re.fullmatch('[0-9]{1,3}', text.strip()) or int(text) > GREATEST_PLATE:
+        raise ValueError("'%s' is not a whole number from 0 to %d, as an engine's plate states" % (
+            lines.shown(text), GREATEST_PLATE))
+    return int(text)
+
+
 # ------------------------------------------------------------ a rated archive
 
-class Rated(NamedTuple):
-    """A rated archive's titles, its separator, and where its rows begin in the first bytes."""
-    titles: Sequence[str]
+class Titles(NamedTuple):
+    """A table's titles, their separator, and where the rows begin in the first bytes."""
+    cells: Sequence[str]
     separator: str
     offset: int
 
 
-def first_line(start: bytes) -> tuple[str, int]:
-    """The first line that is not blank, and where the next begins."""
-    at = len(start) - len(start.lstrip(b'\xef\xbb\xbf\r\n'))
-    end = start.find(b'\n', at)
-    end = len(start) if end < 0 else end
-    return start[at:end].rstrip(b'\r').decode('utf-8', 'replace'), end + 1
+def titles_in(start: bytes, skip: int) -> Iterator[Titles]:
+    """The titles of a file, of which these are the first bytes, as each separator parts them; none of a file that is no
+    text up to their end, as a sheet is."""
+    for name, separator in archive.SEPARATORS.items():
+        options = archive.Options(separator=name, skip=skip)
+        at, _ = archive.titles_start(start, options)
+        try:
+            end = archive.titles_end(start, at, options)
+        except archive.ArchiveError:
+            continue
+        if gas.is_text(start[:end]):
+            text = start[at:end].rstrip(b'\r').replace(b'\r\n', b'\n').decode('utf-8', 'replace')
+            cells = archive.split_cells(text, separator)
+            yield Titles([one_line(cell) for cell in cells], separator, end + 1)
 
 
-def rated_archive(start: bytes) -> Optional[Rated]:
-    """Whether a file, of which these are the first bytes, is a rated archive."""
-    titles, offset = first_line(start)
-    for separator in archive.SEPARATORS.values():
-        cells = [cell.strip() for cell in archive.cells_of(titles, separator)]
-        if set(batch.ADDED) <= set(cells):
-            return Rated(cells, separator, offset)
-    return None
+def one_line(title: str) -> str:
+    return ' '.join(title.split())
 
 
-def is_table(start: bytes) -> bool:
+def rated_archive(start: bytes, skip: int = 0) -> Optional[Titles]:
+    """The titles of a rated archive, of which these are the first bytes; None where the file is none."""
+    return next((titles for titles in titles_in(start, skip) if set(batch.ADDED) <= set(titles.cells)), None)
+
+
+def is_table(start: bytes, skip: int = 0) -> bool:
     """Whether the first line is titles rather than a component and its amount."""
-    titles = first_line(start)[0]
-    rows = [archive.cells_of(titles, separator) for separator in archive.SEPARATORS.values()]
-    return any(len(cells) > 3 or sum(archive.title_kind(cell) == 'live' for cell in cells) > 1 for cells in rows)
+    return any(len(cells) > 3 or sum(archive.title_kind(cell) == 'live' for cell in cells) > 1
+               for cells, _, _ in titles_in(start, skip))
 
 
-def rows_of(start: bytes, file: BinaryIO, separator: str) -> Iterator[list[str]]:
-    """The rows of a file whose first bytes were read already."""
+def told_of_table(start: bytes, skip: int) -> Optional[str]:
+    """What there is to say of a table that is no rated archive as it is given; None where it is no table."""
+    before = next((count for count in range(MOST_BEFORE + 1) if rated_archive(start, count)), None)
+    if before is not None:
+        return 'the titles of this rated archive stand after %s (--skip %d)' % (gas.counted(before, 'line'), before)
+    return NOT_RATED if is_table(start, skip) else None
+
+
+def rows_of(start: bytes, file: IO[bytes], separator: str) -> Iterator[list[str]]:
+    """The rows of a file whose first bytes were read already. One whose cells cannot be told apart has none."""
     kept, block = start, b' '
     while block:
         block = file.read(1 << 20)
@@ -308,7 +345,7 @@ def rows_of(start: bytes, file: BinaryIO, separator: str) -> Iterator[list[str]]
             raise ValueError('a row has more than %d bytes' % LONGEST_ROW)
         for _, raw in archive.records(kept[:end].decode('utf-8', 'replace'), separator):
             if raw.strip():
-                yield archive.cells_of(raw, separator)
+                yield archive.split_cells(raw, separator)
         kept = kept[end:]
 
 
@@ -352,16 +389,18 @@ def number_in(text: str) -> Optional[Decimal]:
 class Summary:
     """What a rated archive's rows come to, gathered row by row."""
 
-    def __init__(self, rated: Rated, time_column: Optional[str], plate: Optional[int]) -> None:
+    def __init__(self, titles: Sequence[str], time_column: Optional[str], plate: Optional[int]) -> None:
         from . import pictures
-        self.number, self.refusal, self.word = (
-            rated.titles.index(name) for name in ('methane_number', 'refusal', 'word'))
-        self.time = None if time_column is None else place_of(time_column, rated.titles)
+        self.number, self.refusal, self.word, self.detail = (
+            titles.index(name) for name in ('methane_number', 'refusal', 'word', 'detail'))
+        self.time = None if time_column is None else place_of(time_column, titles)
         self.plate, self.clock, self.history = plate, Clock(), pictures.History()
         self.rows = self.rated = self.below = self.untimed = 0
-        self.refused: Counter = Counter()
-        self.unreadable: Counter = Counter()
-        self.least = self.greatest = None
+        self.moles = False                  # a refusal says that volumes were made from moles
+        self.refused: 'Counter[tuple[int, str]]' = Counter()
+        self.unreadable: 'Counter[str]' = Counter()
+        self.least: Optional[Decimal] = None
+        self.greatest: Optional[Decimal] = None
         self.total = Decimal(0)
 
     def take(self, cells: Sequence[str]) -> None:
@@ -374,8 +413,10 @@ class Summary:
         if number is not None:
             self.take_number(number, place)
             return
-        refusal, word = (cells[at].strip() if at < len(cells) else '' for at in (self.refusal, self.word))
+        refusal, word, detail = (cells[at].strip() if at < len(cells) else '' for at in (
+            self.refusal, self.word, self.detail))
         refused = refusal.isascii() and refusal.isdigit()
+        self.moles |= detail.endswith(gas.MADE)
         if refused:
             self.refused[int(refusal[:9]), word[:60]] += 1
         else:
@@ -397,24 +438,25 @@ class Summary:
 
 
 def place_of(column: str, titles: Sequence[str]) -> int:
-    if column not in titles:
+    if one_line(column) not in titles:
         raise ValueError("there is no column '%s'; there are %s" % (
             lines.shown(column), ', '.join("'%s'" % lines.shown(title) for title in titles)))
-    return titles.index(column)
+    return titles.index(one_line(column))
 
 
-def archive_page(path: Union[str, 'os.PathLike[str]', BinaryIO], *, time_column: Optional[str] = None,
-                 plate: Optional[int] = None, title: Optional[str] = None) -> str:
-    """The page of a rated archive, as `saugrinte batch` writes it; over the times of a column, or else row by row. Its
-    rows are read once, in bounded memory. ValueError where it is none, or its times cannot be read."""
+def archive_page(path: Union[str, 'os.PathLike[str]', IO[bytes]], *, time_column: Optional[str] = None,
+                 plate: Optional[int] = None, title: Optional[str] = None, skip: int = 0) -> str:
+    """The page of a rated archive, as `saugrinte batch` writes it; over the times of a column, or else row by row.
+    `skip` lines stand before its titles. Its rows are read once, in bounded memory. ValueError where it is none, or its
+    times cannot be read."""
     if isinstance(path, (str, os.PathLike)):
         with open(path, 'rb') as file:
-            return archive_page(file, time_column=time_column, plate=plate,
+            return archive_page(file, time_column=time_column, plate=plate, skip=skip,
                                 title=os.path.basename(os.fspath(path)) if title is None else title)
-    start = path.read(archive.PEEKED)
-    rated = rated_archive(start)
+    start = path.read(START)
+    rated = rated_archive(start, skip)
     if not rated:
-        raise ValueError(NOT_RATED if is_table(start) else
+        raise ValueError(told_of_table(start, skip) or
                          'this is no rated archive: its first row has not the titles %s' % ', '.join(batch.ADDED))
     title = 'Rated archive' if title is None else title
     return page(title, archive_body(rated, start, path, time_column=time_column, plate=plate, title=title))
@@ -423,15 +465,15 @@ def archive_page(path: Union[str, 'os.PathLike[str]', BinaryIO], *, time_column:
 NOT_RATED = 'this is an archive that is not rated yet: run `saugrinte batch` on it first, and report what that writes'
 
 
-def archive_body(rated: Rated, start: bytes, file: BinaryIO, *, time_column: Optional[str], plate: Optional[int],
+def archive_body(rated: Titles, start: bytes, file: IO[bytes], *, time_column: Optional[str], plate: Optional[int],
                  title: str) -> str:
     from . import pictures
-    summary = Summary(rated, time_column, plate)
+    summary = Summary(rated.cells, time_column, plate)
     for cells in rows_of(start[rated.offset:], file, rated.separator):
         summary.take(cells)
     if summary.rows and summary.untimed == summary.rows:
         raise ValueError("no time in column '%s' can be read; times are as 2025-12-31 23:59:00 or 31.12.2025 23:59"
-                         % lines.shown(time_column))
+                         % lines.shown(time_column or ''))
     svg = pictures.archive_picture(summary.history, plate, times=time_column is not None)
     return '<main>\n<h1>%s</h1>\n%s\n<div class="wide">%s</div>\n%s\n</main>' % (
         escape(title), archive_top(summary), figure(svg, archive_caption(summary, time_column)),
@@ -474,7 +516,7 @@ def archive_tables(summary: Summary) -> list[str]:
         out.append(table('Methane numbers', ['least', 'mean', 'greatest'], [[summary.least, mean, summary.greatest]]))
     if refused:
         out.append(table('Refused rows', ['refusal', Cell('word'), 'rows', Cell('when', 'long')], [
-            [number, Cell(word), count, Cell(gas.REFUSALS.get(number, ('', ''))[1], 'long')]
+            [number, Cell(word), count, Cell(when_given(number, summary.moles), 'long')]
             for (number, word), count in sorted(summary.refused.items())]))
     if unreadable:
         out.append(table('Unreadable rows', [Cell('word'), 'rows'], [
@@ -497,35 +539,44 @@ def write(path: str, text: str) -> None:
         batch.write_whole(os.path.realpath(path), data)
 
 
-def reported(file: BinaryIO, *, moles: bool, time_column: Optional[str], plate: Optional[int], title: str) -> str:
+def reported(file: IO[bytes], *, moles: bool, time_column: Optional[str], plate: Optional[int], title: str,
+             skip: int = 0) -> str:
     """The page's body of a file, whichever it is: lines, a sheet, or a rated archive. ValueError where it is none."""
-    start = file.read(archive.PEEKED)
-    rated = rated_archive(start)
+    start = file.read(START)
+    rated = rated_archive(start, skip)
     if rated:
         if moles:
             raise ValueError('this is a rated archive: whether it was in moles was said to `saugrinte batch`')
         return archive_body(rated, start, file, time_column=time_column, plate=plate, title=title)
-    data = start + file.read(lines.MOST + 1)
     try:
-        amounts, answer = answer_to(data, moles)
-    except ValueError:
-        if gas.is_text(start) and is_table(start):
-            raise ValueError(NOT_RATED) from None
-        raise
+        amounts, answer = answer_to(start + file.read(lines.MOST + 1), moles)
+    except ValueError as wrong:
+        raise ValueError(told_of_table(start, skip) or str(wrong)) from None
     if time_column is not None:
         raise ValueError('a gas has no column of times: these are for rated archives')
+    if skip:
+        raise ValueError('a gas has no titles, and no lines before them: these are for rated archives')
     return gas_body(amounts, answer, moles=moles, title=title, plate=plate)
+
+
+def plate_given(context: click.Context, parameter: click.Parameter, text: Optional[str]) -> Optional[int]:
+    try:
+        return None if text is None else plate_of(text)
+    except ValueError as wrong:
+        raise click.BadParameter(str(wrong)) from None
 
 
 @click.command('report', short_help='A page with pictures of a gas or of a rated archive.')
 @click.argument('file', type=click.Path(exists=True, dir_okay=False, allow_dash=True))
 @click.option('-o', '--output', required=True, metavar='REPORT.html', help='Where the page goes; - is standard output.')
-@click.option('--plate', type=click.IntRange(0, 999), metavar='N',
-              help='An engine\u2019s plate number, to hold the numbers against.')
+@click.option('--plate', callback=plate_given, metavar='N',
+              help='An engine\u2019s plate number, 0 to %d, to hold the numbers against.' % GREATEST_PLATE)
 @click.option('--moles', is_flag=True, help='The lines are mole percent.')
 @click.option('--time', 'time_column', metavar='COLUMN', help='The column of a rated archive that has times.')
+@click.option('--skip', type=click.IntRange(0), default=0, metavar='N',
+              help='Lines before the titles of a rated archive.')
 @click.option('--title', metavar='TEXT', help='The page\u2019s title; the file\u2019s name where none is given.')
-def command(file: str, output: str, plate: Optional[int], moles: bool, time_column: Optional[str],
+def command(file: str, output: str, plate: Optional[int], moles: bool, time_column: Optional[str], skip: int,
             title: Optional[str]) -> None:
     """Write a report of FILE: one page of HTML with pictures and tables that needs nothing besides itself.
 
@@ -537,7 +588,7 @@ def command(file: str, output: str, plate: Optional[int], moles: bool, time_colu
         if output != '-' and (os.path.isfile(output) or not os.path.exists(output)):
             output = batch.output_of(output, file)
         with click.open_file(file, 'rb') as opened:
-            body = reported(opened, moles=moles, time_column=time_column, plate=plate, title=title)
+            body = reported(opened, moles=moles, time_column=time_column, plate=plate, title=title, skip=skip)
         write(output, page(title, body))
     except batch.BatchError as wrong:
         raise click.ClickException(str(wrong)) from None

@@ -8,11 +8,12 @@ import socketserver
 import sys
 import traceback
 from email import policy
+from email.message import EmailMessage
 from email.parser import BytesParser
 from html import escape
 from http import HTTPStatus
 from http.server import BaseHTTPRequestHandler, ThreadingHTTPServer
-from typing import Mapping, NamedTuple, Optional
+from typing import Any, Callable, Mapping, NamedTuple, Optional
 from urllib.parse import parse_qs, urlsplit
 
 import click
@@ -73,12 +74,14 @@ def form(values: Mapping[str, str], wrong: Mapping[str, str] = {}) -> str:
     return FORM % {
         'wrong': said, 'volume': '' if values.get('basis') == 'mole' else ' checked',
         'mole': ' checked' if values.get('basis') == 'mole' else '',
-        'plate': field('plate', 'plate number', 'of the engine, may be left out', values, wrong),
+        'plate': field('plate', 'plate number', 'of the engine, 0 to %d; may be left out' % report.GREATEST_PLATE,
+                       values, wrong),
         'amounts': '\n'.join(amount_field(c, values, wrong) for c in gas.COMPONENTS),
         'lines': escape(values.get('lines', '')), 'lines_wrong': beside('lines', wrong),
         'lines_marked': marked('lines', wrong),
         'file_wrong': beside('file', wrong), 'file_marked': marked('file', wrong),
-        'time': field('time', 'column of times', 'of a rated archive, may be left out', values, wrong)}
+        'time': field('time', 'column of times', 'of a rated archive, may be left out', values, wrong),
+        'skip': field('skip', 'lines before the titles', 'of a rated archive, may be left out', values, wrong)}
 
 
 FORM = '''<form id="form" class="noprint" method="post" action="/rate" enctype="multipart/form-data"
@@ -105,6 +108,7 @@ accept-charset="utf-8">
 <label for="file">Lines, a sheet, or a rated archive as <code>saugrinte batch</code> writes it</label>
 <input type="file" id="file" name="file"%(file_marked)s>%(file_wrong)s
 <div class="single">%(time)s</div>
+<div class="single">%(skip)s</div>
 <button name="source" value="file">Report this file</button>
 </fieldset>
 </form>'''
@@ -142,10 +146,16 @@ def form_page(values: Mapping[str, str] = {}, wrong: Mapping[str, str] = {}) -> 
 
 def plate_in(values: Mapping[str, str]) -> Optional[int]:
     text = values.get('plate', '').strip()
-    if not text:
-        return None
-    if not re.fullmatch('[0-9]{1,3}', text):
-        raise Wrong({'plate': "'%s' is not a whole number such as 80" % shown(text)})
+    try:
+        return report.plate_of(text) if text else None
+    except ValueError as wrong:
+        raise Wrong({'plate': str(wrong)}) from None
+
+
+def skip_in(values: Mapping[str, str]) -> int:
+    text = values.get('skip', '').strip() or '0'
+    if not re.fullmatch('[0-9]{1,4}', text):
+        raise Wrong({'skip': "'%s' is not a whole number such as 2" % shown(text)})
     return int(text)
 
 
@@ -188,9 +198,10 @@ def body_of_lines(values: Mapping[str, str], moles: bool, plate: Optional[int]) 
 def body_of_file(values: Mapping[str, str], upload: Optional[Upload], moles: bool, plate: Optional[int]) -> str:
     if upload is None or not upload.name:
         raise Wrong({'file': 'no file is chosen'})
+    skip = skip_in(values)
     try:
         return report.reported(io.BytesIO(upload.data), moles=moles, time_column=values.get('time', '').strip() or None,
-                               plate=plate, title=upload.name)
+                               plate=plate, title=upload.name, skip=skip)
     except ValueError as wrong:
         raise Wrong({'file': '%s: %s' % (upload.name, wrong)}) from None
 
@@ -215,7 +226,8 @@ def form_of(kind: str, body: bytes) -> tuple[dict[str, str], Optional[Upload]]:
         return {name: values[-1] for name, values in given.items()}, None
     message = BytesParser(policy=policy.HTTP).parsebytes(
         b'Content-Type: ' + kind.encode('ascii', 'replace') + b'\r\n\r\n' + body)
-    if message.get_content_type() != 'multipart/form-data' or not message.is_multipart():
+    if message.get_content_type() != 'multipart/form-data' or not message.is_multipart() or not isinstance(
+            message, EmailMessage):
         raise ValueError('this is no form')
     values, upload = {}, None
     for part in message.iter_parts():
@@ -238,6 +250,7 @@ def readable(name: str) -> str:
 
 class Handler(BaseHTTPRequestHandler):
     """Answers GET / and POST /rate, asked of this machine by its own name."""
+    server: 'Server'
     server_version, sys_version, timeout = 'Saugrinte', '', SECONDS
 
     def do_GET(self) -> None:
@@ -256,7 +269,7 @@ class Handler(BaseHTTPRequestHandler):
 
     do_PUT = do_DELETE = do_PATCH = do_OPTIONS = do_TRACE = do_CONNECT = not_allowed
 
-    def answer_or(self, answers: Mapping[str, object], allowed: Mapping[str, str]) -> None:
+    def answer_or(self, answers: Mapping[str, Callable[[], None]], allowed: Mapping[str, str]) -> None:
         """Answers a path, or says which methods it has, or that it is not there."""
         path = urlsplit(self.path).path
         if path in answers:
@@ -272,7 +285,8 @@ class Handler(BaseHTTPRequestHandler):
         ours = ['%s:%d' % (name, self.server.server_port) for name in (ADDRESS, 'localhost')]
         if self.server.server_port == 80:
             ours += [ADDRESS, 'localhost']
-        hosts, origins = self.headers.get_all('Host', []), self.headers.get_all('Origin', [])
+        hosts: list[str] = self.headers.get_all('Host', [])
+        origins: list[str] = self.headers.get_all('Origin', [])
         if len(hosts) == 1 and hosts[0].lower() in ours and all(
                 origin.lower() in ['http://' + name for name in ours] for origin in origins):
             return True
@@ -345,12 +359,12 @@ class Server(ThreadingHTTPServer):
     def server_bind(self) -> None:
         """Without asking the network for this machine's name."""
         socketserver.TCPServer.server_bind(self)
-        self.server_name, self.server_port = self.server_address[:2]
+        self.server_name, self.server_port = self.socket.getsockname()
 
-    def handle_error(self, request: object, client: object) -> None:
+    def handle_error(self, request: Any, client_address: Any) -> None:
         """A browser that goes away is no error."""
         if not isinstance(sys.exc_info()[1], OSError):
-            super().handle_error(request, client)
+            super().handle_error(request, client_address)
 
     @property
     def address(self) -> str:

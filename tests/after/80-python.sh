@@ -13,4 +13,4 @@ work=$(mktemp -d)
 trap 'rm -rf "$work"' EXIT
 export PYTHONDONTWRITEBYTECODE=1 HYPOTHESIS_STORAGE_DIRECTORY=$work/hypothesis MPLCONFIGDIR=$work/matplotlib
 unset SAUGRINTE_LIBRARY
-PYTHONPATH=$PWD/python /usr/bin/python3 -m pytest -q -p no:cacheprovider --basetemp="$work/tests" tests/python
+PYTHONPATH=$PWD/python timeout 600 /usr/bin/python3 -m pytest -q -p no:cacheprovider --basetemp="$work/tests" tests/python

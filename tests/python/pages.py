@@ -5,6 +5,7 @@ from html.parser import HTMLParser
 from xml.etree import ElementTree
 
 VOID = {'meta', 'input', 'br', 'img', 'link', 'hr'}
+SVG = '{http://www.w3.org/2000/svg}'
 
 
 class Page(HTMLParser):
@@ -48,6 +49,25 @@ class Page(HTMLParser):
     @property
     def alts(self):
         return [picture.attrib['aria-label'] for picture in self.pictures]
+
+    def part(self, name):
+        """The part of a picture that has this id, or nothing."""
+        return next((one for picture in self.pictures for one in picture.iter(SVG + 'g') if one.get('id') == name), ())
+
+    def marks(self, name):
+        """The places of the marks that are drawn of a part, x to the right and y down."""
+        return [(float(mark.get('x')), float(mark.get('y'))) for one in self.part(name)
+                for mark in one.iter(SVG + 'use')]
+
+    def points(self, name):
+        """The points of the lines that are drawn of a part."""
+        paths = [path.get('d') for path in self.part(name) if path.tag == SVG + 'path']
+        return [(float(x), float(y)) for path in paths for x, y in re.findall(r'(-?[0-9.]+) (-?[0-9.]+)', path)]
+
+    def ends(self, name):
+        """How far a part's lines go to the left and to the right; None where none are drawn."""
+        across = [x for x, _ in self.points(name)]
+        return (min(across), max(across)) if across else None
 
     def table(self, caption):
         """The rows of a table, with their cells' texts."""

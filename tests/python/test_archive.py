@@ -51,7 +51,9 @@ def test_more_titles_of_hexanes(title):
 
 
 @pytest.mark.parametrize('title', ['GC1.CH4', 'ST01 C2', 'n-C4 wt%', 'N2+O2', 'C6s [mol%]', 'neo-Pentan mol%', 'C1 raw',
-                                   'Methan [Mol-%]', 'Ethan %', 'iso butane raw'])
+                                   'Methan [Mol-%]', 'Ethan %', 'iso butane raw', 'Total C6+ [mol%]', 'C6+ sum mol%',
+                                   'Sum C6+', 'normalised N2 [mol%]', 'i-Pentan', 'Hexan+', 'Butan', '2,2-DMP',
+                                   'Heavies', 'Stickstoff'])
 def test_a_title_that_looks_like_a_component_is_never_carried_in_silence(title):
     with pytest.raises(ArchiveError) as wrong:
         layout('CH4', title)
@@ -61,7 +63,7 @@ def test_a_title_that_looks_like_a_component_is_never_carried_in_silence(title):
 
 @pytest.mark.parametrize('title', ['methane number', 'Methanzahl', 'Total [%]', 'Sum mol%', 'Wobbe index', 'station',
                                    'density [kg/m3]', 'calorific value', 'unnormalised %', 'Time', 'remark', 'operator',
-                                   'hexagon'])
+                                   'hexagon', 'MN', 'first number', 'temperature', 'Total', 'raw sum [%]'])
 def test_titles_that_are_carried(title):
     assert layout('CH4', title).carried == (1,)
 
@@ -230,6 +232,16 @@ def test_separators_and_decimal_signs(tmp_path, content, separator, comma):
     path.write_bytes(content)
     how = archive.open_archive(str(path), Options(unit='percent', basis=None if b'mol' in content else 'volume')).layout
     assert (how.separator, how.comma) == (separator, comma)
+
+
+def test_figures_beside_normalised_amounts_are_declared(tmp_path):
+    path = tmp_path / 'a.csv'
+    path.write_text('date;C1 [vol%];C2 [vol%];x\n2024-01-01;97;2;0,5\n')
+    assert archive.open_archive(str(path), Options()).layout.carried == (0, 3)
+    with pytest.raises(ArchiveError) as wrong:
+        archive.open_archive(str(path), Options(normalise=True))
+    assert "column 'x'" in str(wrong.value)
+    assert archive.open_archive(str(path), Options(normalise=True, columns=(('x', '-'),))).layout.carried == (0, 3)
 
 
 def test_table_a1_in_every_form(tmp_path):

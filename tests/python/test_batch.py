@@ -305,10 +305,13 @@ def test_what_was_written_is_whole_after_a_kill(big, tmp_path, signalled):
         assert part.endswith(b'\n') and part in rows
     status, _, said = command('batch', source, '-o', output)
     assert status == 1 and '--resume' in said
-    kept = {name: os.stat(os.path.join(output + '.parts', name)).st_mtime_ns for name in done}
+    first = os.path.join(output + '.parts', done[0])
+    part = whole_of(first)
+    with open(first, 'wb') as file:                 # it shows whether the chunk is taken as it lies there
+        file.write(b'MARK' + part[4:])
     status, _, said = command('batch', source, '-o', output, '--resume')
-    assert status == 0 and '60000 rows, 60000 rated' in said and kept
-    assert whole_of(output) == whole_of(right) and os.listdir(tmp_path) == ['r.csv']
+    assert status == 0 and '60000 rows, 60000 rated' in said and os.listdir(tmp_path) == ['r.csv']
+    assert whole_of(output) == whole_of(right).replace(part, b'MARK' + part[4:], 1)
 
 
 def test_the_workers_end_with_a_killed_run(big, tmp_path):
@@ -325,32 +328,42 @@ def test_a_killed_worker_stops_the_run(big, tmp_path):
     """It never waits for ever; what was done is kept, and the run is gone on with."""
     source, right = big
     output = str(tmp_path / 'r.csv')
-    for _ in range(3):
+    for done in range(1, 4):
         run = begun(source, output, '--processes', '2', '--resume')
-        until(lambda: parts_done(output) >= 1)
-        workers = [int(pid) for pid in members(run.pid) if int(pid) != run.pid]
-        if not workers:
-            break
-        os.kill(workers[0], signal.SIGKILL)
-        assert run.wait(20) in (0, 1)
-        said = run.stderr.read()
+        until(lambda: parts_done(output) >= done and len(members(run.pid)) == 3 or run.poll() is not None)
+        os.kill(max(int(pid) for pid in members(run.pid)), signal.SIGKILL)
+        assert run.wait(20) == 1 and b'a process that rates was stopped' in run.stderr.read()
         run.stderr.close()
-        assert run.returncode == 0 or b'a process that rates was stopped' in said
     assert command('batch', source, '-o', output, '--resume')[0] == 0
     assert whole_of(output) == whole_of(right)
 
 
-def test_two_runs_at_once(big, tmp_path):
-    source, right = big
-    output = str(tmp_path / 'r.csv')
-    run = begun(source, output, '--processes', '1')
-    until(lambda: parts_done(output) >= 1)
-    for option in ('--resume', '--force'):
+def test_one_run_at_a_time(tmp_path):
+    """A run that finds the folder taken leaves everything as it is, also where nothing but the lock is there yet."""
+    source, output = tmp_path / 'a.csv', tmp_path / 'r.csv'
+    table(source, [TABLE_A1] * 3)
+    parts = batch.Parts(str(output), open_archive(str(source), Options()))
+    os.mkdir(parts.folder)
+    parts.take()
+    for option in ('--resume', '--force', '--processes=1'):
         status, _, said = command('batch', source, '-o', output, option)
-        assert status == 1 and 'a run is going on' in said
-    assert run.wait(60) == 0
-    run.stderr.close()
-    assert whole_of(output) == whole_of(right)
+        assert status == 1 and 'a run is going on' in said and os.listdir(parts.folder) == ['lock']
+    parts.leave()
+    assert sorted(os.listdir(tmp_path)) == ['a.csv'] and command('batch', source, '-o', output)[0] == 0
+
+
+def test_a_run_as_the_first_process_of_a_container(tmp_path):
+    if subprocess.run(['unshare', '--pid', '--fork', 'true'], stderr=subprocess.DEVNULL).returncode:
+        pytest.skip('unshare is not allowed here')
+    table(tmp_path / 'a.csv', [TABLE_A1] * 3)
+    run = subprocess.run(['unshare', '--pid', '--fork', sys.executable, '-m', 'saugrinte', 'batch', tmp_path / 'a.csv',
+                          '-o', tmp_path / 'r.csv'], env=ENVIRONMENT, capture_output=True, text=True)
+    assert run.returncode == 0 and '3 rows, 3 rated' in run.stderr
+
+
+def test_defects_do_not_pass_for_bad_rows(big):
+    """No row of a good archive is unreadable, whatever goes wrong within."""
+    assert b'unreadable' not in whole_of(big[1])
 
 
 def members(group):
@@ -386,9 +399,10 @@ def test_another_archive_is_not_gone_on_with(big, tmp_path):
 
 def test_memory_does_not_grow_with_the_archive(tmp_path):
     """The most memory of a process that rates, over ten times as many rows."""
-    code = ('import sys, resource; from saugrinte.archive import *; from saugrinte.batch import *;'
+    code = ('import re, sys, resource; from saugrinte.archive import *; from saugrinte.batch import *;'
             'rate_archive(open_archive(sys.argv[1], Options()), sys.argv[2], processes=2);'
-            'print(*(resource.getrusage(who).ru_maxrss for who in (resource.RUSAGE_SELF, resource.RUSAGE_CHILDREN)))')
+            'print(resource.getrusage(resource.RUSAGE_CHILDREN).ru_maxrss, *re.findall("VmHWM:\\\\s*([0-9]+)",'
+            'open("/proc/self/status").read()))')
     most = []
     for rows in (30000, 300000):
         source = str(tmp_path / ('%d.csv' % rows))

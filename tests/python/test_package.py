@@ -92,7 +92,6 @@ def test_refusals_tell_what_is_at_fault():
     assert refused(saugrinte.partial_number, 9, [1, 0, 0]).number == 13
     assert refused(saugrinte.partial_number, 4, [0, 0, 0]).number == 12
     assert refused(saugrinte.partial_number, 20, [0, 1, 0]).number == 17
-    assert refused(saugrinte.partial_number, -1, [0, 1, 0]).number == 13
     wrong = refused(saugrinte.rate_sheet, bytes.fromhex('01090000006400'))
     assert (wrong.number, wrong.word, wrong.place) == (3, 'retired', 0)
     assert refused(saugrinte.read_sheet, b'').number == 1
@@ -156,7 +155,7 @@ def test_partial_numbers():
     assert by_place == saugrinte.partial_number(8, {'butane': 4, 'C1': 90, 'ethane': '6'})
     assert saugrinte.partial_number(14, {'CO': 60, 'H2': 40}) == saugrinte.partial_number(14, [60, 40])
     for system, wrong in ((4, '100'), (4, {'methane': 90, 'CH4': 5}), (4, {'nitrogen': 5}), (4, [1, 2, 3, 4]),
-                          ('4', [1]), (4.0, [1]), (None, [1]), (4, None)):
+                          ('4', [1]), (4.0, [1]), (None, [1]), (-1, [1]), (2 ** 32, [1]), (4, None)):
         with pytest.raises(saugrinte.AmountError):
             saugrinte.partial_number(system, wrong)
 
@@ -213,7 +212,9 @@ def test_tables_are_the_headers():
     codes = dict(re.findall(r'SAUGRINTE_([A-Z0-9_]+) = (\d+),? +/\* \d+\.\.\d+ parts', header))
     assert sorted(map(int, codes.values())) == sorted(library.ranges().amounts) == sorted(gas.BY_CODE)
     sizes = dict(re.findall(r'#define SAUGRINTE_([A-Z]+) (\d+)', header))
-    assert (library.CODES, library.RECORDS) == (int(sizes['CODES']), int(sizes['RECORDS']))
+    assert (library.CODES, library.RECORDS, library.LONGEST) == tuple(
+        int(sizes[name]) for name in ('CODES', 'RECORDS', 'SHEET'))
+    assert (gas.PLACES, gas.LONGEST, library.ALLOWANCE) == (library.CODES, library.LONGEST, int(sizes['ROUNDS']))
     assert library.version() == library.dotted(int(sizes['VERSION']))
 
 

@@ -14,7 +14,8 @@ from hypothesis import given, settings, strategies as st
 from pages import Page
 
 import saugrinte
-from saugrinte import amounts, archive, batch, gas, library, pictures, report
+from saugrinte import amounts, archive, batch, gas, library, lines, pictures, report
+from saugrinte.command import answer_to as rated_by_command
 from saugrinte.ratings import Rating, Refused, rate_parts
 
 TABLE = amounts.by_name(TABLE_A1)
@@ -79,13 +80,32 @@ def test_effects_where_the_library_refuses():
 
 @pytest.mark.parametrize('units, plate, said', [
     (910787384, 80, 'ample by 11.0787'), (910787384, 92, 'short by 0.9213'),
-    (800000000, 80, 'the plate\u2019s number exactly'),
+    (800000000, 80, 'ample by 0.0000'),
     (796000000, 80, 'short by 0.4000 (the whole number 80 meets the plate)'), (800000001, 80, 'ample by 0.0000001'),
     (-10000000, 0, 'short by 1.0000'), (794999999, 80, 'short by 0.5000')])
 def test_verdicts(units, plate, said):
     rating = Rating(units, 0, 0, ())
-    assert pictures.verdict(rating, plate) == said
-    assert said in Page(pictures.number_picture(rating, plate)).alts[0]
+    page = Page(pictures.number_picture(rating, plate))
+    assert pictures.verdict(rating, plate) == said and said in page.alts[0]
+    (line, same), (mark, _) = page.ends('number-plate'), *page.marks('number-mark')
+    assert line == same and (mark < line) == (units < plate * 10 ** 7 - 10)
+    assert not Page(pictures.number_picture(rating)).part('number-plate')
+
+
+def test_pictures_have_what_their_words_say():
+    rating, found = saugrinte.rate(TABLE), pictures.effects(TABLE_A1)
+    page = Page(report.gas_page(TABLE, rating, plate=80))
+    marks = {s.units: page.marks('partial-system-%d' % s.system) for s in rating.systems}
+    assert all(len(mark) == 1 for mark in marks.values())
+    left, right = page.ends('partial-limit')
+    for units, [(x, _)] in marks.items():
+        assert x == pytest.approx(left + (units - min(marks)) / gas.SPREAD_LIMIT * (right - left), abs=0.01)
+    bars = {effect.component: page.ends('effects-' + effect.component) for effect in found}
+    scale = (bars['hexanes+'][1] - bars['hexanes+'][0]) / next(-e.units for e in found if e.component == 'hexanes+')
+    for effect in found:
+        left, right = bars[effect.component]
+        assert right - left == pytest.approx(abs(effect.units) * scale, abs=0.01)
+        assert (left if effect.units > 0 else right) == pytest.approx(bars['hexanes+'][1], abs=0.01)
 
 
 def test_moles():
@@ -96,6 +116,14 @@ def test_moles():
     assert 'hydrogen (absent) refused 18' in page.alts[3] and 'Refused, hydrogen: 18' in page.text
 
 
+@pytest.mark.parametrize('name, moles', [('table-a1.txt', False), ('moles.txt', True)])
+def test_lines_are_read_once(monkeypatch, name, moles):
+    calls, read = [], lines.read
+    monkeypatch.setattr(lines, 'read', lambda *given, **how: calls.append(given) or read(*given, **how))
+    assert report.answer_to(example(name), moles)[1] == rated_by_command(example(name), moles)
+    assert len(calls) == 2
+
+
 @pytest.mark.parametrize('name, number', [('hydrogen.txt', '75.6142'), ('biomethane.txt', '100.5097')])
 def test_other_examples(name, number):
     assert number in page_of(example(name)).text
@@ -103,11 +131,11 @@ def test_other_examples(name, number):
 
 def test_a_proposed_split():
     rating = saugrinte.rate(TABLE)
-    lines = example('table-a1.txt').decode() + ''.join(
+    text = example('table-a1.txt').decode() + ''.join(
         'split %d %s %s\n' % (r.system, r.component, r.percent) for r in rating.split)
-    page = page_of(lines.encode())
+    page = page_of(text.encode())
     assert '91.0787' in page.text and 'rounds of the search 0' in page.text
-    moved = lines.replace('split 4 methane 31.0026', 'split 4 methane 31.0036').replace(
+    moved = text.replace('split 4 methane 31.0026', 'split 4 methane 31.0036').replace(
         'split 8 methane 46.7721', 'split 8 methane 46.7711')
     assert 'Changes are from the number that the search finds, 91.0787.' in page_of(moved.encode()).text
 
@@ -126,6 +154,22 @@ def test_refusals(data, moles, said):
     for text in said:
         assert text in page.text
     assert not page.pictures and 'no methane number' in page.text
+
+
+@pytest.mark.parametrize('moles, said', [
+    (False, 'pentanes, hexanes+ or hydrogen must be there too'), (True, 'pentanes or hexanes+ must be there too')])
+def test_a_refusal_says_one_thing(moles, said):
+    text = page_of(b'methane 99\nnitrogen 1\n', moles).text
+    assert text.count(said) == 2 and ('hydrogen' in text) != moles
+    row = '\nx;;;;;16;too few;methane stands alone%s' % (gas.MADE if moles else '')
+    assert archive_page(TITLES + row).table('Refused rows')[1][3].endswith(said)
+
+
+def test_a_proposed_split_of_moles():
+    rating = saugrinte.rate_moles(report.answer_to(example('moles.txt'), True)[0])
+    text = example('moles.txt').decode() + ''.join(
+        '\nsplit %d %s %s' % (r.system, r.component, r.percent) for r in rating.split)
+    assert 'rounds of the search 0' in page_of(text.encode(), moles=True).text
 
 
 def test_what_others_wrote_is_escaped():
@@ -204,6 +248,65 @@ def test_an_archive_that_batch_rated(tmp_path):
     assert page.table('Methane numbers')[1] == [str(min(numbers)), str(mean), str(max(numbers))]
     assert 'over time: 2 rows rated' in page.alts[0] and '2 refused, 2 unreadable' in page.alts[0]
     assert Page(report.archive_page(out)).alts[0].startswith('Methane number by row')
+
+
+def test_lines_before_titles_and_titles_of_two_lines(tmp_path):
+    raw, out, html = tmp_path / 'a.csv', tmp_path / 'rated.csv', tmp_path / 'a.html'
+    for name, separator in archive.SEPARATORS.items():
+        rows = [('Station: "A',), ('',), ('"gas\r\ntime"', '"CH4\r\n[vol%]"', 'C2H6 [vol%]', 'a;b\tc,d'),
+                ('2024-01-01', '95', '5', 'x'), ('2024-01-02', '80', '20', 'y')]
+        rows = [[cell.replace(separator, '') for cell in row] for row in rows]
+        raw.write_bytes(b''.join(separator.join(row).encode() + b'\r\n' for row in rows))
+        assert command('batch', raw, '-o', out, '--skip', '1', '--force', '--separator', name)[0] == 0
+        assert run(out, '-o', html, '--skip', '1', '--time', 'gas time') == (0, '')
+        page = Page(html.read_text(encoding='utf-8'))
+        assert [row[1] for row in page.table('Rows')[1:]] == ['2', '1', '1', '0']
+        assert Page(report.archive_page(out, skip=1)).table('Rows') == page.table('Rows')
+        for skip in (0, 3):
+            status, said = run(out, '-o', html, '--skip', skip)
+            assert status == 1 and 'stand after 1 line (--skip 1)' in said
+        with pytest.raises(ValueError, match='stand after 1 line'):
+            report.archive_page(out)
+
+
+def test_titles_as_long_as_batch_takes_them(tmp_path):
+    raw, out = tmp_path / 'a.csv', tmp_path / 'rated.csv'
+    titles = b'%s;CH4 [vol%%];C2H6 [vol%%]' % (b'x' * (archive.PEEKED - 30))
+    raw.write_bytes(titles + b'\nx;95;5\n')
+    assert command('batch', raw, '-o', out)[0] == 0
+    assert 'by row: 1 row rated' in Page(report.archive_page(out)).alts[0]
+
+
+def test_a_row_that_cannot_be_told_apart_is_unreadable():
+    rows = list(rated_rows(30))
+    bad = '"%s";;;;;;unreadable;x' % ('long ' * 40000)
+    rows = [TITLES, *rows[:15], bad, *rows[15:], 'x\0\1"y;;;;;;unreadable;']
+    page = archive_page('\n'.join(rows), time_column='time')
+    assert [row[1] for row in page.table('Rows')[1:]] == ['32', '27', '2', '3']
+    assert '2 rows have no time' in page.text and page.table('Unreadable rows')[1:] == [['unreadable', '3']]
+
+
+@given(gases(hydrogen=True))
+def test_no_sheet_is_an_archive(analysis):
+    for sheet in (lines.sheet({code: parts for code, parts in enumerate(analysis) if parts}, []),
+                  lines.sheet({1: 996638, 2: 3362}, [])):
+        assert not report.rated_archive(sheet) and not report.is_table(sheet)
+        assert not report.rated_archive(sheet + TITLES.encode()) and not report.is_table(b'\0;' + TITLES.encode())
+
+
+def test_marks_of_rows():
+    rows = [TITLES, *rated_rows(100)]
+    page = archive_page('\n'.join(rows), time_column='time', plate=80)
+    numbers = page.marks('archive-numbers')
+    assert len(numbers) == 90 and len(page.marks('archive-refused')) == len(page.marks('archive-unreadable')) == 5
+    (_, level), (_, same) = page.points('archive-plate')
+    below = [x for x, y in numbers if y > level + 0.01]
+    assert level == same and [x for x, _ in page.marks('archive-below')] == pytest.approx(sorted(below), abs=0.01)
+    assert [x for x, _ in page.marks('archive-refused')] == sorted(x for x, _ in page.marks('archive-refused'))
+    bare = archive_page('\n'.join([TITLES, *rows[1:10]]))
+    assert not any(bare.part('archive-' + name) for name in ('plate', 'below', 'refused', 'unreadable'))
+    many = archive_page('\n'.join([TITLES, *rated_rows(2000)]), plate=80)
+    assert many.part('archive-band') and many.points('archive-mean') and many.points('archive-plate')
 
 
 def test_few_rows_and_many():
@@ -299,6 +402,10 @@ def test_the_command(tmp_path):
     with open(EXAMPLE, 'rb') as file:
         status, page, _ = command('report', '-', '-o', '-', stdin=file)
     assert status == 0 and '<h1>standard input</h1>' in Page(page).html
+    sheet = saugrinte.write_sheet({'methane': '99.6638', 'ethane': '0.3362'})
+    (tmp_path / 'sheet').write_bytes(sheet)
+    assert b'\r"' in sheet and run(tmp_path / 'sheet', '-o', out, '--plate', '150') == (0, '')
+    assert '97.5251' in Page(out.read_text(encoding='utf-8')).text
 
 
 @pytest.mark.parametrize('text, options, said', [
@@ -309,7 +416,9 @@ def test_the_command(tmp_path):
     (TITLES + '\n', ['--moles'], 'this is a rated archive'),
     (TITLES + '\nx;80;80;0;1;;;\n', ['--time', 'Zeit'], "there is no column 'Zeit'"),
     ('methane 97 vol %\nethane 3\n', ['--moles'], 'amounts are mole percent here'),
-    ('methane 97\nethane 3\n', ['--plate', '80.5'], 'is not a valid integer')])
+    ('methane 97\nethane 3\n', ['--skip', '1'], 'a gas has no titles'),
+    *(('methane 97\nethane 3\n', ['--plate', plate], "'%s' is not a whole number from 0 to 150" % plate)
+      for plate in ('80.5', '151', '-1', '', '1000', 'x'))])
 def test_what_the_command_turns_away(tmp_path, text, options, said):
     given_file, out = tmp_path / 'file', tmp_path / 'report.html'
     given_file.write_text(text)

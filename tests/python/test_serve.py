@@ -1,5 +1,7 @@
 """The server: what it answers, what it refuses, and the form in a real browser (Chromium, without a window)."""
+import base64
 import http.client
+import io
 import os
 import random
 import re
@@ -90,11 +92,14 @@ def test_moles_and_files(server):
         moles = file.read()
     status, page = post(server, {'source': 'file', 'basis': 'mole'}, ('m\u00e9l.txt', moles))
     assert status == 200 and '91.0833230' in page.text and '<h1>m\u00e9l.txt</h1>' in page.html
-    status, page = post(server, {'source': 'file'}, ('sheet', saugrinte.write_sheet(amounts.by_name(TABLE_A1))))
-    assert status == 200 and '91.0787384' in page.text
+    for analysis, number in ((TABLE, '91.0787384'), ({'methane': '99.6638', 'ethane': '0.3362'}, '97.5251')):
+        status, page = post(server, {'source': 'file'}, ('sheet', saugrinte.write_sheet(analysis)))
+        assert status == 200 and number in page.text
     rated = (TITLES + '\n' + '\n'.join(rated_rows(50))).encode()
     status, page = post(server, {'source': 'file', 'time': 'time', 'plate': '80'}, ('x/r.csv', rated))
     assert status == 200 and '45 of 50 rows rated' in page.text and '<h1>r.csv</h1>' in page.html
+    status, page = post(server, {'source': 'file', 'skip': '2'}, ('r.csv', b'Station A\n\n' + rated))
+    assert status == 200 and '45 of 50 rows rated' in page.text
 
 
 def test_refusals(server):
@@ -110,13 +115,16 @@ def test_refusals(server):
     ({'source': 'fields', 'methane': '-1'}, None, 'methane', 'is below 0'),
     ({'source': 'fields'}, None, 'methane', 'no amount is given'),
     ({'plate': ''}, None, 'methane', 'no amount is given'),
-    ({'source': 'fields', **TABLE, 'plate': '80.5'}, None, 'plate', 'is not a whole number'),
+    *(({'source': 'fields', **TABLE, 'plate': plate}, None, 'plate', 'is not a whole number from 0 to 150')
+      for plate in ('80.5', '151', '-1')),
     ({'source': 'lines', 'lines': ' \n'}, None, 'lines', 'there are no lines'),
     ({'source': 'lines', 'lines': 'methane 97\n%s 3' % EVIL}, None, 'lines', 'line 2:'),
     ({'source': 'lines', 'lines': '\1\1'}, None, 'lines', 'byte 01, which is no text'),
     ({'source': 'file'}, None, 'file', 'no file is chosen'),
     ({'source': 'file'}, ('', b''), 'file', 'no file is chosen'),
     ({'source': 'file'}, ('a.csv', b'time;CH4;C2H6\n1;2;3\n'), 'file', 'run `saugrinte batch`'),
+    ({'source': 'file', 'skip': '-1'}, ('r.csv', TITLES.encode()), 'skip', "'-1' is not a whole number"),
+    ({'source': 'file'}, ('r.csv', b'Station\n' + TITLES.encode()), 'file', 'stand after 1 line'),
     ({'source': 'file', 'time': EVIL}, ('r.csv', TITLES.encode()), 'file', 'there is no column')])
 def test_what_cannot_be_read_is_said_beside_it(server, values, file, field, said):
     status, page = post(server, values, file)
@@ -299,3 +307,16 @@ def test_pages_in_a_file_fit_a_narrow_screen(browser, tmp_path):
         (tmp_path / ('%d.html' % place)).write_text(html, encoding='utf-8')
         browser.get((tmp_path / ('%d.html' % place)).as_uri())
         assert fits(browser)
+
+
+@pytest.mark.parametrize('name, most', [('gas', 4), ('refused', 1), ('archive', 2)])
+def test_pages_print_on_few_sheets_of_paper(browser, tmp_path, name, most):
+    rated = (TITLES + '\n' + '\n'.join(rated_rows(100))).encode()
+    pages = {'gas': lambda: report.gas_page(amounts.by_name(TABLE_A1), saugrinte.rate(TABLE), plate=95),
+             'refused': lambda: report.gas_page({'methane': '80'}, saugrinte.Refused(6, 'the total'), plate=95),
+             'archive': lambda: report.archive_page(io.BytesIO(rated), plate=80)}
+    (tmp_path / 'page.html').write_text(pages[name](), encoding='utf-8')
+    browser.get((tmp_path / 'page.html').as_uri())
+    printed = browser.execute_cdp_cmd('Page.printToPDF', {'paperWidth': 8.27, 'paperHeight': 11.69})
+    pdf = base64.b64decode(printed['data'])
+    assert pdf.startswith(b'%PDF') and 1 <= len(re.findall(rb'/Type\s*/Page\b', pdf)) <= most
