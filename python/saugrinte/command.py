@@ -10,7 +10,7 @@ import click
 from . import gas, library, lines
 from .amounts import UNITS, in_unit
 from .archive import BASES, SEPARATORS, Archive, ArchiveError, Options, open_archive
-from .ratings import Rating, Refused, rate_parts, rate_sheet, rate_split_parts, named
+from .ratings import Rating, Refused, rate_mole_sheet, rate_sheet
 from .words import methane_number
 
 UNREAD, WRONG, STOPPED = 1, 2, 130      # statuses: a file could not be read, a wrong command, an interrupt
@@ -50,9 +50,7 @@ def content(name: str) -> bytes:
 def answer_to(data: bytes, moles: bool) -> Rating:
     """The rating of a file's bytes, lines or a sheet."""
     if moles:
-        _, sheet = lines.of_mole_lines(data)
-        amounts, split = lines.amounts_in(sheet), gas.proposed(sheet)
-        return rate_split_parts(amounts, named(split), moles=True) if split else rate_parts(amounts, moles=True)
+        return rate_mole_sheet(lines.of_mole_lines(data)[1])
     return rate_sheet(lines.of_lines(data) if gas.is_text(data) else data)
 
 

@@ -294,6 +294,12 @@ def rate_sheet(sheet: bytes) -> Rating:
     return Rating(figures[0], figures[1], figures[2], named(split or library.read(sheet)[3]))
 
 
+def rate_mole_sheet(sheet: bytes) -> Rating:
+    """Rates a mole analysis from bytes laid out as a sheet is, which lines.of_mole_lines gives besides."""
+    amounts, split = lines.amounts_in(sheet), named(gas.proposed(sheet))
+    return rate_split_parts(amounts, split, moles=True) if split else rate_parts(amounts, moles=True)
+
+
 def read_sheet(sheet: bytes) -> Sheet:
     """Reads a sheet; refused 1 to 6."""
     number, place, amounts, split = library.read(sheet)

@@ -267,15 +267,9 @@ def answer_to(data: bytes, moles: bool) -> tuple[dict[str, Decimal], Answer]:
         sheet = lines.of_lines(data) if gas.is_text(data) else data
     parts = [] if gas.torn(sheet) or gas.miscoded(sheet) else lines.amounts_in(sheet)
     try:
-        return by_name(parts), rating_of_moles(parts, sheet) if moles else ratings.rate_sheet(sheet)
+        return by_name(parts), ratings.rate_mole_sheet(sheet) if moles else ratings.rate_sheet(sheet)
     except Refused as refused:
         return by_name(parts), refused
-
-
-def rating_of_moles(parts: Sequence[int], sheet: bytes) -> Rating:
-    """The rating of mole amounts, with the split of their sheet where it has one."""
-    split = ratings.named(gas.proposed(sheet))
-    return ratings.rate_split_parts(parts, split, moles=True) if split else ratings.rate_parts(parts, moles=True)
 
 
 def plate_of(text: str) -> int:

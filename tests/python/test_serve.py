@@ -254,12 +254,13 @@ def fill(browser, values):
 
 
 def submit(browser, source):
-    """Clicks a button and waits for the next page; its first line of note."""
-    from selenium.webdriver.support.expected_conditions import staleness_of
+    """Clicks a button and waits for the next page; its first line of note. While pages change, the driver may fail."""
+    from selenium.common.exceptions import WebDriverException
     from selenium.webdriver.support.wait import WebDriverWait
-    before = browser.find_element('tag name', 'html')
+    browser.execute_script('window.before = true')
     browser.find_element('css selector', 'button[value=%s]' % source).click()
-    WebDriverWait(browser, 20).until(staleness_of(before))
+    WebDriverWait(browser, 20, ignored_exceptions=[WebDriverException]).until(lambda other: other.execute_script(
+        'return !window.before && document.readyState === "complete"'))
     return browser.find_element('css selector', '.number, .verdict, .error').text
 
 
