@@ -60,6 +60,7 @@ class Options:
     normalise: bool = False                 # scale the amounts to 100 %
     rounded: bool = False                   # round amounts to parts
     skip: int = 0                           # lines before the titles
+    known: tuple[str, ...] = ()             # titles of other columns that the caller names
 
 
 class Column(NamedTuple):
@@ -460,7 +461,7 @@ def peek(path: str) -> tuple[bytes, int]:
 def all_declared(rows: str, layout: Layout, options: Options) -> None:
     """Where amounts are scaled to 100 %, a component that is not counted would not show in the total: so a column of
     figures that is carried along must be declared."""
-    declared = {title for title, _ in options.columns}
+    declared = {*options.known, *(title for title, _ in options.columns)}
     read = (split_cells(raw, layout.separator) for _, raw in records(rows, layout.separator))
     cells: list[str] = next((row for row in read if len(row) == len(layout.titles)), [])
     for place in layout.carried if cells else ():

@@ -347,7 +347,7 @@ def command(archive: str, first: str, allow: Decimal, worst: Optional[int], outp
     the archive's titles are wrong.
     """
     try:
-        opened = archive_of(archive, how)
+        opened = archive_of(archive, {**how, 'known': (first.strip(),)})
         plan = plan_of(opened.layout, first, allow, None if output else worst)
         output = output and output_of(output, archive)
         with progress_bar(opened, os.path.basename(archive)) as bar:

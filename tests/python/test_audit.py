@@ -1,5 +1,5 @@
 """The command audit on archives with planted first numbers: right ones are passed over, mistakes are named, rows that
-are refused are told and never rated.
+are refused are told and never rated. What is planted, and which mistakes give it, is the independent program's word.
 
   PYTHONPATH=python /usr/bin/python3 -m pytest tests/python/test_audit.py
 """
@@ -14,9 +14,11 @@ import pytest
 from click.testing import CliRunner
 from hypothesis import given, settings, strategies as st
 
-from saugrinte import audit, gas, library, mistakes
+from gases import TABLE_A1
+from saugrinte import audit, gas, library
 from saugrinte.ratings import number_of, rate_parts
-from test_mistakes import KEYS, TABLE_A1, applies, gases_in, made
+from test_mistakes import (CHANGED, KEYS, applies, by_detour, found, gases_in, in_range, is_rated, made, play, ref,
+                           volumes)
 
 COMPONENTS = [c.code for c in gas.COMPONENTS]
 FEW = settings(max_examples=40, deadline=None, database=None)
@@ -67,13 +69,42 @@ def allowed(decimals, allow='0.05'):
     return Decimal(allow) + Decimal('0.5').scaleb(-decimals)
 
 
-def expected(amounts, moles, first, decimals):
-    """None where the first number agrees; else the keys of the mistakes that give it, nearest first."""
-    if abs(rate_parts(amounts, moles=moles).number - Decimal(first)) <= allowed(decimals):
-        return None
-    distances = [(abs(number_of(m.units) - Decimal(first)), place, m.mistake.key)
-                 for place, m in enumerate(mistakes.mistaken(amounts, moles))]
-    return [key for distance, _, key in sorted(distances) if distance <= allowed(decimals)]
+def units_of(number):
+    return int(Decimal(number) * ref.UNITS)
+
+
+def right(amounts, moles):
+    """The number by the independent program, in units."""
+    return found(volumes(amounts, moles)).rating
+
+
+def differs(amounts, moles, first, decimals):
+    return abs(right(amounts, moles) - units_of(first)) > units_of(allowed(decimals))
+
+
+def check_causes(row, amounts, moles, first, decimals):
+    """What is said of a row's cause, beside the independent program's number of each mistake: one that gives the first
+    number is named or said not to be tried, and no other is named."""
+    named = {m['key']: units_of(m['gives']) for m in row['mistakes']}
+    untried = {u['key'] for u in row['untried']}
+    first, allow = units_of(first), units_of(allowed(decimals))
+    gas_of = (amounts, moles)
+    open_to = {key for key in KEYS if applies(key, *gas_of)}
+    assert len(named) == len(row['mistakes']) and not set(named) & untried and set(named) | untried <= open_to
+    far = [abs(units - first) for units in named.values()]
+    assert far == sorted(far) and all(distance <= allow for distance in far)
+    for key in open_to:
+        number = made(key, *gas_of)
+        if number is None:
+            assert key in untried or not in_range(key, *gas_of), key
+        elif key in untried:
+            assert not in_range(key, *gas_of), key
+            assert not by_detour(key, *gas_of) or play(key, *gas_of) is None, key
+        elif key in named or abs(number - first) <= allow:
+            most = play(key, *gas_of)
+            if most is not None:
+                assert key not in named or abs(named[key] - number) <= most, key
+                assert key in named or abs(number - first) > allow - most, key
 
 
 DECIMALS = st.integers(0, 4)
@@ -99,26 +130,71 @@ def test_right_numbers_are_passed_over(archive):
     assert not said['rows_not_rated'] and not said['rows_without_first']
 
 
-@FEW
-@given(archives(st.tuples(DECIMALS, st.sampled_from(KEYS))))
-def test_planted_mistakes_are_named(archive):
-    """The first number is a mistake's, by the independent program; where the gas is not open to it, the right one."""
-    moles, rows, form = archive
-    plants, wanted = [], {}
-    for place, (amounts, (decimals, key)) in enumerate(rows, 1):
-        number = made(key, amounts, moles) if applies(key, amounts, moles) else None
-        first = printed(rate_parts(amounts, moles=moles).units if number is None else number, decimals)
-        plants.append((amounts, first, {}))
-        names = expected(amounts, moles, first, decimals)
-        if names is not None:
-            assert key in names
-            wanted[place] = names
+def check_planted(rows, moles, form):
+    """Audits rows of (amounts, decimals, the mistake that gave the first number, or None where the right one stands).
+    A detour's play is less than is allowed, so that what is planted is named wherever its number can be tried."""
+    plants = []
+    for amounts, decimals, key in rows:
+        units = right(amounts, moles) if key is None else made(key, amounts, moles)
+        plants.append((amounts, printed(units, decimals), {}))
+    differ = {place for place, (plant, row) in enumerate(zip(plants, rows), 1)
+              if differs(plant[0], moles, plant[1], row[1])}
     status, said = audited(csv_of(plants, moles, **form))
-    assert status == (1 if wanted else 0)
-    assert {row['row']: [m['key'] for m in row['mistakes']] for row in said['findings']} == wanted
-    assert (said['agree'], said['differ']) == (len(rows) - len(wanted), len(wanted))
+    assert status == (1 if differ else 0)
+    assert {row['row'] for row in said['findings']} == differ and len(said['findings']) == len(differ)
+    assert (said['agree'], said['differ']) == (len(rows) - len(differ), len(differ))
     sizes = [abs(Decimal(row['difference'])) for row in said['findings']]
     assert sizes == sorted(sizes, reverse=True)
+    for row in said['findings']:
+        amounts, decimals, _ = rows[row['row'] - 1]
+        check_causes(row, amounts, moles, plants[row['row'] - 1][1], decimals)
+    return said
+
+
+@settings(FEW, max_examples=60)
+@given(archives(st.tuples(DECIMALS, st.integers(0, 10 ** 6))))
+def test_planted_mistakes_are_named(archive):
+    """The first number is that of any mistake which gives one, in range or not, or the right one."""
+    moles, rows, form = archive
+    planted = []
+    for amounts, (decimals, index) in rows:
+        keys = [None, *(key for key in KEYS if applies(key, amounts, moles) and made(key, amounts, moles) is not None)]
+        planted.append((amounts, decimals, keys[index % len(keys)]))
+    check_planted(planted, moles, form)
+
+
+@st.composite
+def out_of_range(draw, moles):
+    """(amounts, a mistake that takes them out of range)."""
+    key = draw(st.sampled_from(sorted(CHANGED)))
+    codes, to = CHANGED[key]
+    amounts, code = list(draw(gases_in(moles))), draw(st.sampled_from(codes))
+    (least, greatest), (least_to, greatest_to) = ref.RANGE[code], ref.RANGE[to]
+    if to == 10:
+        amounts[code] = draw(st.integers(greatest_to, draw(st.sampled_from((2, 3, 7))) * greatest_to))
+    elif draw(st.integers(0, 3)):
+        amounts[code] = draw(st.integers(least, greatest))
+        amounts[to] = greatest_to + 1 - draw(st.integers(1, amounts[code]))
+    else:
+        amounts = [0 if c in (*codes, to) else parts for c, parts in enumerate(amounts)]
+        amounts[code] = draw(st.integers(least, least_to - 1))
+    amounts[1] = ref.PARTS - sum(amounts[2:])
+    return tuple(amounts), key
+
+
+def planted_out_of_range(moles):
+    return out_of_range(moles).filter(lambda drawn: is_rated(drawn[0], moles) and applies(drawn[1], drawn[0], moles)
+                                      and not in_range(drawn[1], drawn[0], moles)
+                                      and made(drawn[1], drawn[0], moles) is not None)
+
+
+@settings(FEW, max_examples=60)
+@given(st.booleans().flatmap(lambda moles: st.tuples(st.just(moles), st.lists(st.tuples(
+    planted_out_of_range(moles), DECIMALS), min_size=1, max_size=4))))
+def test_planted_mistakes_out_of_range(archive):
+    """Named by a detour, or said not to be tried."""
+    moles, rows = archive
+    check_planted([(amounts, decimals, key) for (amounts, key), decimals in rows], moles, {})
 
 
 @FEW
@@ -217,6 +293,20 @@ Without a first number:
   row 6 (line 7), day 6: no first number, again 91.0787
   row 7 (line 8), day 7: first number '?' is not readable, again 91.0787
 ''' % (library.version(), 'first 91,42')
+
+
+@pytest.mark.parametrize('changes, key, moles', (
+    ({}, 'nitrogen-as-hexanes', False), ({}, 'nitrogen-as-hexanes', True),
+    ({11: 7528}, 'carbon-dioxide-as-hexanes', False), ({12: 15000}, 'nitrogen-as-hexanes', False),
+    ({5: 6000, 12: 149000}, 'butanes-left-out', False), ({5: 6000, 12: 149000}, 'butanes-left-out', True),
+    ({7: 0, 10: 6000, 12: 149500}, 'pentanes-as-nitrogen', False), ({10: 40, 12: 0}, 'hexanes-as-nitrogen', False)))
+def test_named_by_a_detour(changes, key, moles):
+    """More hexanes+ than their range has room for, too much nitrogen, or too little."""
+    amounts = [changes.get(code, parts) for code, parts in enumerate(TABLE_A1)]
+    amounts[1] += 1000000 - sum(amounts)
+    assert not in_range(key, amounts, moles) and by_detour(key, amounts, moles) and play(key, amounts, moles)
+    rows = check_planted([(amounts, 2, key)], moles, {})['findings']
+    assert [key in [m['key'] for m in row['mistakes']] for row in rows] == [True]
 
 
 def test_what_could_not_be_tried_is_said():

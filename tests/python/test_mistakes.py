@@ -7,21 +7,19 @@ import importlib.util
 import os
 import sys
 from fractions import Fraction
+from functools import lru_cache
 
 import pytest
 from hypothesis import given, settings, strategies as st
 
+from gases import ROOT, TABLE_A1, gases
 from saugrinte import library, mistakes
 from saugrinte.ratings import Refused, rate_parts
 
-HERE = os.path.dirname(os.path.abspath(__file__))
-REFERENCE = os.path.join(os.path.dirname(HERE), 'reference')
-
 
 def independent():
-    """The independent program, under a name that is not the package's."""
-    file = next(path for path in (os.path.join(REFERENCE, name) for name in ('independent.py', 'saugrinte.py'))
-                if os.path.exists(path))
+    """The independent program, a module of its own."""
+    file = os.path.join(ROOT, 'tests', 'reference', 'independent.py')
     spec = importlib.util.spec_from_file_location('independent_of_mistakes', file)
     module = importlib.util.module_from_spec(spec)
     sys.modules[spec.name] = module
@@ -30,34 +28,30 @@ def independent():
 
 
 ref = independent()
-TABLE_A1 = (0, 970797, 16658, 2417, 346, 245, 11, 73, 125, 0, 84, 528, 8715, 0, 0, 0)
 EXAMPLE_3 = (0, 859910, 50360, 12000, 1909, 1727, 0, 364, 455, 0, 545, 13270, 9460, 0, 0, 50000)
 LEAN = (0, 970000, 30000, *[0] * 13)
-CODES = [code for code in ref.RANGE if code != 1]
 KEYS = [mistake.key for mistake in mistakes.MISTAKES]
 FEW = settings(max_examples=120, deadline=None, database=None)
 
 
 @st.composite
-def amounts_of_gases(draw, moles):
-    """Each component absent, little or up to its greatest amount; methane is the rest of a total in range."""
-    amounts = [0] * ref.CODES
-    for code in CODES:
-        least, greatest = ref.RANGE[code]
-        if code == 15 and (moles or draw(st.booleans())):
-            continue
-        amounts[code] = draw(st.one_of(st.just(0), st.integers(least, min(20 * least, greatest)),
-                                       st.integers(least, greatest)))
-    amounts[1] = max(draw(st.integers(ref.LEAST_TOTAL, ref.GREATEST_TOTAL)) - sum(amounts), 0)
+def gases_of_any_total(draw, moles):
+    """Rich and poor gases, not only of 1000000 parts."""
+    amounts = draw(gases(hydrogen=not moles, richest=draw(st.sampled_from((1, 6, 30)))))
+    amounts[1] += draw(st.integers(ref.LEAST_TOTAL, ref.GREATEST_TOTAL)) - ref.PARTS
     return tuple(amounts)
+
+
+def is_rated(amounts, moles):
+    return not library.search(amounts, moles=moles)[0]
 
 
 def gases_in(moles):
     """Amounts that are rated."""
-    return amounts_of_gases(moles).filter(lambda amounts: not library.search(amounts, moles=moles)[0])
+    return gases_of_any_total(moles).filter(lambda amounts: is_rated(amounts, moles))
 
 
-def gases():
+def gases_in_either():
     """(amounts, moles) that are rated."""
     return st.booleans().flatmap(lambda moles: st.tuples(gases_in(moles), st.just(moles)))
 
@@ -71,7 +65,7 @@ def moved(amounts, codes, to):
     for code in codes:
         changed[to] += changed[code]
         changed[code] = 0
-    return changed
+    return tuple(changed)
 
 
 # What the mistakes that change an analysis do to it.
@@ -94,10 +88,16 @@ def inert(amounts, nitrogen):
     return polynomial(Fraction(total, whole), Fraction(dioxide, whole)) - ref.METHANE_NUMBER
 
 
+@lru_cache(maxsize=4096)
+def found(amounts):
+    """The independent program's answer to volumes, whatever their ranges."""
+    return ref.found_rating(amounts, ref.MOST_ROUNDS)
+
+
 def mean(amounts):
     """The weighted mean at the split that is found."""
-    rating = ref.found_rating(amounts, ref.MOST_ROUNDS)
-    return ref.exact_rating(amounts, rating.split) - ref.exact_number(20, *ref.inert(amounts), 0) + ref.METHANE_NUMBER
+    return ref.exact_rating(amounts, found(amounts).split) - ref.exact_number(20, *ref.inert(amounts), 0) \
+        + ref.METHANE_NUMBER
 
 
 def folded_late(amounts):
@@ -118,17 +118,71 @@ def applies(key, amounts, moles):
             'moles-as-volumes': moles, 'volumes-as-moles': not moles}[key]
 
 
-def made(key, amounts, moles):
-    """The number of a mistake by the independent program, in units; None where it refuses the changed analysis."""
+def changed_by(key, amounts, moles):
+    """The analysis that a mistake rates, and whether it is in moles; None for a mistake in the sums."""
     if key in CHANGED:
-        answer = (ref.search_moles if moles else ref.search)(moved(amounts, *CHANGED[key]))
-    elif key in ('moles-as-volumes', 'volumes-as-moles'):
-        answer = (ref.search if moles else ref.search_moles)(amounts)
-    elif key == 'folded-after-scaling':
+        return moved(amounts, *CHANGED[key]), moles
+    return (tuple(amounts), not moles) if key in ('moles-as-volumes', 'volumes-as-moles') else None
+
+
+def in_range(key, amounts, moles):
+    changed = changed_by(key, amounts, moles)
+    return changed is None or not (ref.check_moles if changed[1] else ref.check)(changed[0])
+
+
+def made(key, amounts, moles):
+    """The number of a mistake by the independent program, in units, whatever the ranges; None where there is none."""
+    if key == 'folded-after-scaling':
         return round(folded_late(volumes(amounts, moles)))
-    else:
+    if key == 'nitrogen-in-inert':
         return round(mean(volumes(amounts, moles)) + inert(volumes(amounts, moles), True))
+    changed, in_moles = changed_by(key, amounts, moles)
+    if in_moles and changed[ref.HYDROGEN]:
+        return None
+    answer = found(volumes(changed, in_moles))
     return answer.rating if isinstance(answer, ref.Rating) else None
+
+
+def by_detour(key, amounts, moles):
+    """Whether a detour gives the number of a mistake that is out of range: hexanes+ above their range as butanes,
+    another amount of nitrogen, the rest scaled. Worked out here with exact weights, and sure where it says so."""
+    if CHANGED[key][1] == 11:
+        return False
+    changed = [Fraction(parts) for parts in moved(amounts, *CHANGED[key])]
+    for code in (5, 4):
+        weight = Fraction(53 * ref.FACTOR[10], 10 * ref.FACTOR[code]) if moles else Fraction(53, 10)
+        taken = min(max(changed[10] - ref.RANGE[10][1], 0), (ref.RANGE[code][1] - changed[code]) / weight)
+        changed[10], changed[code] = changed[10] - taken, changed[code] + taken * weight
+    rest, most = sum(changed) - changed[12], ref.RANGE[12][1]
+    if ref.LEAST_TOTAL - most <= rest <= ref.GREATEST_TOTAL:
+        return changed[10] <= ref.RANGE[10][1] and changed[4] + 20 <= ref.RANGE[4][1]
+    scale = Fraction(ref.PARTS - (most if rest < ref.PARTS - most else 0)) / rest
+    return all(ref.RANGE[code][0] - Fraction(2, 5) <= parts * scale <= ref.RANGE[code][1] - 10
+               for code, parts in enumerate(changed) if parts and code != 12)
+
+
+# A detour's mixture is some parts beside the right one, and the method's own number may jump there, now and then by
+# more than its spread and with a trace of hydrogen by whole numbers. So a detour is held to its play where there is no
+# such trace and none of these changes of an amount makes the number jump.
+PLAY, JUMP, TRACE = 400000, 200000, 1000
+BESIDE = [(code, by) for code, steps in ((1, (7, 20, 50)), (5, (1, 2, 3, 5, 10))) for step in steps
+          for by in (-step, step)]
+
+
+def play(key, amounts, moles):
+    """How far the library's number of a mistake may be from `made`, in units; None where that cannot be told."""
+    if changed_by(key, amounts, moles) is None:
+        return 5000
+    if in_range(key, amounts, moles):
+        return 0
+    right = volumes(moved(amounts, *CHANGED[key]), moles)
+    if 0 < right[ref.HYDROGEN] <= TRACE:
+        return None
+    for code, by in BESIDE:
+        answer = found(tuple(max(parts + by, 0) if c == code else parts for c, parts in enumerate(right)))
+        if not isinstance(answer, ref.Rating) or abs(answer.rating - made(key, amounts, moles)) > JUMP:
+            return None
+    return PLAY
 
 
 def numbers(amounts, moles):
@@ -136,7 +190,7 @@ def numbers(amounts, moles):
 
 
 @FEW
-@given(gases())
+@given(gases_in_either())
 def test_every_mistake_that_applies_has_a_number_or_a_reason(gas):
     tried, untried = mistakes.tried(*gas)
     keys = [t.mistake.key for t in tried] + [u.mistake.key for u in untried]
@@ -146,21 +200,32 @@ def test_every_mistake_that_applies_has_a_number_or_a_reason(gas):
 
 
 @FEW
-@given(gases())
+@given(gases_in_either())
+def test_what_is_not_tried(gas):
+    """Only what the independent program has no number for, or no detour brings into range."""
+    for key in (u.mistake.key for u in mistakes.untried(*gas)):
+        if made(key, *gas) is not None:
+            assert not in_range(key, *gas) and not (by_detour(key, *gas) and play(key, *gas)), key
+
+
+@FEW
+@given(gases_in_either())
 def test_changed_analyses(gas):
     """In range the number is that of the changed analysis; else that of an analysis with the same mixture."""
     amounts, moles = gas
     for key, units in numbers(*gas).items():
         if key not in CHANGED:
             continue
-        changed, number = moved(amounts, *CHANGED[key]), made(key, amounts, moles)
-        if number is not None:
-            assert units == number, key
+        if in_range(key, *gas):
+            assert units == made(key, *gas), key
             continue
+        changed = moved(amounts, *CHANGED[key])
         assert CHANGED[key][1] in (10, 12), 'carbon dioxide out of range is refused'
         detour = mistakes.lightened(changed, moles) if CHANGED[key][1] == 10 else mistakes.fitted(changed)
         assert units == (ref.search_moles if moles else ref.search)(detour).rating, key
         same_mixture(volumes(changed, moles), volumes(detour, moles))
+        if made(key, *gas) is not None and play(key, *gas) is not None:
+            assert abs(units - made(key, *gas)) <= PLAY, key
 
 
 def same_mixture(one, other):
@@ -170,7 +235,7 @@ def same_mixture(one, other):
 
 
 @FEW
-@given(gases())
+@given(gases_in_either())
 def test_numbers_put_together(gas):
     """Folding late and nitrogen in the inert mixture, within 0.0005 of what exact fractions give."""
     for key, units in numbers(*gas).items():
@@ -179,7 +244,7 @@ def test_numbers_put_together(gas):
 
 
 @FEW
-@given(gases())
+@given(gases_in_either())
 def test_the_other_unit(gas):
     key = 'moles-as-volumes' if gas[1] else 'volumes-as-moles'
     assert numbers(*gas).get(key) == made(key, *gas)
@@ -248,8 +313,7 @@ def test_left_out_where_nitrogen_has_no_room():
     changed = moved(amounts, (4, 5), 12)
     with pytest.raises(Refused):
         rate_parts(changed)
-    exact = ref.found_rating(changed, ref.MOST_ROUNDS).rating
-    assert abs(numbers(amounts, False)['butanes-left-out'] - exact) < 100000
+    assert abs(numbers(amounts, False)['butanes-left-out'] - found(changed).rating) < 100000
 
 
 def test_keys_and_sentences_are_told_apart():
