@@ -443,8 +443,8 @@ def numbers(axes: Axes, history: History, plate: Optional[int], scale: float) ->
         axes.text(0.5, 0.5, 'no row is rated', transform=axes.transAxes, ha='center')
     if plate is not None:
         axes.axhline(plate, color=INK, linestyle='--', linewidth=1.4, gid='plate')
-        axes.annotate('plate %d' % plate, (1, plate), (-2, 3), xycoords=('axes fraction', 'data'), ha='right', size=9,
-                      textcoords='offset points', weight='bold', bbox={**PAPER, 'alpha': 0.8})
+        axes.annotate('plate %d' % plate, (1, plate), (4, 0), xycoords=('axes fraction', 'data'), va='center',
+                      textcoords='offset points', size=9, weight='bold')
     axes.yaxis.set_major_locator(MaxNLocator(6))
 
 

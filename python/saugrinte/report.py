@@ -8,6 +8,7 @@ from collections import Counter
 from datetime import datetime, timezone
 from decimal import Decimal, InvalidOperation
 from html import escape
+from itertools import chain
 from typing import IO, TYPE_CHECKING, Iterable, Iterator, Mapping, NamedTuple, Optional, Sequence, Union
 
 import click
@@ -456,14 +457,19 @@ def archive_page(path: Union[str, 'os.PathLike[str]', IO[bytes]], *, time_column
     return page(title, archive_body(rated, start, path, time_column=time_column, plate=plate, title=title))
 
 
+TIME_TITLES = re.compile(r'(?i)\b(?:date|time|timestamp|datetime|datum|zeit|zeitpunkt|sampled)\b')
 NOT_RATED = 'this is an archive that is not rated yet: run `saugrinte batch` on it first, and report what that writes'
 
 
 def archive_body(rated: Titles, start: bytes, file: IO[bytes], *, time_column: Optional[str], plate: Optional[int],
                  title: str) -> str:
     from . import pictures
+    rows = rows_of(start[rated.offset:], file, rated.separator)
+    first = next(rows, None)
+    if time_column is None and first is not None:
+        time_column = times_in(rated.cells, first)
     summary = Summary(rated.cells, time_column, plate)
-    for cells in rows_of(start[rated.offset:], file, rated.separator):
+    for cells in () if first is None else chain([first], rows):
         summary.take(cells)
     if summary.rows and summary.untimed == summary.rows:
         raise ValueError("no time in column '%s' can be read; times are as 2025-12-31 23:59:00 or 31.12.2025 23:59"
@@ -472,6 +478,13 @@ def archive_body(rated: Titles, start: bytes, file: IO[bytes], *, time_column: O
     return '<main>\n<h1>%s</h1>\n%s\n<div class="wide">%s</div>\n%s\n</main>' % (
         escape(title), archive_top(summary), figure(svg, archive_caption(summary, time_column)),
         tables(*archive_tables(summary)))
+
+
+def times_in(titles: Sequence[str], row: Sequence[str]) -> Optional[str]:
+    """The first column whose title says that it has times, and which has one; the caption names it."""
+    clock = Clock()
+    return next((title for title, cell in zip(titles, row)
+                 if TIME_TITLES.search(title) and clock.seconds(cell) is not None), None)
 
 
 def archive_top(summary: Summary) -> str:
@@ -566,7 +579,8 @@ def plate_given(context: click.Context, parameter: click.Parameter, text: Option
 @click.option('--plate', callback=plate_given, metavar='N',
               help='An engine\u2019s plate number, 0 to %d, to hold the numbers against.' % GREATEST_PLATE)
 @click.option('--moles', is_flag=True, help='The lines are mole percent.')
-@click.option('--time', 'time_column', metavar='COLUMN', help='The column of a rated archive that has times.')
+@click.option('--time', 'time_column', metavar='COLUMN',
+              help='The column of a rated archive that has times; else one whose title says date or time.')
 @click.option('--skip', type=click.IntRange(0), default=0, metavar='N',
               help='Lines before the titles of a rated archive.')
 @click.option('--title', metavar='TEXT', help='The page\u2019s title; the file\u2019s name where none is given.')

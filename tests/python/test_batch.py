@@ -435,6 +435,8 @@ def test_a_cluster_gives_the_same_bytes_though_a_worker_is_killed(big, tmp_path)
         for _ in range(2):
             running.append(subprocess.Popen(dask + ['distributed.cli.dask_worker', address, '--nthreads', '1',
                                                     '--no-nanny', '--no-dashboard', '--host', '127.0.0.1'], **quiet))
+        ready = 'import sys, distributed; distributed.Client(sys.argv[1], timeout=90).wait_for_workers(2, timeout=90)'
+        subprocess.run([sys.executable, '-c', ready, address], check=True, stderr=subprocess.DEVNULL, env=ENVIRONMENT)
         run = begun(source, output, '--scheduler', address)
         until(lambda: parts_done(output) >= 4 or run.poll() is not None, 60)
         assert run.poll() is None

@@ -434,3 +434,14 @@ def test_files_that_cannot_be_written(tmp_path):
     status, said = run(poor, '-o', tmp_path / 'none' / 'report.html')
     assert status == 1 and 'there is no folder' in said
     assert run(poor, '-o', os.devnull)[0] == 0 and not os.path.isfile(os.devnull)
+
+
+def test_times_are_found_by_their_title(tmp_path):
+    """A column that says date or time and has one is taken, and the caption names it; another is not."""
+    rated = tmp_path / 'rated.csv'
+    for title, cell, said in (('Date', '2024-01-08', "over the times of column &#x27;Date&#x27;"),
+                              ('sample time', '08.01.2024 12:00', 'column &#x27;sample time&#x27;'),
+                              ('Date', 'monday', 'row by row'), ('estimate', '2024-01-08', 'row by row')):
+        rated.write_text('%s;methane_number;whole_number;spread;rounds;refusal;word;detail\n%s;80,1;80;0,01;3;;;\n'
+                         % (title, cell))
+        assert said in report.archive_page(rated)
