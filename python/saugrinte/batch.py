@@ -8,27 +8,24 @@ import fcntl
 import json
 import os
 import re
+import secrets
 import shutil
 import signal
-import tempfile
 from collections import Counter
 from contextlib import contextmanager
 from multiprocessing import get_context
 from multiprocessing.connection import Connection, wait
 from typing import Any, Callable, Iterator, Optional
 
-from . import gas, library, words
+from . import gas, library
 from .archive import (Archive, ArchiveError, Chunk, Layout, RowError, amounts_of, cells_of, chunks, quoted,
                       record_form, records, strange_code, text_of)
-from .lines import sheet as sheet_of
+from .ratings import refusal_of
 
 # The columns that are added, and the one more where amounts are rounded or normalised.
 ADDED = ('methane_number', 'whole_number', 'spread', 'rounds', 'refusal', 'word', 'detail')
 CHANGED = 'changed'
 SIZE = 1 << 19              # bytes of a chunk
-
-UMASK = os.umask(0)
-os.umask(UMASK)
 
 
 class BatchError(Exception):
@@ -60,7 +57,8 @@ def answers(data: bytes, line: int, layout: Layout) -> Iterator[tuple[int, str, 
                 amounts, changed = amounts_of(cells, layout)
                 said = search(amounts)
                 if said[0]:
-                    answer = (said[0], gas.REFUSALS[said[0]][0], reason(said[0], amounts, layout), changed)
+                    refused = refusal_of(said[0], said[1], amounts, moles=layout.moles)
+                    answer = (refused.number, refused.word, refused.reason, changed)
                 else:
                     answer = (0, '', '', changed, *said[2:])
         except RowError as wrong:
@@ -68,11 +66,6 @@ def answers(data: bytes, line: int, layout: Layout) -> Iterator[tuple[int, str, 
         except Exception as wrong:          # a bad row never stops the run
             answer = (0, 'unreadable', str(wrong) or type(wrong).__name__, '')
         yield line + offset, raw, cells, amounts, answer
-
-
-def reason(number: int, amounts: list[int], layout: Layout) -> str:
-    sheet = sheet_of({code: parts for code, parts in enumerate(amounts) if parts}, [])
-    return words.reason(number, sheet, library.ranges(), layout.moles).removeprefix(gas.REFUSALS[number][0] + ': ')
 
 
 def rated_row(raw: str, width: int, answer: tuple[Any, ...], layout: Layout) -> str:
@@ -260,20 +253,20 @@ def output_of(path: str, source: str) -> str:
 
 def write_whole(path: str, data: bytes) -> None:
     """A file that is whole or not there."""
-    handle, new = tempfile.mkstemp(prefix=os.path.basename(path) + '.', suffix='.new', dir=os.path.dirname(path) or '.')
+    new = '%s.%s.new' % (path, secrets.token_hex(4))
     try:
-        with open(handle, 'wb') as file:
+        with open(new, 'xb') as file:
             file.write(data)
             file.flush()
             os.fsync(file.fileno())
-        os.chmod(new, 0o666 & ~UMASK)
         os.replace(new, path)
     except BaseException:
-        os.unlink(new)
+        if os.path.exists(new):
+            os.unlink(new)
         raise
 
 
-class Parts:
+class ChunkFolder:
     """The folder OUTPUT.parts: what the run is, and each chunk that is done. One run at a time has it."""
     OURS = re.compile(r'(?:[0-9]{8}\.csv(?:\.tally)?|plan\.json)(?:\.\w+\.new)?|whole|lock')
 
@@ -385,31 +378,31 @@ def rate_archive(archive: Archive, output: str, *, resume: bool = False, force: 
                  processes: Optional[int] = None, scheduler: Optional[str] = None,
                  progress: Callable[[int], Any] = lambda size: None) -> 'Counter[str]':
     """Rates an archive into a file. Returns how many rows there are of each kind; `progress` is told the bytes done."""
-    header, parts = header_of(archive), Parts(output_of(output, archive.path), archive)
+    header, folder = header_of(archive), ChunkFolder(output_of(output, archive.path), archive)
     count = 0
 
     def left() -> Iterator[Chunk]:
         nonlocal count
         for chunk in chunks(archive, SIZE):
             count = chunk.number + 1
-            if parts.has(chunk.number):
+            if folder.has(chunk.number):
                 progress(len(chunk.data))
             else:
                 yield chunk
 
     with crew_of(processes, scheduler) as crew:
         try:
-            parts.begin(resume, force)
+            folder.begin(resume, force)
             for chunk, (data, tally, version) in crew.mapped(rate_chunk, archive.layout, left()):
-                if version != parts.plan['library']:
+                if version != folder.plan['library']:
                     raise BatchError('a worker has version %s of the library, and here is %s' % (
-                        version, parts.plan['library']))
-                parts.put(chunk.number, data, tally)
+                        version, folder.plan['library']))
+                folder.put(chunk.number, data, tally)
                 progress(len(chunk.data))
-            tally = parts.tally(count)
-            parts.finish(header, count)
+            tally = folder.tally(count)
+            folder.finish(header, count)
         finally:
-            parts.leave()
+            folder.leave()
     return tally
 
 

@@ -342,7 +342,7 @@ def test_one_run_at_a_time(tmp_path):
     """A run that finds the folder taken leaves everything as it is, also where nothing but the lock is there yet."""
     source, output = tmp_path / 'a.csv', tmp_path / 'r.csv'
     table(source, [TABLE_A1] * 3)
-    parts = batch.Parts(str(output), open_archive(str(source), Options()))
+    parts = batch.ChunkFolder(str(output), open_archive(str(source), Options()))
     os.mkdir(parts.folder)
     parts.take()
     for option in ('--resume', '--force', '--processes=1'):

@@ -13,8 +13,7 @@ use Rattle.analysis.specs.Register.{CODES, statusOf}
 use Rattle.analysis.specs.Laws.Lowest.{unknown-above}
 use Rattle.analysis.specs.Laws.Table.{at}
 use Rattle.analysis.specs.Check.{leastBy, greatestBy, leastOf, greatestOf, requiredOf, inRange}
-use Rattle.analysis.specs.Range.{rangeOf}
-use Rattle.analysis.specs.declared.Range.{Range}
+use Rattle.analysis.specs.Range.{range, rangeOf}
 
 -- the table that the register gives: the least and the greatest amount of so many codes from `code` on
 abbrev rangesFrom : ℕ → ℕ → List (List ℕ)
@@ -37,9 +36,6 @@ range-at k h = (
 )
 
 -- the range of a code as the table has it, and of one beyond the table
-abbrev range : ℕ → ℕ → Range
-range least greatest = record { least = least; greatest = greatest }
-
 pub range-inside : (k : ℕ) → k < CODES → range (getD (getD ranges k []) 0 0) (getD (getD ranges k []) 1 0) ≡ rangeOf k
 unfolding rangeOf
 range-inside k h = let r = range-at k h in λ i. range (r .0 i) (r .1 i)

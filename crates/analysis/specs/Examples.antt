@@ -6,9 +6,8 @@ use Prim.Native.Nat.{ℕ, _-_}
 use lib.ListN.{replicate}
 use Rattle.analysis.specs.Register.{CODES, statusOf}
 use Rattle.analysis.specs.declared.Checked.the-variants.{Refused}
-use Rattle.analysis.specs.declared.Range.{Range}
 use Rattle.analysis.specs.Check.{inRange, totalFits, analysisRefusal, checkedOf, moleRefusal, molesCheckedOf}
-use Rattle.analysis.specs.Range.{rangeOf, totalRange}
+use Rattle.analysis.specs.Range.{range, rangeOf, totalRange}
 
 -- a gas of methane and ethane as given, and 10000 parts of propane, 1000 of each butane
 abbrev gas : ℕ → ℕ → List ℕ
@@ -87,9 +86,6 @@ unfolding checkedOf analysisRefusal inRange statusOf
 lowest-first = (refl, refl, refl)
 
 -- the range of methane, of a retired code, of butanes, of no code at all, and of the total
-abbrev range : ℕ → ℕ → Range
-range least greatest = record { least = least; greatest = greatest }
-
 pub ranges-are : (rangeOf 1 ≡ range 400000 999700) × (rangeOf 9 ≡ range 1 0) × (rangeOf 14 ≡ range 1 0)
     × (rangeOf 4294967295 ≡ range 1 0) × (totalRange ≡ range 999900 1000100)
 unfolding rangeOf statusOf

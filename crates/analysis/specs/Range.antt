@@ -4,10 +4,13 @@ use Prim.Native.Nat.{ℕ}
 use Rattle.analysis.specs.declared.Range.{Range}
 use Rattle.analysis.specs.Check.{leastOf, greatestOf, LEAST_SUM, GREATEST_SUM}
 
+abbrev pub range : ℕ → ℕ → Range
+range least greatest = record { least = least; greatest = greatest }
+
 -- the least and the greatest amount of a code; 1 and 0, between which no amount lies, where it is not live
 unfoldable pub rangeOf : ℕ → Range
-rangeOf code = record { least = leastOf code; greatest = greatestOf code }
+rangeOf code = range (leastOf code) (greatestOf code)
 
 -- the least and the greatest total
 abbrev pub totalRange : Range
-totalRange = record { least = LEAST_SUM; greatest = GREATEST_SUM }
+totalRange = range LEAST_SUM GREATEST_SUM
