@@ -1,7 +1,0 @@
-pub mod Steady
-pub mod Alike
-pub mod AlikeCells
-pub mod AlikeRuns
-pub mod WidthKept
-pub mod BeforeCheck
-pub mod BeforeMixture

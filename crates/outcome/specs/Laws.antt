@@ -1,3 +1,0 @@
-pub mod Ready
-pub mod Ends
-pub mod RatedOn
