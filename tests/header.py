@@ -16,7 +16,7 @@ import sys
 
 ROOT = os.path.join(os.path.dirname(os.path.abspath(__file__)), '..')
 LIVE, RETIRED, SPLITS_ONLY = 'live', 'retired', 'splits_only'
-# Refusals whose name in the register is not their word: there TOTAL and HYDROGEN may be no part of another name.
+# Refusals whose name in the register is not their word.
 WORD_OF = {'MOLE_SUM': 'MOLE_TOTAL', 'MOLE_BLEND': 'HYDROGEN_IN_MOLES'}
 
 
@@ -61,15 +61,20 @@ def functions(crate):
 
 
 def meanings(crate):
-    """What the names that a source brings in stand for, and its public constants."""
+    """What the names that a source brings in stand for in a clause, and its public constants. A definition comes before
+    a function of its name; a constant would come before it, so that no definition has a constant's name."""
     source = text('crates', crate, 'src', 'lib.rt')
     out = {name: (crate, name) for name in re.findall(r'^pub const (\w+):', source, re.M)}
-    for line in re.findall(r'^(?:ghost )?use [^;]*;', source, re.M):
-        ghost, plain = re.fullmatch(r'ghost use (\S+)\.\{(.*)\};', line), re.fullmatch(r'use (\S+)::(\w+);', line)
-        if not ghost and not plain:
+    uses = [' '.join(line.split()) for line in re.findall(r'^(?:ghost )?use [^;]*;', source, re.M)]
+    for line in sorted(uses, key=lambda line: line.startswith('ghost ')):
+        found = re.fullmatch(r'ghost use (\S+)\.\{ ?([^{} ]+(?: [^{} ]+)*?),? ?\};', line) \
+            or re.fullmatch(r'use (\S+)::(?:\{ ?)?(\w+(?:, \w+)*),?(?: ?\})?;', line)
+        if not found or ' as ' in line:
             fail('not understood in crates/%s/src/lib.rt: %s' % (crate, line))
-        for name in ghost[2].split(', ') if ghost else [plain[2]]:
-            out[name.strip('_')] = ((ghost or plain)[1], name)
+        for name in found[2].split(', '):
+            if name.isupper() and name in out:
+                fail('%s in crates/%s/src/lib.rt stands for two things' % (name, crate))
+            out[name.strip('◌')] = (found[1], name)
     return out
 
 

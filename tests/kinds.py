@@ -1,9 +1,10 @@
 #!/usr/bin/env python3
 """Programs that take moles for volumes, or add the one to the other: the compiler refuses each for its types.
 
-  kinds.py        tries each in a copy of the crates; rt ci has proved these before, so that nothing is proved again
+  kinds.py        tries each in a copy of the crates
 
-A must-fail edit has to reach the prover, and such a program does not: so these stand here.
+A must-fail edit has to reach the prover, and such a program does not: so these stand here. rt try compiles a program
+with all crates below it and proves nothing; PROGRAM stands on every crate that is changed here.
 """
 import glob
 import os
@@ -15,6 +16,8 @@ import tempfile
 
 sys.dont_write_bytecode = True
 ROOT = os.path.join(os.path.dirname(os.path.abspath(__file__)), '..')
+
+PROGRAM = 'rating_cases'
 
 # crate, the line as it is, the line that is wrong, the type that is expected, the type that is found
 PROGRAMS = (
@@ -51,9 +54,10 @@ def made():
             sys.exit('kinds: %s makes an amount of a number' % os.path.relpath(path, ROOT))
 
 
-def compiled(folder, crate):
-    """What the compiler says of a crate; its last line is the program where it passes."""
-    run = subprocess.run(['rt', 'mir', crate], cwd=folder, stdout=subprocess.PIPE, stderr=subprocess.STDOUT, text=True)
+def compiled(folder):
+    """What the compiler says of the program, which is run where it passes."""
+    run = subprocess.run(['rt', 'try'], cwd=os.path.join(folder, 'crates', PROGRAM), stdin=subprocess.DEVNULL,
+                         stdout=subprocess.PIPE, stderr=subprocess.STDOUT, text=True)
     return run.returncode, run.stdout
 
 
@@ -62,14 +66,11 @@ def main():
     folder = tempfile.mkdtemp()
     try:
         shutil.copy(os.path.join(ROOT, 'crates.txt'), folder)
-        shutil.copytree(os.path.join(ROOT, 'crates'), os.path.join(folder, 'crates'), symlinks=True)
-        os.mkdir(os.path.join(folder, 'target'))
-        for part in ('rlib', 'stamp'):
-            shutil.copytree(os.path.join(ROOT, 'target', part), os.path.join(folder, 'target', part))
-        for crate in sorted({p[0] for p in PROGRAMS}):
-            status, said = compiled(folder, crate)
-            if status:
-                sys.exit('kinds: %s does not compile as it is:\n%s' % (crate, said[-2000:]))
+        shutil.copytree(os.path.join(ROOT, 'crates'), os.path.join(folder, 'crates'), symlinks=True,
+                        ignore=shutil.ignore_patterns('out'))
+        status, said = compiled(folder)
+        if status:
+            sys.exit('kinds: %s does not compile as it is:\n%s' % (PROGRAM, said[-2000:]))
         for crate, right, wrong, expected, found in PROGRAMS:
             path = os.path.join(folder, 'crates', crate, 'src', 'lib.rt')
             with open(path, encoding='utf-8') as f:
@@ -78,7 +79,7 @@ def main():
                 sys.exit('kinds: %s has not once the line %s' % (crate, right))
             with open(path, 'w', encoding='utf-8') as f:
                 f.write(source.replace(right, wrong))
-            status, said = compiled(folder, crate)
+            status, said = compiled(folder)
             with open(path, 'w', encoding='utf-8') as f:
                 f.write(source)
             wanted = 'error[mismatched-types]: expected `%s`, found `%s`' % (expected, found)

@@ -99,7 +99,7 @@ class Tree:
             if line.startswith('# ') and not line.endswith('.'):
                 self.stages.append((line[2:], []))
             elif ':' in line:
-                self.crates.append(line.partition(':')[0])
+                self.crates.append(line.partition(':')[0].split()[0])      # `staticlib` may stand after the name
                 self.stages[-1][1].append(self.crates[-1])
         for crate in self.crates:
             for part in ('specs', 'proofs'):

@@ -149,10 +149,10 @@ class Place:
 
     def __init__(self, path, program, moles):
         self.path = path
-        self.program = os.path.join(path, 'target', 'bin', 'rate')
-        self.moles = os.path.join(path, 'target', 'bin', 'rate_moles')
-        os.makedirs(os.path.dirname(self.program))
-        os.makedirs(os.path.join(path, 'crates'))
+        self.program = os.path.join(path, 'crates', 'rate', 'out', 'rate')
+        self.moles = os.path.join(path, 'crates', 'rate_moles', 'out', 'rate_moles')
+        for made in (self.program, self.moles):
+            os.makedirs(os.path.dirname(made))
         open(os.path.join(path, 'crates.txt'), 'w').close()
         shutil.copy(os.path.join(ROOT, 'rate'), path)
         for folder in FOLDERS:
@@ -613,11 +613,11 @@ def building(path, program, moles):
     if shutil.which('rt', path=os.path.dirname(sys.executable)) is None:
         expect('no toolchain', got == (2, b'', 'rate: the Rattle toolchain (rt) was not found\n'), got)
     tools = place.bare + ':' + os.path.dirname(sys.executable)
-    place.script(os.path.join(place.bare, 'rt'), 'echo "rt: $* failed"; exit 1\n')
+    place.script(os.path.join(place.bare, 'rt'), 'echo "rt: $* failed in ${PWD##*/}"; exit 1\n')
     got = place.run('good', path=tools)
-    expect('a build that fails', got == (2, b'', building_said + 'rt: check rate failed\n'), got)
+    expect('a build that fails', got == (2, b'', building_said + 'rt: run failed in rate\n'), got)
     expect('help needs no build', place.run('--help', path=tools)[0] == 0, '')
-    place.script(os.path.join(place.bare, 'rt'), 'cat "%s" - >target/bin/rate; /bin/chmod +x target/bin/rate\n'
+    place.script(os.path.join(place.bare, 'rt'), 'cat "%s" - >out/rate; /bin/chmod +x out/rate\n'
                  % os.path.abspath(program))
     rated = b'RATED 910787384 91 369794 8\n'
     got = place.run('-', given=tool.lines(TABLE), path=tools)
@@ -629,8 +629,8 @@ def building(path, program, moles):
     os.utime(place.program, (1, 1))
     got = place.run(given=TABLE, path=tools)
     expect('a source that is newer', got == (0, rated, building_said + 'methane number 91.0787\n'), got)
-    place.script(os.path.join(place.bare, 'rt'), '[ "$*" = "check rate_moles" ] && cat "%s" - >target/bin/rate_moles '
-                 '&& /bin/chmod +x target/bin/rate_moles\n' % os.path.abspath(moles))
+    place.script(os.path.join(place.bare, 'rt'), '[ "$* ${PWD##*/}" = "run rate_moles" ] && cat "%s" - >out/rate_moles '
+                 '&& /bin/chmod +x out/rate_moles\n' % os.path.abspath(moles))
     lines = mole_lines(MOLES).encode()
     rated_moles, said = b'RATED 910833230 91 436527 7\n', 'methane number 91.0833%s\n' % MADE
     for what, before in (('a build for moles', building_said), ('moles a second time', '')):

@@ -13,7 +13,7 @@ rm -f "$out/failed" "$out/driver" "$out/plain" "$out/kept"
 trap 'status=$?; [ "$status" -eq 0 ] || touch "$out/failed"; exit "$status"' EXIT
 lib=${SAUGRINTE_LIB:-target/staticlib/libsaugrinte.a}
 if [ -z "${SAUGRINTE_LIB:-}" ]; then
-  rt staticlib saugrinte >"$out/staticlib.log" 2>&1 || { cat "$out/staticlib.log"; exit 1; }
+  tools/archive --anew >/dev/null 2>"$out/archive.log" || { cat "$out/archive.log"; exit 1; }
 fi
 
 warnings='-std=c11 -Wall -Wextra -Werror'
