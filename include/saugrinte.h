@@ -40,8 +40,8 @@
    another argument.
 
    Platform: the archive is for x86-64 Linux with its usual calling convention, and for every such processor.
-   Stack, measured: saugrinte_rate 4.0 KB, saugrinte_search and saugrinte_search_moles 3.9 KB, saugrinte_rate_split and
-   saugrinte_rate_split_moles 1.9 KB, all others 1 KB at most.
+   Stack, measured: saugrinte_rate 3.8 KB, saugrinte_search and saugrinte_search_moles 3.9 KB, saugrinte_rate_split and
+   saugrinte_rate_split_moles 1.8 KB, all others 1 KB at most.
    Longest call of the sheets in tests/data, measured on an AMD EPYC (family 25, model 17), of the library as an older kit
    built it: 0.8 ms for saugrinte_rate and the two searches, of a gas whose search uses all 4000 rounds; all others 1
    microsecond. tests/bench/limits.c measures both. */

@@ -38,8 +38,10 @@ def same(name, *found):
 
 def constant(crate, name):
     """A number that the crate's source has as `const NAME`."""
-    got = re.search(r'^(?:pub )?const %s: \w+ = ([0-9]+);' % name, text('crates', crate, 'src', 'lib.rt'), re.M)
-    return int(got.group(1)) if got else None
+    got = [m for file in sorted(os.listdir(os.path.join(ROOT, 'crates', crate, 'src')))
+           for m in re.findall(r'^(?:pub(?:\(crate\))? )?const %s: \w+ = ([0-9]+);' % name,
+                               text('crates', crate, 'src', file), re.M)]
+    return int(got[0]) if len(got) == 1 else None
 
 
 def definition(crate, file, name):

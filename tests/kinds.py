@@ -22,20 +22,21 @@ PROGRAM = 'rating_cases'
 # crate, the line as it is, the line that is wrong, the type that is expected, the type that is found
 PROGRAMS = (
     # a mole amount is added to a sum of volumes, and the other way round
-    ('analysis', 'sum = plus_mole(sum, amount);', 'sum = plus_volume(sum, amount);', 'Volume', 'Mole'),
-    ('analysis', 'sum = plus_volume(sum, amount);', 'sum = plus_mole(sum, amount);', 'Mole', 'Volume'),
+    ('analysis', 'if is_total_in_range(total(&analysis.amounts)) {',
+     'if is_total_in_range(total(&[analysis.amounts[1], Mole(1)])) {', 'Volume', 'Mole'),
+    ('analysis', 'if is_total_in_range(total(&moles.amounts)) {',
+     'if is_total_in_range(total(&[moles.amounts[1], Volume(1)])) {', 'Mole', 'Volume'),
     # a mole amount is kept as a volume, without the conversion
-    ('conversion', 'amounts[code] = share(product(by_mole[code], factor(code)), sum);',
-     'amounts[code] = by_mole[code];', 'Volume', 'Mole'),
+    ('conversion', 'amounts[code] = share(product(*amount, factor(code)), sum);',
+     'amounts[code] = *amount;', 'Volume', 'Mole'),
     # a volume is converted
-    ('conversion', 'amounts[code] = share(product(by_mole[code], factor(code)), sum);',
+    ('conversion', 'amounts[code] = share(product(*amount, factor(code)), sum);',
      'amounts[code] = share(product(amounts[code], factor(code)), sum);', 'Mole', 'Volume'),
     # moles are simplified as volumes
-    ('mixture', 'Checked::InRange => in_range(volumes),', 'Checked::InRange => in_range(moles),',
-     'Analysis', 'MoleAnalysis'),
+    ('mixture', 'Ok(of_volumes(volumes))', 'Ok(of_volumes(moles))', 'Analysis', 'MoleAnalysis'),
     # a mole amount of carbon dioxide in the inert mixture of volumes
-    ('mixture', 'inert: methane_share(total, a[11]),', 'inert: methane_share(total, analysis::Mole(a[11].0)),',
-     'Volume', 'Mole'),
+    ('mixture', 'inert: methane_share(total, analysis.amounts[11]),',
+     'inert: methane_share(total, analysis::Mole(analysis.amounts[11].0)),', 'Volume', 'Mole'),
     # moles are rated as volumes, and the other way round
     ('rating', 'rate_simplified_split(mixture::simplify_moles(moles), split)',
      'rate_simplified_split(mixture::simplify(moles), split)', 'Analysis', 'MoleAnalysis'),

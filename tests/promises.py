@@ -9,7 +9,8 @@
 
 A link of docs/PROMISES.md is one of
   [name](../crates/x/specs/File.antt)      a definition or theorem that the file declares, or the file, by its own name
-  [x::f](../crates/x/src/lib.rt)           a function, type or constant of the file; [x::m::f] of src/m.rt
+  [x::f](../crates/x/src/lib.rt)           a function, type or constant of the file; [x::m::f] of src/m.rt, [x::T::f]
+                                           of a type or a trait
   [edit](../crates/x/must-fail/edit.edit)  in the table of edits; elsewhere [x/edit]
   [path](../path)                          any other file
 and what stands between backquotes is `requires`, a crate, a folder of the crates or a command. Functions stand in
@@ -84,9 +85,17 @@ class Source:
         self.contracts = {name: contract for name, contract in re.findall(
             r'^(?:pub )?(?:pub\(crate\) )?(?:extern "C" )?fn (\w+)([^\n]*\{$|.*?^\{)', text, re.M | re.S)}
         self.public = set(re.findall(r'^pub (?:extern "C" )?fn (\w+)', text, re.M))
-        self.names = {*self.contracts, *re.findall(r'^(?:pub )?(?:struct|const|type|enum) (\w+)', text, re.M)}
+        for owner, block in re.findall(
+                r'^(?:impl(?:<[^>]*>)? |(?:pub )?(?:pub\(crate\) )?trait )(\w+)[^\n]*\{$(.*?)^\}', text, re.M | re.S):
+            for public, name, contract in re.findall(
+                    r'^    (pub )?(?:pub\(crate\) )?fn (\w+)([^\n]*[;{]$|.*?(?:^    \{|;$))', block, re.M | re.S):
+                self.contracts[owner + '::' + name] = contract
+                if public:
+                    self.public.add(owner + '::' + name)
+        self.names = {*self.contracts, *re.findall(
+            r'^(?:pub(?:\(crate\))? )?(?:struct|const|static|type|enum|trait) (\w+)', text, re.M)}
         for line, name in re.findall(r'^( *pub\b[^\n(]*\bfn (\w+)|.*\bpub mod \w+)', text, re.M):
-            if name not in self.contracts:
+            if name not in {function.rpartition('::')[2] for function in self.contracts}:
                 sys.exit('promises: %s: not understood: %s' % (path, line))
 
 
@@ -249,7 +258,9 @@ class Document:
     def function_row(self, number, cells):
         """A public function: its definitions stand in its contract."""
         for function, path in cells[0]:
-            crate, _, name = function.rpartition('::')
+            crate, _, name = function.partition('::')
+            if name not in self.tree.sources[path].contracts:
+                name = name.partition('::')[2]      # of a module
             self.functions.append((crate, name))
             contract = self.tree.sources[path].contracts.get(name, '')
             for said, file in cells[1]:
