@@ -21,11 +21,11 @@ PROGRAM = 'rating_cases'
 
 # crate, the line as it is, the line that is wrong, the type that is expected, the type that is found
 PROGRAMS = (
-    # a mole amount is added to a sum of volumes, and the other way round
-    ('analysis', 'if is_total_in_range(total(&analysis.amounts)) {',
-     'if is_total_in_range(total(&[analysis.amounts[1], Mole(1)])) {', 'Volume', 'Mole'),
+    # mole amounts are added up as volumes, and the other way round
     ('analysis', 'if is_total_in_range(total(&moles.amounts)) {',
-     'if is_total_in_range(total(&[moles.amounts[1], Volume(1)])) {', 'Mole', 'Volume'),
+     'if is_total_in_range(total::<Volume>(&moles.amounts)) {', '&[Volume]', '&[Mole; 16]'),
+    ('analysis', 'if is_total_in_range(total(&analysis.amounts)) {',
+     'if is_total_in_range(total::<Mole>(&analysis.amounts)) {', '&[Mole]', '&[Volume; 16]'),
     # a mole amount is kept as a volume, without the conversion
     ('conversion', 'amounts[code] = share(product(*amount, factor(code)), sum);',
      'amounts[code] = *amount;', 'Volume', 'Mole'),

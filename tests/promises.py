@@ -10,11 +10,13 @@
 A link of docs/PROMISES.md is one of
   [name](../crates/x/specs/File.antt)      a definition or theorem that the file declares, or the file, by its own name
   [x::f](../crates/x/src/lib.rt)           a function, type or constant of the file; [x::m::f] of src/m.rt, [x::T::f]
-                                           of a type or a trait
+                                           of a type or a trait, [x::T from U] what `impl From<U> for T` makes,
+                                           [x::T by Display] the text of T
   [edit](../crates/x/must-fail/edit.edit)  in the table of edits; elsewhere [x/edit]
   [path](../path)                          any other file
 and what stands between backquotes is `requires`, a crate, a folder of the crates or a command. Functions stand in
-columns of functions alone, and what a public function's row says of its promise stands in its contract.
+columns of functions alone, and what a public function's row says of its promise stands in its contract. What From
+makes and a Display's text count as public functions, with `ghost from_gives` and `ghost output` for their contracts.
 In README.md and the other documents each link's file is there, and so is what stands between backquotes as
 crate::function, crate/specs/File.name or crate/edit. README.md's table of crates is crates.txt's, stage by stage.
 Whatever is not found is an error, with its line (in the other documents its paragraph's). Ends with 1 where there is
@@ -78,25 +80,78 @@ def declared(text):
 
 
 class Source:
-    """A file of code: its functions with their contracts, its types and constants, its public functions."""
+    """A file of code: its functions with their contracts, its types and constants, its public functions. What From
+    makes of a U is `T from U`, a Display's text `T by Display`; of each the contract is the ghost that says it."""
+
+    PROMISED = {'From': 'from_gives', 'Display': 'output'}      # of these traits, what the ghost is called
 
     def __init__(self, path):
-        text = re.sub(r'//[^\n]*', '', text_of(path))
-        self.contracts = {name: contract for name, contract in re.findall(
-            r'^(?:pub )?(?:pub\(crate\) )?(?:extern "C" )?fn (\w+)([^\n]*\{$|.*?^\{)', text, re.M | re.S)}
-        self.public = set(re.findall(r'^pub (?:extern "C" )?fn (\w+)', text, re.M))
-        for owner, block in re.findall(
-                r'^(?:impl(?:<[^>]*>)? |(?:pub )?(?:pub\(crate\) )?trait )(\w+)[^\n]*\{$(.*?)^\}', text, re.M | re.S):
-            for public, name, contract in re.findall(
-                    r'^    (pub )?(?:pub\(crate\) )?fn (\w+)([^\n]*[;{]$|.*?(?:^    \{|;$))', block, re.M | re.S):
-                self.contracts[owner + '::' + name] = contract
-                if public:
-                    self.public.add(owner + '::' + name)
+        self.path, self.text = path, re.sub(r'//[^\n]*', '', text_of(path))
+        self.contracts, self.public, self.made = {}, set(), set()
+        understood = set()      # where each function that is understood begins
+        for at, public, name, contract in self.functions('', 0, self.text):
+            understood.add(at)
+            self.note(name, contract, public)
+        for found in re.finditer(r'^(impl\b|(?:pub )?(?:pub\(crate\) )?trait\b)([^\n]*)\{$(.*?)^\}|^impl\b[^\n]*\{\}$',
+                                 self.text, re.M | re.S):
+            if found[1] is None:
+                continue        # nothing stands in it
+            trait, owner = self.heads(found[2]) if found[1] == 'impl' else (None, re.match(r' (\w+)', found[2])[1])
+            if trait in self.PROMISED:
+                self.note_ghost(trait, owner, found[2], found[3])
+            for at, public, name, contract in self.functions('    ', found.start(3), found[3]):
+                understood.add(at)
+                if trait is None:
+                    self.note(owner + '::' + name, contract, public)
         self.names = {*self.contracts, *re.findall(
-            r'^(?:pub(?:\(crate\))? )?(?:struct|const|static|type|enum|trait) (\w+)', text, re.M)}
-        for line, name in re.findall(r'^( *pub\b[^\n(]*\bfn (\w+)|.*\bpub mod \w+)', text, re.M):
-            if name not in {function.rpartition('::')[2] for function in self.contracts}:
-                sys.exit('promises: %s: not understood: %s' % (path, line))
+            r'^(?:pub(?:\(crate\))? )?(?:struct|const|static|type|enum|trait) (\w+)', self.text, re.M)}
+        for found in re.finditer(r'^ *pub\b[^\n(]*\bfn \w+|.*\bpub mod \w+', self.text, re.M):
+            if found.start() not in understood:
+                self.not_understood(found[0])
+        for line in re.findall(r'^ *impl\b.*', self.text, re.M):
+            if not re.fullmatch(r'impl\b.*\{\}?', line):
+                self.not_understood(line)
+
+    def not_understood(self, line):
+        sys.exit('promises: %s: not understood: %s' % (self.path, line))
+
+    @staticmethod
+    def functions(indent, start, text):
+        """The functions that stand so far in: where each begins, whether it is public, its name and its contract."""
+        ends = r'[^\n]*[;{]$|.*?(?:^    \{|;$)' if indent else r'[^\n]*\{$|.*?^\{'
+        for found in re.finditer(r'^%s(pub )?(?:pub\(crate\) )?(?:extern "C" )?fn (\w+)(%s)' % (indent, ends),
+                                 text, re.M | re.S):
+            yield start + found.start(), bool(found[1]), found[2], found[3]
+
+    def heads(self, line):
+        """Of the line of an impl its trait, None where it has none, and its type, by their bare names."""
+        depth, flat = 0, ''
+        for sign in line.replace('->', ''):
+            depth -= sign == '>'
+            flat += sign if not depth and sign != '>' else ''
+            depth += sign == '<'
+        flat = flat.replace('<', '')
+        found = re.fullmatch(r'\s*(?:([\w:]+) for )?([\w:]+)\s*', flat)
+        if not found:
+            self.not_understood('impl' + line)
+        return found[1] and found[1].rpartition('::')[2], found[2].rpartition('::')[2]
+
+    def note(self, name, contract, public):
+        if name in self.contracts:
+            self.not_understood('%s, twice' % name)
+        self.contracts[name] = contract
+        if public:
+            self.public.add(name)
+
+    def note_ghost(self, trait, owner, line, block):
+        """What From makes, and a Display's text, with the ghost that says what that is."""
+        of = re.search(r'\bFrom<(.+)> for ', line) if trait == 'From' else None
+        if trait == 'From' and not of:
+            self.not_understood('impl' + line)
+        name = '%s from %s' % (owner, of[1].rpartition('::')[2]) if of else '%s by Display' % owner
+        ghost = re.search(r'^    ghost %s\s*=\s*(\{.*?\});$' % self.PROMISED[trait], block, re.M | re.S)
+        self.note(name, ghost[1] if ghost else '', False)
+        self.made.add(name)
 
 
 class Tree:
@@ -130,8 +185,10 @@ class Tree:
                 yield path
 
     def public(self):
-        return {(crate, name) for crate in self.crates
-                for name in getattr(self.sources.get('crates/%s/src/lib.rt' % crate), 'public', ())}
+        """The public functions of each crate's src/lib.rt; of any file what From makes, and a Display's text."""
+        found = {(crate, name) for crate in self.crates
+                 for name in getattr(self.sources.get('crates/%s/src/lib.rt' % crate), 'public', ())}
+        return found | {(path.split('/')[1], name) for path, source in self.sources.items() for name in source.made}
 
     def places(self, name, crate):
         """Where a name is declared: in the crate's specs, else in the crate, else in any."""

@@ -15,7 +15,7 @@ loop-place-preserved c =
     let s = c.args.s.now in
     let rest = codes_reading (c.args.n - (l.place + 1)) s (1 + 5 * (l.place + 1)) (l.place + 1) (get_or s (1 + 5 * l.place) 0) in
     sym (codes_turn c.args.n l.place s l.before c.loop-place-test.true
-    ∙ ap (λ r. then_of r rest) (sym c.check_code.ensures ∙ c.in_ok-check_code.was)) ∙ l.invariant
+    ∙ ap (λ r. then_of r rest) (sym c.check_code.ensures.tests ∙ c.in_ok-check_code.was)) ∙ l.invariant
 
 pub returns-in_err-check_code : goal.returns-in_err-check_code
 returns-in_err-check_code c =
@@ -24,5 +24,5 @@ returns-in_err-check_code c =
     let rest = codes_reading (c.args.n - (l.place + 1)) s (1 + 5 * (l.place + 1)) (l.place + 1) (get_or s (1 + 5 * l.place) 0) in
     let (y, e, q) = err_from_is_err_and c.from_residual.result c.from_residual.ensures.1 in
     let k = sym l.invariant ∙ codes_turn c.args.n l.place s l.before c.loop-place-test.true
-    ∙ ap (λ r. then_of r rest) (sym c.check_code.ensures ∙ c.in_err-check_code.was) in
+    ∙ ap (λ r. then_of r rest) (sym c.check_code.ensures.tests ∙ c.in_err-check_code.was) in
     e ∙ ap refused q ∙ sym k
