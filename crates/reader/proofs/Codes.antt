@@ -1,6 +1,6 @@
 -- What the tests of a code say of the register, and the codes of the records from one on. Assumes nothing.
 use Rattle.std.specs.Prelude.{◌≡◌, refl, ℕ, suc, ◌+◌, ◌-◌, ◌*◌, ◌<◌, List, get_or, replicate, Bool, true, false, ◌||◌, cond, T, eqb, ltb, leb, Result, Ok, Err}
-use Rattle.std.proofs.Common.{sym, arith, lt-ltb, ltb-true, ltb-false}
+use Rattle.std.proofs.Common.{sym, ◌∙◌, arith, lt-ltb, ltb-true, ltb-false}
 use lib.Dec.{eqb→eq}
 use Rattle.std.proofs.Math.Bool.{or-true}
 use Rattle.refusal.specs.declared.Refusal.{Refusal}
@@ -54,6 +54,11 @@ code_answer_is code before place =
     go false true v = refl
     go false false true = refl
     go false false false = refl
+
+-- and what they answer is the register's
+pub registered : (code before place : ℕ) (r : Result (Unit {0}) Refusal)
+    → r ≡ code_answer code before place → r ≡ answer_by (code_refusal code before) place tt
+registered code before place r e = e ∙ sym (code_answer_is code before place)
 
 -- the first refusal of two
 abbrev pub then_of : Result (Unit {0}) Refusal → Result (Unit {0}) Refusal → Result (Unit {0}) Refusal
